@@ -1,0 +1,20 @@
+-- The conditions of demand 3 (document 01, 'Printing'): all names and zones are printable ASCII without quote marks or
+-- backslashes.
+use mathlib.Core.Bool.{Bool, true, not, _&&_}
+use mathlib.Core.List.{List}
+use Prim.Native.Nat.{ℕ}
+use lib.Dec.{leb, eqb}
+use Rattle.tokenizer.specs.Text.{all}
+use Rattle.datatype.specs.Tree.{Forest, ∅, node, Label}
+use Rattle.datatype.specs.Table.{treeOf}
+
+-- Printable ASCII is bytes 32 to 126; quote marks are 34 and 39, the backslash 92.
+unfoldable pub isPlain : ℕ → Bool
+isPlain c = leb 32 c && leb c 126 && not (eqb c 34) && not (eqb c 39) && not (eqb c 92)
+
+unfoldable pub allPlain : Forest Label → Bool
+allPlain ∅ = true
+allPlain (node l kids next) = all isPlain (l .name) && all isPlain (l .zone) && allPlain kids && allPlain next
+
+unfoldable pub isPlainTree : List ℕ → List ℕ → List ℕ → Bool
+isPlainTree text names table = allPlain (treeOf text names table)

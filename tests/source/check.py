@@ -1,0 +1,94 @@
+#!/usr/bin/env python3
+"""Checks that need no proof: public functions state what they answer and ask nothing, the documents name definitions
+that exist, no crate is left off the list, and the layout is that of `rt fmt`."""
+
+import pathlib
+import re
+import subprocess
+import sys
+
+ROOT = pathlib.Path(__file__).resolve().parents[2]
+faults = []
+
+
+def listed_crates():
+    lines = (ROOT / "crates.txt").read_text(encoding="utf8").splitlines()
+    return [line.split(":")[0].strip() for line in lines if line.split("#")[0].strip()]
+
+
+def check_crates():
+    listed = set(listed_crates())
+    present = {path.name for path in (ROOT / "crates").iterdir() if path.is_dir()}
+    for name in sorted(present ^ listed):
+        faults.append(f"crates/{name}: in crates.txt or in crates/, but not in both")
+
+
+def public_functions(source):
+    """The name and the head (from `pub fn` to the body) of each public function."""
+    for match in re.finditer(r"^[ \t]*pub (?:extern \"C\" )?fn (\w+)", source, re.M):
+        head = source[match.start():]
+        body = re.search(r"^\s*\{\s*$|\{\s*$", head, re.M)
+        yield match.group(1), head[: body.start()] if body else head
+
+
+def check_contracts():
+    for path in sorted(ROOT.glob("crates/*/src/**/*.rt")):
+        for name, head in public_functions(path.read_text(encoding="utf8")):
+            where = f"{path.relative_to(ROOT)}: pub fn {name}"
+            if re.search(r"\brequires\b", head):
+                faults.append(f"{where} has a requires")
+            if not re.search(r"\bensures\b", head):
+                faults.append(f"{where} states nothing")
+
+
+def declared_names(folder):
+    """Module.name for everything that the .antt files of a folder declare."""
+    names = set()
+    for path in folder.glob("**/*.antt"):
+        module = path.stem
+        for line in path.read_text(encoding="utf8").splitlines():
+            match = re.match(r"\s*(?:unfoldable |abbrev )?pub (?:data |record )?(\S+)", line)
+            if match:
+                names.add(f"{module}.{match.group(1)}")
+    return names
+
+
+def check_documents():
+    """A name `crate/Module.name` in the documents is declared in that crate's specs/ or proofs/."""
+    known = {name: declared_names(ROOT / "crates" / name) for name in listed_crates()}
+    pattern = re.compile(r"`(\w+)/([A-Z]\w*\.[^`\s]+)`")
+    for path in [ROOT / "README.md", *sorted((ROOT / "docs").glob("*.md"))]:
+        for crate, name in pattern.findall(path.read_text(encoding="utf8")):
+            if name not in known.get(crate, set()):
+                faults.append(f"{path.relative_to(ROOT)}: `{crate}/{name}` is not declared")
+
+
+def check_links():
+    """Files named by a relative link exist."""
+    for path in [ROOT / "README.md", *sorted((ROOT / "docs").glob("*.md"))]:
+        for target in re.findall(r"\]\(([^)#:]+)\)", path.read_text(encoding="utf8")):
+            if not (path.parent / target).exists():
+                faults.append(f"{path.relative_to(ROOT)}: no file {target}")
+
+
+def check_layout():
+    run = subprocess.run(["rt", "fmt", "--check"], cwd=ROOT, capture_output=True, text=True)
+    if run.returncode != 0:
+        faults.append("rt fmt --check: " + (run.stdout + run.stderr).strip()[:500])
+
+
+def main():
+    checks = [check_crates, check_contracts, check_documents, check_links, check_layout]
+    failed = 0
+    for check in checks:
+        before = len(faults)
+        check()
+        failed += len(faults) > before
+    for fault in faults:
+        print(fault)
+    print(f"source: {len(checks) - failed} passed, {failed} failed")
+    sys.exit(1 if faults else 0)
+
+
+if __name__ == "__main__":
+    main()
