@@ -1,0 +1,202 @@
+//! Tests of the harness itself: parts of the model that nothing else shows, and that a port with a
+//! fault is caught.
+
+use crate::check::{self, Check};
+use crate::generate::trees::{self, Letters};
+use crate::generate::{Random, damage, texts};
+use crate::known;
+use crate::model::{self, Limits, MOST_ROWS, NAME_LIST, WORDS};
+use crate::subject::Subject;
+
+#[test]
+fn names_that_fit_and_names_that_do_not() {
+    let name = |home, start, length| model::name(b"abc", NAME_LIST, home, start, length);
+    assert_eq!(name(1, 0, 3), b"abc");
+    assert_eq!(name(1, 1, 1), b"b");
+    assert_eq!(name(2, 4, 8), b"run_ends");
+    assert_eq!(name(2, 0, 18), NAME_LIST);
+    assert_eq!(name(2, 1, 3), b"tem");
+    let unfit = [
+        (0, 0, 3),
+        (3, 0, 3),
+        (u32::MAX, 0, 3),
+        (1, 0, 4),
+        (1, 3, 1),
+        (1, 4, 0),
+        (2, 18, 1),
+        (1, u32::MAX, u32::MAX),
+    ];
+    for (home, start, length) in unfit {
+        assert_eq!(name(home, start, length), b"");
+    }
+}
+
+#[test]
+fn rooms_smaller_than_1024_rows() {
+    let read = |text: &str, rows| model::read(text.as_bytes(), Limits::lent(rows)).map(|r| r.len());
+    for text in ["", " ", "@", "Int8"] {
+        assert_eq!(read(text, 0), Err(4));
+    }
+    assert_eq!(model::read(b"\xff", Limits::lent(0)), Err(2));
+    assert_eq!(read(&" ".repeat(16_385), 0), Err(1));
+    assert_eq!(read(&"List(".repeat(64), 64), Err(3));
+    assert_eq!(read(&"List(".repeat(64), 63), Err(4));
+    assert_eq!(read("List(Int8)", 1), Err(4));
+    assert_eq!(read("List(Int8)", 2), Ok(2));
+    assert_eq!(read(&"\"".repeat(3), 2_000), Err(7));
+}
+
+#[test]
+fn verdicts() {
+    let verdict = |text: &str| {
+        let rows = model::read(text.as_bytes(), Limits::lent(MOST_ROWS)).unwrap();
+        model::verdict(text.as_bytes(), NAME_LIST, &model::to_words(&rows)).unwrap()
+    };
+    assert_eq!(verdict("Dictionary(Utf8, Int32)"), Some(1));
+    assert_eq!(verdict("Dictionary(Int8, Dictionary(Utf8, Int8))"), Some(3));
+    assert_eq!(verdict("Dictionary(UInt8, Utf8)"), Some(1));
+    assert_eq!(verdict("Dictionary(Dictionary(Utf8, Int8), Int8)"), Some(1));
+    assert_eq!(verdict("RunEndEncoded(non-null Int8, Utf8)"), Some(1));
+    assert_eq!(verdict("RunEndEncoded(non-null Int16, Utf8)"), None);
+}
+
+/// What a port does wrong.
+#[derive(Clone, Copy, Debug, PartialEq)]
+enum Fault {
+    None,
+    RowsUntouched,
+    RefusedRowsKept,
+    RestOfRowsZeroed,
+    CountTooHigh,
+    AnotherNumber,
+    PartOfARowCounted,
+    NameElsewhere,
+    SmallRoomForRows,
+    OutputBehindTheText,
+    OutputOfARefusal,
+    PlainMicroseconds,
+    SoundnessUnasked,
+    OneByteOfRoomMissing,
+}
+
+/// The model as a port, with a fault.
+struct Port(Fault);
+
+impl Subject for Port {
+    fn read(&self, text: &[u8], rows: &mut [u32]) -> Result<usize, u32> {
+        let mut lent = rows.len() / WORDS;
+        match self.0 {
+            Fault::PartOfARowCounted => lent = rows.len().div_ceil(WORDS),
+            Fault::SmallRoomForRows => lent = lent.saturating_sub(1),
+            _ => {}
+        }
+        let read = model::read(text, Limits::lent(lent));
+        match &read {
+            Ok(read) => {
+                let words = model::to_words(read);
+                let filled = words.len().min(rows.len());
+                if self.0 != Fault::RowsUntouched {
+                    rows[..filled].copy_from_slice(&words[..filled]);
+                }
+                if self.0 == Fault::RestOfRowsZeroed {
+                    rows[filled..].fill(0);
+                }
+                if self.0 == Fault::NameElsewhere && filled > 2 * WORDS {
+                    // The second row's name, one byte further on.
+                    rows[WORDS + 7] += 1;
+                }
+            }
+            Err(_) if self.0 == Fault::RefusedRowsKept => {}
+            Err(_) => rows.fill(0),
+        }
+        match read {
+            Ok(read) => Ok(read.len() + usize::from(self.0 == Fault::CountTooHigh)),
+            Err(9) if self.0 == Fault::AnotherNumber => Err(8),
+            Err(number) => Err(number),
+        }
+    }
+
+    fn print(
+        &self,
+        text: &[u8],
+        list: &[u8],
+        rows: &[u32],
+        out: &mut [u8],
+    ) -> Option<Result<usize, u32>> {
+        let room = match self.0 {
+            Fault::OneByteOfRoomMissing => out.len().saturating_sub(1),
+            _ => out.len(),
+        };
+        Some(match model::print(text, list, rows, room) {
+            Ok(mut printed) => {
+                if self.0 == Fault::PlainMicroseconds {
+                    let plain = String::from_utf8_lossy(&printed).replace("(µs", "(us");
+                    printed = plain.into_bytes();
+                }
+                out[..printed.len()].copy_from_slice(&printed);
+                if self.0 == Fault::OutputBehindTheText {
+                    out[printed.len()..].fill(0);
+                }
+                Ok(printed.len())
+            }
+            Err(17) if self.0 == Fault::SoundnessUnasked => Ok(0),
+            Err(number) => {
+                if self.0 == Fault::OutputOfARefusal {
+                    out.fill(0);
+                }
+                Err(number)
+            }
+        })
+    }
+}
+
+/// A short run with the port; the number of differences.
+fn short_run(port: &Port) -> usize {
+    let mut check = Check::new(Some(port), 1);
+    let mut random = Random::new(1);
+    for (text, expected) in known::known() {
+        let read = check.text(text.as_bytes()).map(|rows| rows.len());
+        check.expect(text.as_bytes(), &read, &expected);
+    }
+    for _ in 0..300 {
+        let rows = random.between(1, 10);
+        let tokens = texts::random(&mut random, rows, 20);
+        let _ = check.text(&texts::join(&mut random, &tokens));
+        let _ = check.text(&damage::damaged(&mut random, &tokens));
+        for letters in [Letters::Plain, Letters::Ascii, Letters::Any] {
+            check::random_tree(&mut check, &mut random, letters);
+        }
+        let tree = trees::sound(&mut random, Letters::Ascii, 12);
+        check.any_tree(&trees::changed(&mut random, &tree));
+        if let Some((clause, tree)) = trees::broken(&mut random, &tree) {
+            check.broken_tree(clause, &tree);
+        }
+    }
+    check.differences()
+}
+
+#[test]
+fn a_port_without_faults_passes() {
+    assert_eq!(short_run(&Port(Fault::None)), 0);
+}
+
+#[test]
+fn ports_with_faults_are_caught() {
+    for fault in [
+        Fault::RowsUntouched,
+        Fault::RefusedRowsKept,
+        Fault::RestOfRowsZeroed,
+        Fault::CountTooHigh,
+        Fault::AnotherNumber,
+        Fault::PartOfARowCounted,
+        Fault::NameElsewhere,
+        Fault::SmallRoomForRows,
+        Fault::OutputBehindTheText,
+        Fault::OutputOfARefusal,
+        Fault::PlainMicroseconds,
+        Fault::SoundnessUnasked,
+        Fault::OneByteOfRoomMissing,
+    ] {
+        assert!(short_run(&Port(fault)) > 0, "{fault:?} is not caught");
+    }
+}
