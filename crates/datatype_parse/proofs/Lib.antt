@@ -1,2 +1,15 @@
 pub mod Holds
 pub mod Counters
+pub mod Stores
+pub mod Answers
+pub mod Looks
+pub mod TokenLaws
+pub mod Zones
+pub mod Values
+pub mod Readers
+pub mod Parents
+pub mod Fields
+pub mod Loops
+pub mod Types
+pub mod Entries
+pub mod Whole

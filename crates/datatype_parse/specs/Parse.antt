@@ -70,16 +70,32 @@ pub record Zone : Type 0 where
 abbrev pub rowsIn : Tree → ℕ
 rowsIn t = suc (count (t .kids))
 
--- A type without children.
-abbrev pub childless : Row → ℕ → Tree
-childless r next = record { row = r; kids = ∅; next = next }
-
 -- A run of one tree, and of two.
 abbrev pub single : Tree → Forest Row
 single t = node (t .row) (t .kids) ∅
 
 abbrev pub pair : Tree → Tree → Forest Row
 pair t u = node (t .row) (t .kids) (node (u .row) (u .kids) ∅)
+
+-- One turn of reading fields: they end, or a field was read, which is the last, or more may follow.
+pub data Item : Type 0 where
+  end : (next : ℕ) → Item
+  last : (t : Tree) (next : ℕ) → Item
+  more : (t : Tree) (next : ℕ) → Item
+
+-- What a turn makes of the fields; `go` reads those that follow, at a place with so many rows left.
+abbrev pub fieldsFrom : (ℕ → ℕ → Out Fields) → ℕ → Item → Out Fields
+fieldsFrom go rows (end next) = done (record { trees = ∅; next = next })
+fieldsFrom go rows (last t next) = done (record { trees = single t; next = next })
+fieldsFrom go rows (more t next) = do
+  fs ← go next (rows - rowsIn t)
+  done (record { trees = node (t .row) (t .kids) (fs .trees); next = fs .next })
+
+-- Fields turn by turn. The first number falls with each field and never runs out where it is above the rows left,
+-- since each field takes a row.
+unfoldable pub itemsBy : (ℕ → ℕ → Out Item) → ℕ → ℕ → ℕ → Out Fields
+itemsBy item zero at rows = refuse 4
+itemsBy item (suc most) at rows = item at rows >>= fieldsFrom (itemsBy item most) rows
 
 -- ---- signed bytes
 
@@ -93,12 +109,16 @@ scaleOf k = if isNegative k then 128 - valueOf k else (128 + valueOf k)
 
 -- ---- tokens where one is needed
 
+-- The refusal at a token that is not of the sort needed: 9, or its own where there is no token.
+abbrev pub refusalOf : TokenKind → ℕ
+refusalOf k = if eqb (sortOf k) noToken then valueOf k else 9
+
 module _ (text : List ℕ) where
-  -- A token of a sort is needed: another token is refusal 9, no token its own refusal.
+  -- A token of a sort is needed.
   unfoldable pub need : ℕ → ℕ → Out Token
   need sort at =
       let t = tokenAt text at in
-      if eqb (sortOf (t .kind)) sort then done t else refuse (if eqb (sortOf (t .kind)) noToken then valueOf (t .kind) else 9)
+      if eqb (sortOf (t .kind)) sort then done t else refuse (refusalOf (t .kind))
 
   -- A token is only looked at.
   unfoldable pub stands : ℕ → ℕ → Bool
@@ -127,7 +147,27 @@ module _ (text : List ℕ) where
   abbrev pub signedByteAt : ℕ → Out Token
   signedByteAt at = numberIn 128 127 at
 
+  -- The unit of a kind: one that it does not take is refused at the unit.
+  unfoldable pub unitAt : ℕ → ℕ → Out Token
+  unitAt k at = do
+    u ← need timeUnit at
+    if unitFits k (valueOf (u .kind)) then done u else refuse 11
+
+  -- The mark that closes a type of a row and children.
+  unfoldable pub closeAt : Row → Forest Row → ℕ → Out Tree
+  closeAt r kids at = do
+    c ← need rparen at
+    done (record { row = r; kids = kids; next = c .next })
+
   -- ---- a timestamp's zone, behind the unit: ) or , and a string, Some(string) or None, and )
+
+  -- behind the word Some: (string)
+  unfoldable pub someZone : ℕ → Out Zone
+  someZone at = do
+    p ← need lparen at
+    s ← need doubleQuoted (p .next)
+    c ← need rparen (s .next)
+    done (record { start = s .start; size = s .size; next = c .next })
 
   unfoldable pub zoneString : ℕ → Out Zone
   zoneString at =
@@ -136,10 +176,7 @@ module _ (text : List ℕ) where
         done (record { start = 0; size = 0; next = n .next }))
       else if stands someWord at then (do
         w ← need someWord at
-        p ← need lparen (w .next)
-        s ← need doubleQuoted (p .next)
-        c ← need rparen (s .next)
-        done (record { start = s .start; size = s .size; next = c .next }))
+        someZone (w .next))
       else (do
         s ← need doubleQuoted at
         done (record { start = s .start; size = s .size; next = s .next }))
@@ -154,6 +191,54 @@ module _ (text : List ℕ) where
         z ← zoneString (c .next)
         e ← need rparen (z .next)
         done (record { start = z .start; size = z .size; next = e .next }))
+
+  -- ---- types without children
+
+  unfoldable pub timestampAt : ℕ → ℕ → Out Tree
+  timestampAt k at = do
+    p ← need lparen at
+    u ← need timeUnit (p .next)
+    z ← zoneAt (u .next)
+    done (record { row = bareRow k (valueOf (u .kind)) 0 (z .start) (z .size); kids = ∅; next = z .next })
+
+  unfoldable pub timeAt : ℕ → ℕ → Out Tree
+  timeAt k at = do
+    p ← need lparen at
+    u ← unitAt k (p .next)
+    closeAt (bareRow k (valueOf (u .kind)) 0 0 0) ∅ (u .next)
+
+  unfoldable pub intervalAt : ℕ → ℕ → Out Tree
+  intervalAt k at = do
+    p ← need lparen at
+    u ← need intervalUnit (p .next)
+    closeAt (bareRow k (valueOf (u .kind)) 0 0 0) ∅ (u .next)
+
+  unfoldable pub fixedSizeBinaryAt : ℕ → ℕ → Out Tree
+  fixedSizeBinaryAt k at = do
+    p ← need lparen at
+    n ← lengthAt (p .next)
+    closeAt (bareRow k (valueOf (n .kind)) 0 0 0) ∅ (n .next)
+
+  -- A decimal's scale and the mark that closes it. Precision and scale are judged together, behind the mark.
+  unfoldable pub scaleAt : ℕ → ℕ → ℕ → Out Tree
+  scaleAt k precision at = do
+    s ← signedByteAt at
+    t ← closeAt (bareRow k precision (scaleOf (s .kind)) 0 0) ∅ (s .next)
+    if decimalFits k precision (scaleOf (s .kind)) then done t else refuse 12
+
+  unfoldable pub decimalAt : ℕ → ℕ → Out Tree
+  decimalAt k at = do
+    p ← need lparen at
+    n ← precisionAt (p .next)
+    c ← need comma (n .next)
+    scaleAt k (valueOf (n .kind)) (c .next)
+
+  -- A list's name behind the comma: field: 'name'
+  unfoldable pub listNameAt : ℕ → Out Token
+  listNameAt at = do
+    f ← need fieldWord at
+    c ← need colon (f .next)
+    need singleQuoted (c .next)
 
   -- What follows reads types one level down by `type`: a place and the rows left, to an answer.
   module _ (type : ℕ → ℕ → Out Tree) where
@@ -179,30 +264,24 @@ module _ (text : List ℕ) where
       t ← defaultField item at rows
       if stands comma (t .next) then (do
         c ← need comma (t .next)
-        f ← need fieldWord (c .next)
-        d ← need colon (f .next)
-        s ← need singleQuoted (d .next)
+        s ← listNameAt (c .next)
         done (record { row = fieldRow (t .row .role) 0 (textName s) (t .row); kids = t .kids; next = s .next }))
           else done t
 
-    -- The fields of a Struct and the mark that closes them. The first number falls with each field and never runs out,
-    -- since each field takes a row.
-    unfoldable pub structFields : ℕ → ℕ → ℕ → Out Fields
-    structFields zero at rows = refuse 4
-    structFields (suc most) at rows =
+    -- One turn of a Struct's fields: the mark that closes them, or a field and the comma or the mark behind it.
+    unfoldable pub structItem : ℕ → ℕ → Out Item
+    structItem at rows =
         if stands rparen at then (do
           c ← need rparen at
-          done (record { trees = ∅; next = c .next }))
+          done (end (c .next)))
         else (do
           t ← fieldAt 0 at rows
-          fs ← (if stands comma (t .next)
-              then (do
-                c ← need comma (t .next)
-                structFields most (c .next) (rows - rowsIn t))
+          if stands comma (t .next) then (do
+            c ← need comma (t .next)
+            done (more t (c .next)))
               else (do
                 c ← need rparen (t .next)
-                done (record { trees = ∅; next = c .next })))
-          done (record { trees = node (t .row) (t .kids) (fs .trees); next = fs .next }))
+                done (last t (c .next))))
 
     -- id: ("name": [nullability] type)
     unfoldable pub unionField : ℕ → ℕ → Out Tree
@@ -211,38 +290,41 @@ module _ (text : List ℕ) where
       c ← need colon (i .next)
       p ← need lparen (c .next)
       t ← fieldAt (idOf (i .kind)) (p .next) rows
-      e ← need rparen (t .next)
-      done (record { row = t .row; kids = t .kids; next = e .next })
+      closeAt (t .row) (t .kids) (t .next)
 
-    -- The fields of a Union, each behind a comma, and the mark that closes them; the first number as in a Struct.
-    unfoldable pub unionFields : ℕ → ℕ → ℕ → Out Fields
-    unionFields zero at rows = refuse 4
-    unionFields (suc most) at rows =
+    -- One turn of a Union's fields: the mark that closes them, or a comma and a field.
+    unfoldable pub unionItem : ℕ → ℕ → Out Item
+    unionItem at rows =
         if stands rparen at then (do
           c ← need rparen at
-          done (record { trees = ∅; next = c .next }))
+          done (end (c .next)))
         else (do
           c ← need comma at
           t ← unionField (c .next) rows
-          fs ← unionFields most (t .next) (rows - rowsIn t)
-          done (record { trees = node (t .row) (t .kids) (fs .trees); next = fs .next }))
+          done (more t (t .next)))
 
-    -- RunEndEncoded's fields: two fields if a whole double-quoted string is next, else two types. Run ends that are
-    -- nullable are refused once their field is read, in the short form at once.
-    unfoldable pub runEndFields : ℕ → ℕ → Out Fields
-    runEndFields at rows =
-        if stands doubleQuoted at then (do
-          r ← fieldAt 0 at rows
-          s ← (if eqb (r .row .role) 2 then done r else refuse 13)
-          c ← need comma (s .next)
-          v ← fieldAt 0 (c .next) (rows - rowsIn r)
-          done (record { trees = pair r v; next = v .next }))
-        else if eqb (roleAt at) 2 then (do
+    -- RunEndEncoded's fields in the long form: run ends that are nullable are refused once their field is read.
+    unfoldable pub namedRunEnds : ℕ → ℕ → Out Fields
+    namedRunEnds at rows = do
+      r ← fieldAt 0 at rows
+      s ← (if eqb (r .row .role) 2 then done r else refuse 13)
+      c ← need comma (s .next)
+      v ← fieldAt 0 (c .next) (rows - rowsIn r)
+      done (record { trees = pair r v; next = v .next })
+
+    -- In the short form: two types, and nullable run ends are refused at once.
+    unfoldable pub defaultRunEnds : ℕ → ℕ → Out Fields
+    defaultRunEnds at rows =
+        if eqb (roleAt at) 2 then (do
           r ← defaultField run-ends at rows
           c ← need comma (r .next)
           v ← defaultField values (c .next) (rows - rowsIn r)
           done (record { trees = pair r v; next = v .next }))
         else refuse 13
+
+    -- Two fields if a whole double-quoted string is next, else two types.
+    unfoldable pub runEndFields : ℕ → ℕ → Out Fields
+    runEndFields at rows = if stands doubleQuoted at then namedRunEnds at rows else defaultRunEnds at rows
 
     -- Map's entries: refused once the whole field is read.
     unfoldable pub entriesAt : ℕ → ℕ → Out Tree
@@ -262,79 +344,74 @@ module _ (text : List ℕ) where
           t ← type (c .next) rows
           done (record { row = fieldRow 1 0 item (t .row); kids = t .kids; next = t .next }))
 
-    -- ---- what follows a type's word, by the shape of its kind k; so many rows are left for its children
-    unfoldable pub shapeAt : Shape → ℕ → ℕ → ℕ → Out Tree
-    shapeAt leaf k at rows = done (childless (bareRow k 0 0 0 0) at)
-    shapeAt timestamp k at rows = do
-      p ← need lparen at
-      u ← need timeUnit (p .next)
-      z ← zoneAt (u .next)
-      done (childless (bareRow k (valueOf (u .kind)) 0 (z .start) (z .size)) (z .next))
-    shapeAt time k at rows = do
-      p ← need lparen at
-      u ← need timeUnit (p .next)
-      v ← (if unitFits k (valueOf (u .kind)) then done u else refuse 11)
-      c ← need rparen (v .next)
-      done (childless (bareRow k (valueOf (u .kind)) 0 0 0) (c .next))
-    shapeAt interval k at rows = do
-      p ← need lparen at
-      u ← need intervalUnit (p .next)
-      c ← need rparen (u .next)
-      done (childless (bareRow k (valueOf (u .kind)) 0 0 0) (c .next))
-    shapeAt fixed k at rows = do
-      p ← need lparen at
-      n ← lengthAt (p .next)
-      c ← need rparen (n .next)
-      done (childless (bareRow k (valueOf (n .kind)) 0 0 0) (c .next))
-    shapeAt list k at rows = do
+    -- ---- types with children; so many rows are left for these
+
+    unfoldable pub listAt : ℕ → ℕ → ℕ → Out Tree
+    listAt k at rows = do
       p ← need lparen at
       t ← listField (p .next) rows
-      c ← need rparen (t .next)
-      done (record { row = bareRow k 0 0 0 0; kids = single t; next = c .next })
-    shapeAt fixedList k at rows = do
+      closeAt (bareRow k 0 0 0 0) (single t) (t .next)
+
+    unfoldable pub fixedSizeListAt : ℕ → ℕ → ℕ → Out Tree
+    fixedSizeListAt k at rows = do
       p ← need lparen at
       n ← lengthAt (p .next)
       t ← fixedListField (n .next) rows
-      c ← need rparen (t .next)
-      done (record { row = bareRow k (valueOf (n .kind)) 0 0 0; kids = single t; next = c .next })
-    shapeAt struct k at rows = do
+      closeAt (bareRow k (valueOf (n .kind)) 0 0 0) (single t) (t .next)
+
+    unfoldable pub structAt : ℕ → ℕ → ℕ → Out Tree
+    structAt k at rows = do
       p ← need lparen at
-      fs ← structFields (suc rows) (p .next) rows
+      fs ← itemsBy structItem (suc rows) (p .next) rows
       done (record { row = bareRow k 0 0 0 0; kids = fs .trees; next = fs .next })
-    shapeAt union k at rows = do
+
+    -- Union ids are judged behind the mark that closes the type.
+    unfoldable pub unionAt : ℕ → ℕ → ℕ → Out Tree
+    unionAt k at rows = do
       p ← need lparen at
       m ← need unionMode (p .next)
-      fs ← unionFields (suc rows) (m .next) rows
+      fs ← itemsBy unionItem (suc rows) (m .next) rows
       if idsFit (map (λ r. r .id) (roots (fs .trees)))
           then done (record { row = bareRow k (valueOf (m .kind)) 0 0 0; kids = fs .trees; next = fs .next })
           else refuse 15
-    shapeAt dictionary k at rows = do
+
+    unfoldable pub dictionaryAt : ℕ → ℕ → ℕ → Out Tree
+    dictionaryAt k at rows = do
       p ← need lparen at
       t ← type (p .next) rows
       c ← need comma (t .next)
       v ← type (c .next) (rows - rowsIn t)
-      e ← need rparen (v .next)
-      done (record { row = bareRow k 0 0 0 0; kids = pair t v; next = e .next })
-    shapeAt decimal k at rows = do
-      p ← need lparen at
-      n ← precisionAt (p .next)
-      c ← need comma (n .next)
-      s ← signedByteAt (c .next)
-      e ← need rparen (s .next)
-      let scale = scaleOf (s .kind)
-      if decimalFits k (valueOf (n .kind)) scale then done (childless (bareRow k (valueOf (n .kind)) scale 0 0) (e .next)) else refuse 12
-    shapeAt mapping k at rows = do
+      closeAt (bareRow k 0 0 0 0) (pair t v) (v .next)
+
+    unfoldable pub mapAt : ℕ → ℕ → ℕ → Out Tree
+    mapAt k at rows = do
       p ← need lparen at
       t ← entriesAt (p .next) rows
       c ← need comma (t .next)
       s ← need mapSorted (c .next)
-      e ← need rparen (s .next)
-      done (record { row = bareRow k (valueOf (s .kind)) 0 0 0; kids = single t; next = e .next })
-    shapeAt runEnds k at rows = do
+      closeAt (bareRow k (valueOf (s .kind)) 0 0 0) (single t) (s .next)
+
+    unfoldable pub runEndEncodedAt : ℕ → ℕ → ℕ → Out Tree
+    runEndEncodedAt k at rows = do
       p ← need lparen at
       fs ← runEndFields (p .next) rows
-      e ← need rparen (fs .next)
-      done (record { row = bareRow k 0 0 0 0; kids = fs .trees; next = e .next })
+      closeAt (bareRow k 0 0 0 0) (fs .trees) (fs .next)
+
+    -- What follows the word of kind k, by its shape.
+    unfoldable pub shapeAt : Shape → ℕ → ℕ → ℕ → Out Tree
+    shapeAt leaf k at rows = done (record { row = bareRow k 0 0 0 0; kids = ∅; next = at })
+    shapeAt timestamp k at rows = timestampAt k at
+    shapeAt time k at rows = timeAt k at
+    shapeAt interval k at rows = intervalAt k at
+    shapeAt fixed k at rows = fixedSizeBinaryAt k at
+    shapeAt list k at rows = listAt k at rows
+    shapeAt fixedList k at rows = fixedSizeListAt k at rows
+    shapeAt struct k at rows = structAt k at rows
+    shapeAt union k at rows = unionAt k at rows
+    shapeAt dictionary k at rows = dictionaryAt k at rows
+    shapeAt decimal k at rows = decimalAt k at
+    shapeAt mapping k at rows = mapAt k at rows
+    shapeAt runEnds k at rows = runEndEncodedAt k at rows
 
     -- A type that begins where a level is left: it takes a row (4), then its word is judged.
     unfoldable pub typeWith : ℕ → ℕ → Out Tree
@@ -348,11 +425,15 @@ module _ (text : List ℕ) where
   typeAt zero at rows = refuse 3
   typeAt (suc level) at rows = typeWith (λ a r. typeAt level a r) at rows
 
+  -- The text ends here, but for spaces.
+  unfoldable pub textOver : ℕ → Bool
+  textOver at = stands noToken at && eqb (valueOf ((tokenAt text at) .kind)) 5
+
   -- The whole text is a type: nothing but spaces follows it.
   unfoldable pub wholeText : ℕ → Out (Forest Row)
   wholeText rows = do
     t ← typeAt 64 0 rows
-    if eqb (valueOf ((tokenAt text (t .next)) .kind)) 5 && stands noToken (t .next) then done (single t) else refuse 16
+    if textOver (t .next) then done (single t) else refuse 16
 
 -- ---- the public reader
 

@@ -3,4 +3,8 @@ pub mod Answer
 pub mod Utf8
 pub mod Words
 pub mod Token
+pub mod Places
+pub mod Ends
+pub mod Digits
+pub mod Keys
 pub mod Computed

@@ -1,4 +1,12 @@
 // Tokens of a type text: the work of the Rust's `Tokenizer`.
+mod number;
+mod tokenizer;
+mod utf8;
+mod words;
+
+pub use tokenizer::next_token;
+pub use tokenizer::skip_spaces;
+pub use utf8::is_utf8;
 
 // What a token is.
 pub enum TokenKind {

@@ -1,0 +1,190 @@
+// Kinds of types: what each asks of a row's numbers and where its children stand.
+ghost use mathlib.Core.Path.{_≡_};
+ghost use Prim.Native.Nat.{_<_};
+ghost use Rattle.datatype.specs.Kind.{kinds, shapeOf, maxPrecision, decimalFits};
+ghost use Rattle.datatype.specs.Sound.{rulesOf};
+ghost use Rattle.datatype.specs.Check.{placeOf, belowOf, isDecimal, numbersFit};
+
+// The kinds that a rule names, by their place in the Rust's `DataType`.
+pub const INT8: u32 = 2;
+
+pub const INT16: u32 = 3;
+
+pub const INT64: u32 = 5;
+
+pub const TIMESTAMP: u32 = 13;
+
+pub const TIME32: u32 = 16;
+
+pub const TIME64: u32 = 17;
+
+pub const DURATION: u32 = 18;
+
+pub const INTERVAL: u32 = 19;
+
+pub const FIXED_SIZE_BINARY: u32 = 21;
+
+pub const LIST: u32 = 27;
+
+pub const FIXED_SIZE_LIST: u32 = 29;
+
+pub const LARGE_LIST_VIEW: u32 = 31;
+
+pub const STRUCT: u32 = 32;
+
+pub const UNION: u32 = 33;
+
+pub const DICTIONARY: u32 = 34;
+
+pub const DECIMAL32: u32 = 35;
+
+pub const DECIMAL64: u32 = 36;
+
+pub const DECIMAL128: u32 = 37;
+
+pub const DECIMAL256: u32 = 38;
+
+pub const MAP: u32 = 39;
+
+pub const RUN_END_ENCODED: u32 = 40;
+// How many kinds there are.
+pub const KINDS: u32 = 41;
+
+// A decimal's precision, and its scale plus 128.
+pub struct Decimal {
+    pub precision: u32,
+    pub scale: u32,
+}
+
+impl Decimal {
+    pub const DECIMAL32_MAX_PRECISION: u32 = 9;
+
+    pub const DECIMAL64_MAX_PRECISION: u32 = 18;
+
+    pub const DECIMAL128_MAX_PRECISION: u32 = 38;
+
+    pub const DECIMAL256_MAX_PRECISION: u32 = 76;
+
+    // The greatest precision of a decimal kind.
+    pub fn max_precision(kind: u32) -> u32
+        ensures { λ r. ⌜ r ≡ maxPrecision kind ⌝ }
+    {
+        if kind <= DECIMAL32 {
+            return Self::DECIMAL32_MAX_PRECISION;
+        }
+        if kind == DECIMAL64 {
+            return Self::DECIMAL64_MAX_PRECISION;
+        }
+        if kind == DECIMAL128 {
+            return Self::DECIMAL128_MAX_PRECISION;
+        }
+        if kind == DECIMAL256 {
+            return Self::DECIMAL256_MAX_PRECISION;
+        }
+        0
+    }
+
+    // Whether precision and scale are those of a decimal kind.
+    pub fn fits(self, kind: u32) -> bool
+        ensures { λ r. ⌜ r ≡ decimalFits kind (self .precision) (self .scale) ⌝ }
+    {
+        if self.precision == 0 {
+            return false;
+        }
+        if Self::max_precision(kind) < self.precision {
+            return false;
+        }
+        if self.scale <= 128 {
+            return true;
+        }
+        self.scale - 128 <= self.precision
+    }
+}
+
+// Whether a kind is one of the four decimals.
+fn is_decimal(kind: u32) -> bool
+    ensures { λ r. ⌜ r ≡ isDecimal kind ⌝ }
+{
+    if kind < DECIMAL32 {
+        return false;
+    }
+    kind <= DECIMAL256
+}
+
+// How many values word 4 has in rows of a kind.
+fn params(kind: u32) -> u32
+    requires { ⌜ kind < kinds ⌝ }
+    ensures { λ r. ⌜ r ≡ (rulesOf (shapeOf kind)) .params ⌝ }
+{
+    if kind == TIMESTAMP {
+        return 4;
+    }
+    if kind == TIME32 {
+        return 4;
+    }
+    if kind == TIME64 {
+        return 4;
+    }
+    if kind == DURATION {
+        return 4;
+    }
+    if kind == INTERVAL {
+        return 3;
+    }
+    if kind == FIXED_SIZE_BINARY {
+        return 2147483648;
+    }
+    if kind == FIXED_SIZE_LIST {
+        return 2147483648;
+    }
+    if kind == UNION {
+        return 2;
+    }
+    if kind == MAP {
+        return 2;
+    }
+    if is_decimal(kind) {
+        return 256;
+    }
+    1
+}
+
+// Whether words 4 and 5 are those of a kind.
+pub(crate) fn numbers_fit(kind: u32, param: u32, scale: u32) -> bool
+    requires { ⌜ kind < kinds ⌝ }
+    ensures { λ r. ⌜ r ≡ numbersFit kind param scale ⌝ }
+{
+    if is_decimal(kind) {
+        let decimal = Decimal {
+            precision: param,
+            scale,
+        };
+        return decimal.fits(kind);
+    }
+    if 0 < scale {
+        return false;
+    }
+    if kind == TIME32 {
+        return param < 2;
+    }
+    if kind == TIME64 {
+        if param < 2 {
+            return false;
+        }
+        return param < 4;
+    }
+    param < params(kind)
+}
+
+// The place of a kind's children: 0 bare, 1 fields, 2 fields of a union.
+pub(crate) fn below(kind: u32) -> u32
+    ensures { λ r. ⌜ placeOf r ≡ belowOf kind ⌝ }
+{
+    if kind == DICTIONARY {
+        return 0;
+    }
+    if kind == UNION {
+        return 2;
+    }
+    1
+}

@@ -1,0 +1,162 @@
+// The token at a place of a text.
+use crate::Token;
+use crate::TokenKind;
+use crate::words::word_kind;
+ghost use mathlib.Core.Path.{_≡_};
+ghost use mathlib.Core.Bool.{false};
+ghost use Prim.Native.Nat.{_+_, _<_, _≤_};
+ghost use lib.ListN.{length, drop};
+ghost use Rattle.tokenizer.specs.Token.{token, isSeparator, wordOf, wordKind, escapedAfter, untilQuote, stringToken, tokenAt};
+ghost use Rattle.tokenizer.specs.Places.{afterSpaces};
+ghost use Rattle.tokenizer.specs.Ends.{wordEnd, closes, quoteEnd};
+
+// The first place at or behind `from` that holds no space.
+pub fn skip_spaces(text: &[u8], from: usize) -> usize
+    ensures { λ r. ⌜ r ≡ afterSpaces (now (text .entry)) from ⌝ }
+{
+    let mut i = from;
+    while i < text.len() {
+        if text[i] != 32 {
+            return i;
+        }
+        i += 1;
+    }
+    i
+}
+
+// Whether a byte ends a word: one of the four marks, or a space.
+fn is_separator(b: u8) -> bool
+    ensures { λ r. ⌜ r ≡ isSeparator b ⌝ }
+{
+    if b == 40 {
+        return true;
+    }
+    if b == 41 {
+        return true;
+    }
+    if b == 44 {
+        return true;
+    }
+    if b == 58 {
+        return true;
+    }
+    b == 32
+}
+
+// The place behind the word that starts at `from`.
+fn word_end(text: &[u8], from: usize) -> usize
+    ensures { λ r. ⌜ r ≡ wordEnd (now (text .entry)) from ⌝ }
+{
+    let mut i = from;
+    while i < text.len() {
+        if is_separator(text[i]) {
+            return i;
+        }
+        i += 1;
+    }
+    i
+}
+
+// Whether a byte ends the string that it stands in.
+fn ends_string(quote: u8, escaped: bool, b: u8) -> bool
+    ensures { λ r. ⌜ r ≡ closes quote escaped b ⌝ }
+{
+    if b == quote {
+        return !escaped;
+    }
+    false
+}
+
+// The escape behind a byte: a backslash sets it, and only the mark clears it.
+fn escaped_after(quote: u8, escaped: bool, b: u8) -> bool
+    ensures { λ r. ⌜ r ≡ escapedAfter quote escaped b ⌝ }
+{
+    if b == 92 {
+        return true;
+    }
+    if b == quote {
+        return false;
+    }
+    escaped
+}
+
+// The place of the mark that ends the string whose bytes start at `from`, or the text's end.
+fn quote_end(text: &[u8], from: usize, quote: u8) -> usize
+    requires { ⌜ from ≤ length (now text) ⌝ }
+    ensures { λ r. ⌜ r ≡ quoteEnd (now (text .entry)) quote false from ⌝ }
+{
+    let mut i = from;
+    let mut escaped = false;
+    while i < text.len() {
+        let b = text[i];
+        if ends_string(quote, escaped, b) {
+            return i;
+        }
+        escaped = escaped_after(quote, escaped, b);
+        i += 1;
+    }
+    i
+}
+
+// The token of a kind that starts at a place and has a length.
+fn token_of(kind: TokenKind, at: usize, size: usize) -> Token
+    requires { ⌜ at + size < 18446744073709551616 ⌝ }
+    ensures { λ r. ⌜ r ≡ token kind at size ⌝ }
+{
+    Token {
+        kind: kind,
+        start: at,
+        size: size,
+        next: at + size,
+    }
+}
+
+// The string whose opening mark stands at a place.
+fn quoted_string(text: &[u8], at: usize, quote: u8, kind: TokenKind) -> Token
+    requires { ⌜ at < length (now text) ⌝ }
+    ensures { λ r. ⌜ r ≡ stringToken kind at (untilQuote quote false (drop (at + 1) (now (text .entry)))) ⌝ }
+{
+    let start = at + 1;
+    let end = quote_end(text, start, quote);
+    if end >= text.len() {
+        return token_of(TokenKind::Refused(6), at, 0);
+    }
+    if end <= start {
+        return token_of(TokenKind::Refused(7), at, 0);
+    }
+    Token {
+        kind: kind,
+        start: start,
+        size: end - start,
+        next: end + 1,
+    }
+}
+
+// The word that starts at a place.
+fn word_token(text: &[u8], at: usize) -> Token
+    requires { ⌜ at < length (now text) ⌝ }
+    ensures { λ r. ⌜ r ≡ token (wordKind (wordOf (drop at (now (text .entry))))) at (length (wordOf (drop at (now (text .entry))))) ⌝ }
+{
+    let end = word_end(text, at);
+    let kind = word_kind(&text[at..end]);
+    token_of(kind, at, end - at)
+}
+
+// The token at or behind a place. Only the space is skipped.
+pub fn next_token(text: &[u8], from: usize) -> Token
+    ensures { λ r. ⌜ r ≡ tokenAt (now (text .entry)) from ⌝ }
+{
+    let at = skip_spaces(text, from);
+    if at >= text.len() {
+        return token_of(TokenKind::Refused(5), at, 0);
+    }
+    match text[at] {
+        40 => token_of(TokenKind::LParen, at, 1),
+        41 => token_of(TokenKind::RParen, at, 1),
+        44 => token_of(TokenKind::Comma, at, 1),
+        58 => token_of(TokenKind::Colon, at, 1),
+        34 => quoted_string(text, at, 34, TokenKind::DoubleQuotedString),
+        39 => quoted_string(text, at, 39, TokenKind::SingleQuotedString),
+        _ => word_token(text, at),
+    }
+}
