@@ -14,7 +14,9 @@ const ROUNDS: usize = 9;
 const BYTES: usize = 4_000_000;
 
 pub fn run() -> ExitCode {
-    println!("nanoseconds for one text: the fastest of {ROUNDS} rounds. The port is lent 1,024 rows,");
+    println!(
+        "nanoseconds for one text: the fastest of {ROUNDS} rounds. The port is lent 1,024 rows,"
+    );
     println!("or just the rows of the text; its buffer is not cleared between texts.");
     println!("text                     bytes   rows     Rust     port  times   just rows  times");
     for (name, text) in texts() {
