@@ -13,3 +13,4 @@ pub mod Loops
 pub mod Types
 pub mod Entries
 pub mod Whole
+pub mod MoreRows
