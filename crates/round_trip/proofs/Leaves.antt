@@ -22,7 +22,7 @@ use Rattle.round_trip.specs.Plain.{isPlain}
 use Rattle.round_trip.proofs.Tokens.{Stop, isListedWord, isWordOf, WordOf, word-is}
 use Rattle.round_trip.proofs.PlainRows.{ShapeRow, bareLabel, no-zone}
 use Rattle.round_trip.proofs.Pieces.{Look, look-here, look-space, need-lparen, need-rparen, need-comma, rparen-stands, comma-stands, stands-is, closes, Found, found-word, need-found, NumberRead, number-read, minus-read, Quoted, need-quoted, double-read}
-use Rattle.round_trip.proofs.Types.{TreeRead, zone-none, bare-row}
+use Rattle.round_trip.proofs.Types.{TreeRead, zone-none, bare-row, bare-tree}
 
 -- ---- the words of units
 
@@ -64,14 +64,7 @@ module _ (text : List ℕ) where
   module _ (l : Label) (kids : Forest Label) (a : T (arityFits noChild (length (roots kids)))) (z : l .zone ≡ []) where
     plain-row : (o : Out Tree) (param scale next : ℕ) (rest : List ℕ) → param ≡ l .param → scale ≡ l .scale
         → o ≡ done (record { row = bareRow (l .kind) param scale 0 0; kids = ∅; next = next }) → drop next text ≡ rest → TreeRead text o (bareLabel l) kids rest
-    plain-row o param scale next rest p s e d =
-        record {
-          got = record { row = bareRow (l .kind) param scale 0 0; kids = ∅; next = next };
-          reads = e;
-          after = d;
-          row = bare-row text l param scale 0 0 p s (zone-none text ∙ sym z);
-          below = below-none kids a;
-        }
+    plain-row o param scale next rest p s e d = bare-tree text l kids o param scale ∅ next rest z p s (below-none kids a) e d
 
   module _ (l : Label) (kids : Forest Label) (at : ℕ) (rest : List ℕ) where
     -- ---- leaves

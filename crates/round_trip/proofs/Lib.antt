@@ -5,3 +5,6 @@ pub mod Pieces
 pub mod Types
 pub mod Leaves
 pub mod Fields
+pub mod Items
+pub mod Pairs
+pub mod Parents

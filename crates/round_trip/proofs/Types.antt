@@ -1,7 +1,7 @@
 -- What it means that a printed type is read back, and a type behind an optional nullability word.
 use mathlib.Core.Path.{_≡_, refl, sym, ap, _∙_, subst}
 use mathlib.Core.Bool.{Bool, true, false, _||_}
-use mathlib.Core.List.{List, [], _∷_, _++_, append-assoc}
+use mathlib.Core.List.{List, [], _∷_, _++_, map, append-assoc}
 use Prim.Native.Nat.{ℕ, zero, suc, _+_, _≤_, _<_}
 use native.Mathlib.Omega.{arith}
 use lib.ListN.{length, take, drop}
@@ -12,7 +12,8 @@ use Rattle.tokenizer.specs.Words.{words}
 use Rattle.tokenizer.specs.Token.{sortOf, isSeparator, isDigit, typeWord, nullability}
 use Rattle.tokenizer.proofs.Basics.{of-true}
 use Rattle.datatype.specs.Kind.{Shape, leaf, timestamp, time, interval, fixed, list, fixedList, struct, union, dictionary, decimal, mapping, runEnds, kinds, shapeOf}
-use Rattle.datatype.specs.Tree.{Forest, ∅, node, count, Row, Label, nameList, nameOf, zoneOf, labelOf, labels}
+use Rattle.datatype.specs.Tree.{Forest, ∅, node, count, roots, Row, Label, nameList, nameOf, zoneOf, labelOf, labels}
+use Rattle.datatype.specs.Sound.{rolesOf, idsOf}
 use Rattle.datatype.proofs.RowList.{count-labels}
 use Rattle.datatype_parse.specs.Parse.{Name, Tree, Fields, bareRow, fieldRow, stands, roleAt, afterRole}
 use Rattle.datatype_display.specs.Display.{Shown, kindWord, nullityText, shapeText, typeText, shown}
@@ -62,6 +63,32 @@ module _ (text : List ℕ) where
 
   pub count-read : (f : Forest Row) (g : Forest Label) → labels text nameList f ≡ g → count f ≡ count g
   count-read f g e = sym (count-labels text nameList f) ∙ ap count e
+
+  -- a row's own words are what its label says
+  pub row-kind : (r : Row) (l : Label) → labelOf text nameList r ≡ l → r .kind ≡ l .kind
+  unfolding labelOf
+  row-kind r l e = ap (λ (x : Label). x .kind) e
+
+  pub row-role : (r : Row) (l : Label) → labelOf text nameList r ≡ l → r .role ≡ l .role
+  unfolding labelOf
+  row-role r l e = ap (λ (x : Label). x .role) e
+
+  -- and so are the roles and ids of rows side by side
+  roles-labels : (f : Forest Row) → map (λ r. r .role) (roots f) ≡ rolesOf (roots (labels text nameList f))
+  unfolding labels labelOf
+  roles-labels ∅ = refl
+  roles-labels (node r k n) = ap (λ (t : List ℕ). r .role ∷ t) (roles-labels n)
+
+  pub roles-read : (f : Forest Row) (g : Forest Label) → labels text nameList f ≡ g → map (λ r. r .role) (roots f) ≡ rolesOf (roots g)
+  roles-read f g e = roles-labels f ∙ ap (λ (h : Forest Label). rolesOf (roots h)) e
+
+  ids-labels : (f : Forest Row) → map (λ r. r .id) (roots f) ≡ idsOf (roots (labels text nameList f))
+  unfolding labels labelOf
+  ids-labels ∅ = refl
+  ids-labels (node r k n) = ap (λ (t : List ℕ). r .id ∷ t) (ids-labels n)
+
+  pub ids-read : (f : Forest Row) (g : Forest Label) → labels text nameList f ≡ g → map (λ r. r .id) (roots f) ≡ idsOf (roots g)
+  ids-read f g e = ids-labels f ∙ ap (λ (h : Forest Label). idsOf (roots h)) e
 
   -- the word of a type stands at a place, and behind it the rest of its printed text
   abbrev pub Begins : ℕ → Label → Forest Label → List ℕ → Type 0
@@ -139,3 +166,16 @@ module _ (text : List ℕ) where
   unfolding labelOf
   field-row l r role id n h e i p =
       λ j. record { kind = (h j) .kind; role = e j; id = i j; param = (h j) .param; scale = (h j) .scale; name = p j; zone = (h j) .zone }
+
+  -- a type that is no field and has no zone, over children that were read
+  pub bare-tree : (l : Label) (kids : Forest Label) (o : Out Tree) (param scale : ℕ) (f : Forest Row) (next : ℕ) (rest : List ℕ) → l .zone ≡ []
+      → param ≡ l .param → scale ≡ l .scale → labels text nameList f ≡ kids
+      → o ≡ done (record { row = bareRow (l .kind) param scale 0 0; kids = f; next = next }) → drop next text ≡ rest → TreeRead o (bareLabel l) kids rest
+  bare-tree l kids o param scale f next rest z p s b e d =
+      record {
+        got = record { row = bareRow (l .kind) param scale 0 0; kids = f; next = next };
+        reads = e;
+        after = d;
+        row = bare-row l param scale 0 0 p s (zone-none ∙ sym z);
+        below = b;
+      }
