@@ -8,3 +8,6 @@ pub mod Fields
 pub mod Items
 pub mod Pairs
 pub mod Parents
+pub mod ReadBack
+pub mod Printed
+pub mod RoundTrip

@@ -1,0 +1,200 @@
+-- Demand 3 on the definitions. For every text, name list and table that meet its conditions (`inDemand3`):
+--   round-trip      the printed text is accepted, with any number of rows lent that holds the tree, and the tree that is
+--                   read says the same as the one printed: it has as many rows, and the two are equal trees
+--   printed-utf8    the printed text is UTF-8
+--   prints          the printer gives exactly the printed text, into any room that holds it: no refusal 17, 18 or 19
+--   prints-apart    two such trees with one printed text say the same, whatever their texts and tables are
+--   not-equal       so two such trees that are not equal have different printed texts
+use mathlib.Core.Path.{_≡_, refl, sym, ap, _∙_, subst}
+use mathlib.Core.Bool.{Bool, true, false, not, _&&_}
+use mathlib.Core.List.{List, [], _∷_, _++_}
+use mathlib.Core.Option.{Option, none, some}
+use Prim.Native.Nat.{ℕ, zero, suc, _+_, _≤_, _<_, min}
+use native.Mathlib.Omega.{arith}
+use lib.ListN.{length}
+use lib.Dec.{T, leb, leb→le}
+use borrow.Author.Tests.{le-leb}
+use Rattle.tokenizer.specs.Text.{if_then_else_}
+use Rattle.tokenizer.specs.Answer.{Out, done}
+use Rattle.tokenizer.specs.Utf8.{isUtf8}
+use Rattle.tokenizer.proofs.Basics.{and-l, and-r, is-true}
+use Rattle.datatype.specs.Tree.{Forest, ∅, node, count, depth, Row, Label, nameList, labelOf, labels}
+use Rattle.datatype.specs.Table.{tableOf, viewOf, treeOf}
+use Rattle.datatype.specs.Sound.{bare, rowsFit, isSound}
+use Rattle.datatype.specs.Equal.{equalTrees}
+use Rattle.datatype.proofs.SoundTree.{SoundTree, sound-tree, sound-labels}
+use Rattle.datatype.proofs.Table.{table-view}
+use Rattle.datatype.proofs.RowList.{count-labels}
+use Rattle.datatype.proofs.LevelLaws.{depth-labels}
+use Rattle.datatype.proofs.Equivalence.{labels-equal}
+use Rattle.datatype_parse.specs.Parse.{wholeText, parse}
+use Rattle.datatype_parse.proofs.MoreRows.{more-rows}
+use Rattle.datatype_display.specs.Display.{display}
+use Rattle.datatype_display.specs.Print.{quotedAscii, print}
+use Rattle.round_trip.specs.Plain.{allPlain, isPlainTree, printed, inDemand3}
+use Rattle.round_trip.proofs.PlainRows.{PlainRows, plain-rows}
+use Rattle.round_trip.proofs.ReadBack.{WholeRead, whole-read}
+use Rattle.round_trip.proofs.Printed.{display-utf8, plain-quoted}
+
+-- ---- the conditions, taken apart
+
+-- what a tree that demand 3 speaks of says
+pub record PlainTree (tree : Forest Label) : Type 0 where
+  pub root : Label
+  pub kids : Forest Label
+  pub one : tree ≡ node root kids ∅
+  pub rows : PlainRows bare (node root kids ∅)
+  pub levels : suc (depth kids) ≤ 64
+  pub few : suc (count kids) ≤ 1024
+
+pub record Conditions (text names table : List ℕ) : Type 0 where
+  pub isSound : T (isSound text names table)
+  pub tree : SoundTree text names table
+  pub plain : T (allPlain (treeOf text names table))
+  pub short : length (printed text names table) ≤ 16384
+
+pub conditions : (text names table : List ℕ) → T (inDemand3 text names table) → Conditions text names table
+unfolding inDemand3 isPlainTree
+conditions text names table h =
+    let a : Bool = isSound text names table in
+    let b : Bool = allPlain (treeOf text names table) in
+    let c : Bool = leb (length (printed text names table)) 16384 in
+    let s : T a = and-l a b (and-l (a && b) c h) in
+    record {
+      isSound = s;
+      tree = sound-tree text names table s;
+      plain = and-r a b (and-l (a && b) c h);
+      short = leb→le (length (printed text names table)) 16384 (and-r (a && b) c h);
+    }
+
+module _ (text names table : List ℕ) (c : Conditions text names table) where
+  abbrev rootRow : Row
+  rootRow = c .tree .root
+
+  abbrev kidRows : Forest Row
+  kidRows = c .tree .kids
+
+  says : treeOf text names table ≡ labels text names (node rootRow kidRows ∅)
+  says = sound-labels text names table (c .tree)
+
+  pub plain-tree : PlainTree (treeOf text names table)
+  unfolding labels
+  plain-tree =
+      let e : T (allPlain (labels text names (node rootRow kidRows ∅))) = subst (λ (f : Forest Label). T (allPlain f)) says (c .plain) in
+      record {
+        root = labelOf text names rootRow;
+        kids = labels text names kidRows;
+        one = says;
+        rows = plain-rows bare (labels text names (node rootRow kidRows ∅)) (c .tree .fits) e;
+        levels = let h = c .tree .levels in omega (arith, depth-labels text names kidRows);
+        few = let h = c .tree .rows in omega (arith, count-labels text names kidRows);
+      }
+
+-- ---- the tree, printed and read
+
+module _ (tree : Forest Label) (p : PlainTree tree) where
+  tree-read : (rows : ℕ) → count tree ≤ rows → WholeRead tree rows
+  tree-read rows enough =
+      let e : count (node (p .root) (p .kids) ∅) ≤ rows = subst (λ (f : Forest Label). count f ≤ rows) (p .one) enough in
+      subst (λ (f : Forest Label). WholeRead f rows) (sym (p .one)) (whole-read (p .root) (p .kids) rows (p .rows) (p .levels) (omega arith))
+
+  tree-utf8 : T (isUtf8 (display tree))
+  tree-utf8 = subst (λ (f : Forest Label). T (isUtf8 (display f))) (sym (p .one)) (display-utf8 bare (p .root) (p .kids) (p .rows))
+
+  tree-few : count tree ≤ 1024
+  tree-few = subst (λ (f : Forest Label). count f ≤ 1024) (sym (p .one)) (let h = p .few in omega arith)
+
+-- a text that is short enough and UTF-8 is read whole
+parse-whole : (text : List ℕ) (rows : ℕ) (f : Forest Row) → length text ≤ 16384 → T (isUtf8 text) → wholeText text rows ≡ done f → parse text rows ≡ done f
+unfolding parse
+parse-whole text rows f l u e = rw (le-leb (length text) 16384 l, is-true (isUtf8 text) u, e)
+
+-- ---- the round trip
+
+pub record RoundTrip (text names table : List ℕ) : Type 0 where
+  -- the tree that the printed text is read as
+  pub back : Forest Row
+  -- with any number of rows lent that holds it, 1,024 among them
+  pub reads : (rows : ℕ) → count (treeOf text names table) ≤ rows → parse (printed text names table) rows ≡ done back
+  pub few : count (treeOf text names table) ≤ 1024
+  -- it says what the printed tree says
+  pub says : labels (printed text names table) nameList back ≡ treeOf text names table
+  pub rows : count back ≡ count (treeOf text names table)
+  -- and so they are equal trees by document 01's rule
+  pub equal : T (equalTrees (printed text names table) nameList text names (tableOf back) table)
+
+module _ (text names table : List ℕ) (c : Conditions text names table) where
+  abbrev tree : Forest Label
+  tree = treeOf text names table
+
+  with-tree : (p : PlainTree tree) → WholeRead tree (count tree) → RoundTrip text names table
+  with-tree p w =
+      let first : parse (display tree) (count tree) ≡ done (w .back) = parse-whole (display tree) (count tree) (w .back) (c .short) (tree-utf8 tree p) (w .reads) in
+      let f : Forest Row = node (c .tree .root) (c .tree .kids) ∅ in
+      let same : labels (display tree) nameList (w .back) ≡ labels text names f = w .says ∙ sound-labels text names table (c .tree) in
+      record {
+        back = w .back;
+        reads = λ rows enough. more-rows (display tree) (count tree) rows (w .back) enough first;
+        few = tree-few tree p;
+        says = w .says;
+        rows = sym (count-labels (display tree) nameList (w .back)) ∙ ap count (w .says);
+        equal =
+            subst (λ (t : List ℕ). T (equalTrees (display tree) nameList text names (tableOf (w .back)) t)) (table-view table f (c .tree .view))
+            (labels-equal (display tree) nameList text names (w .back) f same);
+      }
+
+pub round-trip : (text names table : List ℕ) → T (inDemand3 text names table) → RoundTrip text names table
+round-trip text names table h = go (conditions text names table h)
+  where
+    go : Conditions text names table → RoundTrip text names table
+    go c =
+        let p = plain-tree text names table c in
+        with-tree text names table c p (tree-read (treeOf text names table) p (count (treeOf text names table)) (omega arith))
+
+-- ---- the printed text
+
+pub printed-utf8 : (text names table : List ℕ) → T (inDemand3 text names table) → T (isUtf8 (printed text names table))
+printed-utf8 text names table h = tree-utf8 (treeOf text names table) (plain-tree text names table (conditions text names table h))
+
+pub prints : (text names table : List ℕ) (room : ℕ) → T (inDemand3 text names table) → length (printed text names table) ≤ room
+    → print text names table room ≡ done (printed text names table)
+unfolding print
+prints text names table room h fits = go (conditions text names table h)
+  where
+    go : Conditions text names table → print text names table room ≡ done (printed text names table)
+    go c =
+        let l : length (printed text names table) ≤ 16384 = c .short in
+        rw (
+          is-true (isSound text names table) (c .isSound),
+          is-true (quotedAscii (treeOf text names table)) (plain-quoted (treeOf text names table) (c .plain)),
+          le-leb (length (printed text names table)) (min room 16384) (omega arith),
+        )
+
+-- ---- two trees with one printed text
+
+one-answer : (f g : Forest Row) (o : Out (Forest Row)) → o ≡ done f → o ≡ done g → f ≡ g
+one-answer f g o p q = cc
+
+module _ (text names table text′ names′ table′ : List ℕ) (h : T (inDemand3 text names table)) (h′ : T (inDemand3 text′ names′ table′)) where
+  pub prints-apart : printed text names table ≡ printed text′ names′ table′ → treeOf text names table ≡ treeOf text′ names′ table′
+  prints-apart e = met (round-trip text names table h) (round-trip text′ names′ table′ h′)
+    where
+      met : RoundTrip text names table → RoundTrip text′ names′ table′ → treeOf text names table ≡ treeOf text′ names′ table′
+      met a b =
+          let q : parse (printed text names table) 1024 ≡ done (b .back) = ap (λ (s : List ℕ). parse s 1024) e ∙ b .reads 1024 (b .few) in
+          let t : a .back ≡ b .back = one-answer (a .back) (b .back) (parse (printed text names table) 1024) (a .reads 1024 (a .few)) q in
+          sym (a .says) ∙ (λ j. labels (e j) nameList (t j)) ∙ b .says
+
+  -- the same by document 01's rule
+  pub prints-equal : printed text names table ≡ printed text′ names′ table′ → T (equalTrees text names text′ names′ table table′)
+  prints-equal e = met (conditions text names table h) (conditions text′ names′ table′ h′)
+    where
+      met : Conditions text names table → Conditions text′ names′ table′ → T (equalTrees text names text′ names′ table table′)
+      met c d =
+          let f : Forest Row = node (c .tree .root) (c .tree .kids) ∅ in
+          let g : Forest Row = node (d .tree .root) (d .tree .kids) ∅ in
+          let same : labels text names f ≡ labels text′ names′ g = sym (sound-labels text names table (c .tree)) ∙ prints-apart e ∙ sound-labels text′ names′ table′ (d .tree) in
+          rw (sym (table-view table f (c .tree .view)), sym (table-view table′ g (d .tree .view))) (labels-equal text names text′ names′ f g same)
+
+  pub not-equal : equalTrees text names text′ names′ table table′ ≡ false → printed text names table ≡ printed text′ names′ table′ → ⊥
+  not-equal n e = subst T n (prints-equal e)
