@@ -2,24 +2,24 @@
 use mathlib.Core.Path.{_≡_, refl, sym, ap, _∙_}
 use mathlib.Core.Bool.{Bool, true, false}
 use mathlib.Core.List.{List, [], _∷_, _++_, append-assoc}
-use Prim.Native.Nat.{ℕ, zero, suc, _+_, _≤_, _<_}
-use lib.ListN.{length, drop}
-use lib.Dec.{T, eqb}
+use Prim.Native.Nat.{ℕ, suc, _+_, _≤_}
+use lib.ListN.{drop}
+use lib.Dec.{T}
 use Rattle.tokenizer.specs.Text.{bytes, all, same, if_then_else_}
 use Rattle.tokenizer.specs.Answer.{Out, done}
 use Rattle.tokenizer.specs.Words.{words}
-use Rattle.tokenizer.specs.Token.{isSeparator, isDigit, tokenAt, sortOf, doubleQuoted, singleQuoted, colon, comma, fieldWord}
+use Rattle.tokenizer.specs.Token.{isSeparator, isDigit, tokenAt, sortOf, doubleQuoted, singleQuoted, comma, fieldWord}
 use Rattle.tokenizer.specs.declared.Token.{Token}
 use Rattle.tokenizer.proofs.Basics.{skip, of-true}
-use Rattle.datatype.specs.Tree.{Forest, ∅, node, count, Row, Label, nameList, nameOf, part}
+use Rattle.datatype.specs.Tree.{Forest, count, Label, nameList, nameOf, part}
 use Rattle.datatype.specs.Sound.{isName}
 use Rattle.datatype.proofs.SoundTree.{same-eq}
-use Rattle.datatype_parse.specs.Parse.{Name, Tree, item, textName, fieldRow, need, stands, roleAt, afterRole, listNameAt, fieldAt, defaultField, listField}
+use Rattle.datatype_parse.specs.Parse.{Name, Tree, item, textName, fieldRow, roleAt, afterRole, listNameAt, fieldAt, defaultField, listField}
 use Rattle.datatype_display.specs.Display.{Shown, quoted, nullityText, fieldText, listNameText, listFieldText, typeText, shown}
 use Rattle.round_trip.specs.Plain.{isPlain}
 use Rattle.round_trip.proofs.Tokens.{Stop, isListedWord, isWordOf, word-is}
 use Rattle.round_trip.proofs.PlainRows.{FieldRow, bareLabel}
-use Rattle.round_trip.proofs.Pieces.{Look, look-here, look-space, need-comma, need-colon, rparen-stands, comma-stands, Found, found-word, need-found, Quoted, need-quoted, double-read, single-read}
+use Rattle.round_trip.proofs.Pieces.{Look, look-space, need-comma, need-colon, rparen-stands, comma-stands, Found, found-word, need-found, Quoted, need-quoted, double-read, single-read}
 use Rattle.round_trip.proofs.Types as types
 use Rattle.round_trip.proofs.Types.{TreeRead, ReadsTree, RoleRead, role-read}
 

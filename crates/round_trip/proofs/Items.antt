@@ -1,24 +1,23 @@
 -- The fields of a Struct and of a Union, read back turn by turn.
 use mathlib.Core.Path.{_≡_, refl, sym, ap, _∙_}
-use mathlib.Core.Bool.{Bool, true, false}
-use mathlib.Core.List.{List, [], _∷_, _++_, append-assoc}
+use mathlib.Core.Bool.{false}
+use mathlib.Core.List.{List, _∷_, _++_, append-assoc}
 use Prim.Native.Nat.{ℕ, zero, suc, _+_, _-_, _≤_, _<_}
 use native.Mathlib.Omega.{arith}
 use lib.ListN.{length, drop}
-use lib.Dec.{T, eqb}
-use Rattle.tokenizer.specs.Text.{bytes, if_then_else_}
+use lib.Dec.{eqb}
+use Rattle.tokenizer.specs.Text.{bytes}
 use Rattle.tokenizer.specs.Answer.{Out, done}
 use Rattle.tokenizer.specs.Token.{token, isSeparator, tokenAt, sortOf, doubleQuoted, rparen, comma}
 use Rattle.tokenizer.specs.declared.TokenKind.the-variants.{RParen}
-use Rattle.tokenizer.proofs.Basics.{skip, skip-word}
-use Rattle.datatype.specs.Tree.{Forest, ∅, node, count, roots, Row, Label, nameList, labels}
+use Rattle.tokenizer.proofs.Basics.{skip}
+use Rattle.datatype.specs.Tree.{Forest, ∅, node, count, roots, Label, labels}
 use Rattle.datatype.specs.Sound.{field, unionField}
 use Rattle.datatype_parse.specs.Parse as P
-use Rattle.datatype_parse.specs.Parse.{Tree, Fields, Item, end, last, more, rowsIn, single, idOf, stands, fieldsFrom, itemsBy, fieldAt, structItem, unionItem}
+use Rattle.datatype_parse.specs.Parse.{Tree, Item, end, last, more, single, idOf, stands, itemsBy, fieldAt, structItem, unionItem}
 use Rattle.datatype_parse.proofs.TokenLaws.{here}
 use Rattle.datatype_display.specs.Display.{digits, fieldText, structText, unionText, shown}
-use Rattle.round_trip.proofs.Tokens.{Stop}
-use Rattle.round_trip.proofs.PlainRows.{PlainRow, PlainRows, FieldRow, field-row, union-row, field-id, union-id}
+use Rattle.round_trip.proofs.PlainRows.{PlainRows, FieldRow, field-row, union-row, field-id, union-id}
 use Rattle.round_trip.proofs.Pieces.{Look, look-here, look-space, stands-is, rparen-token, need-lparen-behind, need-rparen, need-comma, need-colon, rparen-stands, comma-stands, closes, NumberRead, number-read}
 use Rattle.round_trip.proofs.Types.{TreeRead, FieldsRead, count-read, ReadsTree, ReadsAll}
 use Rattle.round_trip.proofs.Leaves.{mark-stop, comma-stop}

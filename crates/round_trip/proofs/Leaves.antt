@@ -1,5 +1,5 @@
 -- Types without children, read back: leaves, timestamps, times, intervals, fixed-size binaries, decimals.
-use mathlib.Core.Path.{_≡_, refl, sym, ap, _∙_}
+use mathlib.Core.Path.{_≡_, refl, ap, _∙_}
 use mathlib.Core.Bool.{Bool, true, false}
 use mathlib.Core.List.{List, [], _∷_, _++_, append-assoc}
 use Prim.Native.Nat.{ℕ, zero, suc, _+_, _-_, _^_, _≤_, _<_}
@@ -10,14 +10,13 @@ use borrow.Author.Tests.{ltb-true, ltb-false}
 use Rattle.tokenizer.specs.Text.{bytes, all, if_then_else_}
 use Rattle.tokenizer.specs.Answer.{Out, done}
 use Rattle.tokenizer.specs.Words.{words}
-use Rattle.tokenizer.specs.Token.{isSeparator, isDigit, sortOf, valueOf, timeUnit, intervalUnit, doubleQuoted, rparen, comma, noneWord, someWord}
-use Rattle.tokenizer.specs.declared.Token.{Token}
+use Rattle.tokenizer.specs.Token.{isSeparator, isDigit, valueOf, timeUnit, intervalUnit, doubleQuoted, rparen, noneWord, someWord}
 use Rattle.tokenizer.proofs.Basics.{skip, is-true}
-use Rattle.datatype.specs.Kind.{Shape, leaf, timestamp, time, interval, fixed, decimal, unitFits, decimalFits}
+use Rattle.datatype.specs.Kind.{leaf, timestamp, time, interval, fixed, decimal, unitFits, decimalFits}
 use Rattle.datatype.specs.Tree.{Forest, ∅, node, roots, Label, nameList, zoneOf, labels}
-use Rattle.datatype.specs.Sound.{arityFits, noChild, rulesOf, zoneFits, shapeFits, isName}
-use Rattle.datatype_parse.specs.Parse.{Zone, Tree, bareRow, scaleOf, need, stands, lengthAt, precisionAt, signedByteAt, unitAt, zoneString, zoneAt, timestampAt, timeAt, intervalAt, fixedSizeBinaryAt, scaleAt, decimalAt}
-use Rattle.datatype_display.specs.Display.{Shown, digits, unitText, intervalText, scaleText, zoneText, quoted, shapeText, shown}
+use Rattle.datatype.specs.Sound.{arityFits, noChild, rulesOf, zoneFits, shapeFits}
+use Rattle.datatype_parse.specs.Parse.{Zone, Tree, bareRow, scaleOf, unitAt, zoneString, zoneAt, timestampAt, timeAt, intervalAt, fixedSizeBinaryAt, scaleAt, decimalAt}
+use Rattle.datatype_display.specs.Display.{digits, unitText, intervalText, scaleText, zoneText, quoted, shapeText, shown}
 use Rattle.round_trip.specs.Plain.{isPlain}
 use Rattle.round_trip.proofs.Tokens.{Stop, isListedWord, isWordOf, WordOf, word-is}
 use Rattle.round_trip.proofs.PlainRows.{ShapeRow, bareLabel, no-zone}

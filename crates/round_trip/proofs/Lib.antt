@@ -11,3 +11,4 @@ pub mod Parents
 pub mod ReadBack
 pub mod Printed
 pub mod RoundTrip
+pub mod Buffers

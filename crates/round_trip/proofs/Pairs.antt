@@ -1,24 +1,24 @@
 -- RunEndEncoded's two fields, read back in the long form and in the short one.
 use mathlib.Core.Path.{_≡_, refl, sym, ap, _∙_}
 use mathlib.Core.Bool.{Bool, true, false, _&&_}
-use mathlib.Core.List.{List, [], _∷_, _++_, append-assoc}
-use Prim.Native.Nat.{ℕ, zero, suc, _+_, _-_, _≤_, _<_}
+use mathlib.Core.List.{List, _∷_, _++_, append-assoc}
+use Prim.Native.Nat.{ℕ, suc, _+_, _-_, _≤_}
 use native.Mathlib.Omega.{arith}
-use lib.ListN.{length, drop}
+use lib.ListN.{drop}
 use lib.Dec.{T, eqb}
 use Rattle.tokenizer.specs.Text.{bytes, same, if_then_else_}
-use Rattle.tokenizer.specs.Answer.{Out, done}
+use Rattle.tokenizer.specs.Answer.{Out}
 use Rattle.tokenizer.specs.Words.{words}
-use Rattle.tokenizer.specs.Token.{isSeparator, isDigit, sortOf, tokenAt, doubleQuoted, nullability, comma}
+use Rattle.tokenizer.specs.Token.{isSeparator, isDigit, tokenAt, doubleQuoted, nullability}
 use Rattle.tokenizer.proofs.Basics.{skip, of-true, and-l, and-r}
-use Rattle.datatype.specs.Tree.{Forest, ∅, node, count, Row, Label, nameList, nameOf, labels}
+use Rattle.datatype.specs.Tree.{Forest, ∅, node, count, Label, nameOf, labels}
 use Rattle.datatype.proofs.SoundTree.{same-eq}
-use Rattle.datatype_parse.specs.Parse.{Tree, run-ends, values, pair, stands, roleAt, namedRunEnds, defaultRunEnds, runEndFields}
+use Rattle.datatype_parse.specs.Parse.{Tree, run-ends, values, pair, stands, namedRunEnds, defaultRunEnds, runEndFields}
 use Rattle.datatype_display.specs.Display.{nullityText, fieldText, defaultNames, runEndText, typeText, shown}
-use Rattle.round_trip.proofs.Tokens.{Stop, isListedWord, isWordOf, word-is}
+use Rattle.round_trip.proofs.Tokens.{isListedWord, isWordOf, word-is}
 use Rattle.round_trip.proofs.PlainRows.{FieldRow}
-use Rattle.round_trip.proofs.Pieces.{Look, look-here, look-space, stands-is, need-comma, Found, found-word}
-use Rattle.round_trip.proofs.Types.{TreeRead, FieldsRead, count-read, row-role, ReadsTree}
+use Rattle.round_trip.proofs.Pieces.{look-here, look-space, stands-is, need-comma, Found, found-word}
+use Rattle.round_trip.proofs.Types.{FieldsRead, count-read, row-role, ReadsTree}
 use Rattle.round_trip.proofs.Leaves.{mark-stop, comma-stop}
 use Rattle.round_trip.proofs.Fields.{shownTree, FieldRead, field-read, DefaultRead, default-read}
 

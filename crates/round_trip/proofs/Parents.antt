@@ -1,29 +1,28 @@
 -- Types with children, read back: a reader that reads the children back reads their parent back.
 use mathlib.Core.Path.{_≡_, refl, sym, ap, _∙_}
-use mathlib.Core.Bool.{Bool, true, false}
 use mathlib.Core.List.{List, [], _∷_, _++_, map, append-assoc}
 use Prim.Native.Nat.{ℕ, zero, suc, _+_, _-_, _^_, _≤_, _<_}
 use native.Mathlib.Omega.{arith}
 use lib.ListN.{length, drop}
-use lib.Dec.{T, eqb, eqb→eq}
-use Rattle.tokenizer.specs.Text.{bytes, if_then_else_}
-use Rattle.tokenizer.specs.Answer.{Out, done}
+use lib.Dec.{eqb→eq}
+use Rattle.tokenizer.specs.Text.{bytes}
+use Rattle.tokenizer.specs.Answer.{Out}
 use Rattle.tokenizer.specs.Words.{words}
 use Rattle.tokenizer.specs.Token.{isSeparator, isDigit, valueOf, unionMode, mapSorted, xWord}
 use Rattle.tokenizer.proofs.Basics.{skip, is-true}
-use Rattle.datatype.specs.Kind.{Shape, list, fixedList, struct, union, dictionary, mapping, runEnds, entriesRefusal, idsFit}
-use Rattle.datatype.specs.Tree.{Forest, ∅, node, count, roots, Row, Label, nameList, labels}
-use Rattle.datatype.specs.Sound.{arityFits, rulesOf, shapeFits, rolesOf, idsOf, field, unionField}
-use Rattle.datatype_parse.specs.Parse.{Tree, Fields, bareRow, single, pair, itemsBy, stands, listField, structItem, unionItem, runEndFields, entriesAt, fixedListField, listAt, fixedSizeListAt, structAt, unionAt, dictionaryAt, mapAt, runEndEncodedAt}
+use Rattle.datatype.specs.Kind.{list, fixedList, struct, union, dictionary, mapping, runEnds, entriesRefusal, idsFit}
+use Rattle.datatype.specs.Tree.{Forest, ∅, node, count, roots, Label, nameList, labels}
+use Rattle.datatype.specs.Sound.{arityFits, rulesOf, shapeFits, rolesOf, idsOf}
+use Rattle.datatype_parse.specs.Parse.{Tree, single, pair, itemsBy, listField, structItem, unionItem, runEndFields, entriesAt, fixedListField, listAt, fixedSizeListAt, structAt, unionAt, dictionaryAt, mapAt, runEndEncodedAt}
 use Rattle.datatype_display.specs.Display.{digits, modeText, sortedText, fieldText, listFieldText, structText, unionText, runEndText, shapeText, typeText, shown}
 use Rattle.round_trip.proofs.Tokens.{Stop, isListedWord, isWordOf, WordOf, word-is}
-use Rattle.round_trip.proofs.PlainRows.{PlainRow, PlainRows, ShapeRow, FieldRow, field-row, field-id, bareLabel, bare-is, no-zone}
-use Rattle.round_trip.proofs.Pieces.{Look, look-here, look-space, need-lparen, need-comma, stands-is, closes, Found, found-word, need-found, NumberRead, number-read}
-use Rattle.round_trip.proofs.Types.{TreeRead, FieldsRead, count-read, row-kind, row-role, roles-read, ids-read, ReadsTree, ReadsAll, begins, bare-tree}
+use Rattle.round_trip.proofs.PlainRows.{ShapeRow, field-row, field-id, bareLabel, bare-is, no-zone}
+use Rattle.round_trip.proofs.Pieces.{look-here, look-space, need-lparen, need-comma, stands-is, closes, Found, found-word, need-found, NumberRead, number-read}
+use Rattle.round_trip.proofs.Types.{TreeRead, FieldsRead, count-read, row-kind, row-role, roles-read, ids-read, ReadsAll, begins, bare-tree}
 use Rattle.round_trip.proofs.Leaves.{mark-stop, comma-stop}
 use Rattle.round_trip.proofs.Fields.{shownTree, FieldRead, field-read, list-field-read}
 use Rattle.round_trip.proofs.Items.{struct-fields, union-fields}
-use Rattle.round_trip.proofs.Pairs.{PairRows, pair-read}
+use Rattle.round_trip.proofs.Pairs.{pair-read}
 
 roots-count : (f : Forest Label) → length (roots f) ≤ count f
 roots-count ∅ = omega arith

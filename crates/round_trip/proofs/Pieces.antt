@@ -1,16 +1,16 @@
 -- Printed pieces at a place of a text, read back: marks, words, numbers and quoted strings.
 use mathlib.Core.Path.{_≡_, refl, sym, ap, _∙_}
-use mathlib.Core.Bool.{Bool, true, false}
+use mathlib.Core.Bool.{true, false}
 use mathlib.Core.List.{List, [], _∷_, _++_, append-assoc}
-use mathlib.Core.Option.{Option, some}
-use Prim.Native.Nat.{ℕ, zero, suc, _+_, _-_, _^_, _≤_, _<_}
+use mathlib.Core.Option.{some}
+use Prim.Native.Nat.{ℕ, suc, _+_, _-_, _^_, _≤_, _<_}
 use native.Mathlib.Omega.{arith}
-use lib.ListN.{length, take, drop, length-append, length-drop}
+use lib.ListN.{length, drop, length-append, length-drop}
 use lib.Seq.{take-append-seam}
-use lib.Dec.{T, leb, eqb}
+use lib.Dec.{T, eqb}
 use borrow.Author.Tests.{le-leb}
-use Rattle.tokenizer.specs.Text.{if_then_else_, all}
-use Rattle.tokenizer.specs.Answer.{Out, done}
+use Rattle.tokenizer.specs.Text.{all}
+use Rattle.tokenizer.specs.Answer.{done}
 use Rattle.tokenizer.specs.Words.{words, find}
 use Rattle.tokenizer.specs.Token.{token, sortOf, valueOf, lparen, rparen, comma, colon, integer, doubleQuoted, singleQuoted, stringToken, tokenFrom, tokenAt}
 use Rattle.tokenizer.specs.declared.Token.{Token}
@@ -19,9 +19,9 @@ use Rattle.tokenizer.specs.declared.TokenKind.the-variants.{LParen, RParen, Com
 use Rattle.tokenizer.proofs.Basics.{skip, skip-word}
 use Rattle.datatype.specs.Tree.{Forest, Row, part}
 use Rattle.datatype.specs.Sound.{isName}
-use Rattle.datatype_parse.specs.Parse.{Tree, idOf, scaleOf, need, stands, numberIn, closeAt}
+use Rattle.datatype_parse.specs.Parse.{need, stands, numberIn, closeAt}
 use Rattle.datatype_parse.proofs.TokenLaws.{here}
-use Rattle.datatype_display.specs.Display.{digits, scaleText, quoted}
+use Rattle.datatype_display.specs.Display.{digits, quoted}
 use Rattle.round_trip.specs.Plain.{isPlain}
 use Rattle.round_trip.proofs.Tokens.{Stop, WordOf, listed-token, number-token, minus-token, until-double, until-single, escaped-plain}
 

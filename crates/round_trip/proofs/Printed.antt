@@ -1,10 +1,8 @@
 -- The printed text of a tree with plain names and zones is UTF-8, and what it has in double quotes is ASCII.
-use mathlib.Core.Path.{_≡_, refl, sym, ap, _∙_}
 use mathlib.Core.Bool.{Bool, true, false, not, _&&_, _||_}
 use mathlib.Core.List.{List, [], _∷_, _++_}
-use Prim.Native.Nat.{ℕ, zero, suc, _+_, _-_, _≤_, _<_}
+use Prim.Native.Nat.{ℕ, zero, suc, _-_, _≤_, _<_}
 use native.Mathlib.Omega.{arith}
-use lib.ListN.{length}
 use lib.Dec.{T, leb, ltb, eqb, le→leb}
 use borrow.Author.Tests.{leb-true}
 use Rattle.tokenizer.specs.Text.{bytes, all, same, if_then_else_}
@@ -16,8 +14,8 @@ use Rattle.tokenizer.proofs.Magnitude.{digit-most}
 use Rattle.tokenizer.proofs.Utf8Laws.{utf8-append, state-utf8, step-ascii}
 use Rattle.datatype.specs.Kind.{Shape, leaf, timestamp, time, interval, fixed, list, fixedList, struct, union, dictionary, decimal, mapping, runEnds, kinds, shapeOf}
 use Rattle.datatype.specs.Tree.{Forest, ∅, node, roots, Label}
-use Rattle.datatype.specs.Sound.{Place, bare}
-use Rattle.datatype.proofs.KindLaws.{allBelow, below-at}
+use Rattle.datatype.specs.Sound.{Place}
+use Rattle.datatype.proofs.KindLaws.{below-at}
 use Rattle.datatype.proofs.SoundTree.{rulesAt}
 use Rattle.datatype_display.specs.Display.{Shown, kindWord, digits, unitText, intervalText, modeText, sortedText, scaleText, quoted, nullityText, fieldText, listNameText, listFieldText, structText, unionText, zoneText, defaultNames, runEndText, shapeText, typeText, shown, display}
 use Rattle.datatype_display.specs.Print.{quotesNames, isAscii, namesAscii, quotedAscii}

@@ -1,11 +1,10 @@
 -- The printed text of a tree is read back whole: by induction over the tree, and then from the text's first byte to its last.
-use mathlib.Core.Path.{_≡_, refl, sym, ap, _∙_}
-use mathlib.Core.Bool.{Bool, true, false}
-use mathlib.Core.List.{List, [], _∷_, _++_, append-nil}
-use Prim.Native.Nat.{ℕ, zero, suc, _+_, _≤_, _<_, max}
+use mathlib.Core.Path.{_≡_, sym, _∙_}
+use mathlib.Core.Bool.{true}
+use mathlib.Core.List.{List, [], _++_, append-nil}
+use Prim.Native.Nat.{ℕ, zero, suc, _≤_}
 use native.Mathlib.Omega.{arith}
-use lib.ListN.{length, drop}
-use lib.Dec.{T}
+use lib.ListN.{drop}
 use Rattle.tokenizer.specs.Answer.{Out, done}
 use Rattle.tokenizer.specs.Token.{token, tokenAt, tokenFrom, noToken, typeWord}
 use Rattle.tokenizer.specs.declared.TokenKind.the-variants.{Refused}
@@ -13,7 +12,7 @@ use Rattle.datatype.specs.Kind.{Shape, leaf, timestamp, time, interval, fixed, 
 use Rattle.datatype.specs.Tree.{Forest, ∅, node, count, depth, Row, Label, nameList, labels}
 use Rattle.datatype.specs.Sound.{Place, bare}
 use Rattle.datatype.proofs.SoundTree.{rulesAt}
-use Rattle.datatype_parse.specs.Parse.{Tree, single, stands, shapeAt, typeWith, typeAt, textOver, wholeText}
+use Rattle.datatype_parse.specs.Parse.{Tree, single, shapeAt, typeWith, typeAt, textOver, wholeText}
 use Rattle.datatype_display.specs.Display.{shapeText, typeText, shown, display}
 use Rattle.round_trip.proofs.PlainRows.{PlainRow, PlainRows, ShapeRow, shape-row, bareLabel, bare-is}
 use Rattle.round_trip.proofs.Pieces.{look-here, stands-is, need-found}

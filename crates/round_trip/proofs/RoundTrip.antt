@@ -5,22 +5,20 @@
 --   prints          the printer gives exactly the printed text, into any room that holds it: no refusal 17, 18 or 19
 --   prints-apart    two such trees with one printed text say the same, whatever their texts and tables are
 --   not-equal       so two such trees that are not equal have different printed texts
-use mathlib.Core.Path.{_≡_, refl, sym, ap, _∙_, subst}
-use mathlib.Core.Bool.{Bool, true, false, not, _&&_}
-use mathlib.Core.List.{List, [], _∷_, _++_}
-use mathlib.Core.Option.{Option, none, some}
-use Prim.Native.Nat.{ℕ, zero, suc, _+_, _≤_, _<_, min}
+use mathlib.Core.Path.{_≡_, sym, ap, _∙_, subst}
+use mathlib.Core.Bool.{Bool, false, _&&_}
+use mathlib.Core.List.{List}
+use Prim.Native.Nat.{ℕ, suc, _≤_, min}
 use native.Mathlib.Omega.{arith}
 use lib.ListN.{length}
 use lib.Dec.{T, leb, leb→le}
 use borrow.Author.Tests.{le-leb}
-use Rattle.tokenizer.specs.Text.{if_then_else_}
 use Rattle.tokenizer.specs.Answer.{Out, done}
 use Rattle.tokenizer.specs.Utf8.{isUtf8}
 use Rattle.tokenizer.proofs.Basics.{and-l, and-r, is-true}
 use Rattle.datatype.specs.Tree.{Forest, ∅, node, count, depth, Row, Label, nameList, labelOf, labels}
-use Rattle.datatype.specs.Table.{tableOf, viewOf, treeOf}
-use Rattle.datatype.specs.Sound.{bare, rowsFit, isSound}
+use Rattle.datatype.specs.Table.{tableOf, treeOf}
+use Rattle.datatype.specs.Sound.{bare, isSound}
 use Rattle.datatype.specs.Equal.{equalTrees}
 use Rattle.datatype.proofs.SoundTree.{SoundTree, sound-tree, sound-labels}
 use Rattle.datatype.proofs.Table.{table-view}

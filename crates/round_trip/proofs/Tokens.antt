@@ -1,24 +1,23 @@
 -- The token that stands where a printed piece begins: words, numbers and quoted strings, and what may follow them.
-use mathlib.Core.Path.{_≡_, refl, sym, ap, _∙_, subst}
+use mathlib.Core.Path.{_≡_, refl, _∙_}
 use mathlib.Core.Bool.{Bool, true, false, not, _&&_, _||_}
 use mathlib.Core.List.{List, [], _∷_, _++_}
-use mathlib.Core.Option.{Option, none, some, Option·map}
-use Prim.Native.Nat.{ℕ, zero, suc, _+_, _-_, _^_, _≤_, _<_}
+use mathlib.Core.Option.{some}
+use Prim.Native.Nat.{ℕ, suc, _-_, _^_, _≤_, _<_}
 use native.Mathlib.Omega.{arith}
 use lib.ListN.{length}
 use lib.Dec.{T, leb, eqb, eqb→eq}
 use borrow.Author.Tests.{ne-eqb, le-leb, le-ltb, leb-true}
-use Rattle.tokenizer.specs.Text.{if_then_else_, all}
-use Rattle.tokenizer.specs.Words.{Listed, words, find}
-use Rattle.tokenizer.specs.Token.{token, sortOf, valueOf, typeWord, isSeparator, wordOf, isDigit, numberFrom, wordKind, untilQuote, stringToken, tokenFrom}
-use Rattle.tokenizer.specs.declared.Token.{Token}
+use Rattle.tokenizer.specs.Text.{all}
+use Rattle.tokenizer.specs.Words.{words, find}
+use Rattle.tokenizer.specs.Token.{token, sortOf, valueOf, typeWord, isSeparator, wordOf, isDigit, wordKind, untilQuote, tokenFrom}
 use Rattle.tokenizer.specs.declared.TokenKind.{TokenKind}
 use Rattle.tokenizer.specs.declared.TokenKind.the-variants.{Integer}
-use Rattle.tokenizer.proofs.Basics.{and-l, and-r, both, is-true, is-false, of-true, of-false}
+use Rattle.tokenizer.proofs.Basics.{and-l, and-r, both, is-true, is-false, of-false}
 use Rattle.tokenizer.proofs.Magnitude.{digit-least, digit-most}
 use Rattle.tokenizer.proofs.Marks.{not-separator}
 use Rattle.datatype.specs.Kind.{kinds}
-use Rattle.datatype.proofs.KindLaws.{allBelow, below-at}
+use Rattle.datatype.proofs.KindLaws.{below-at}
 use Rattle.datatype_display.specs.Display.{kindWord, digits, escape, escaped}
 use Rattle.round_trip.specs.Plain.{isPlain}
 use Rattle.round_trip.proofs.Decimals.{Spelled, digits-spell}

@@ -2,14 +2,13 @@
 use mathlib.Core.Path.{_≡_, refl, sym, ap, _∙_, subst}
 use mathlib.Core.Bool.{Bool, true, false, _||_}
 use mathlib.Core.List.{List, [], _∷_, _++_, map, append-assoc}
-use Prim.Native.Nat.{ℕ, zero, suc, _+_, _≤_, _<_}
-use native.Mathlib.Omega.{arith}
-use lib.ListN.{length, take, drop}
-use lib.Dec.{T, leb, eqb, eqb→eq, leb·zero}
+use Prim.Native.Nat.{ℕ, suc, _+_, _≤_, _<_}
+use lib.ListN.{length, drop}
+use lib.Dec.{T, eqb, eqb→eq, leb·zero}
 use Rattle.tokenizer.specs.Text.{bytes, if_then_else_}
 use Rattle.tokenizer.specs.Answer.{Out, done}
 use Rattle.tokenizer.specs.Words.{words}
-use Rattle.tokenizer.specs.Token.{sortOf, isSeparator, isDigit, typeWord, nullability}
+use Rattle.tokenizer.specs.Token.{isSeparator, isDigit, typeWord, nullability}
 use Rattle.tokenizer.proofs.Basics.{of-true}
 use Rattle.datatype.specs.Kind.{Shape, leaf, timestamp, time, interval, fixed, list, fixedList, struct, union, dictionary, decimal, mapping, runEnds, kinds, shapeOf}
 use Rattle.datatype.specs.Tree.{Forest, ∅, node, count, roots, Row, Label, nameList, nameOf, zoneOf, labelOf, labels}
@@ -141,9 +140,6 @@ module _ (text : List ℕ) where
   unfolding nullityText isWordOf isListedWord words isSeparator isDigit
   role-read l kids at p rest lt st ro = go (eqb (l .role) 2) refl
     where
-      tail : List ℕ
-      tail = typeText l (shown kids) ++ rest
-
       go : (b : Bool) → eqb (l .role) 2 ≡ b → Look text at p ((if b then bytes "non-null " else []) ++ (typeText l (shown kids) ++ rest)) → RoleRead l kids at rest
       go true e k =
           role-word l kids at rest lt st (eqb→eq (l .role) 2 (of-true _ e))
