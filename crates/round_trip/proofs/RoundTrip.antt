@@ -11,11 +11,11 @@ use mathlib.Core.List.{List}
 use Prim.Native.Nat.{ℕ, suc, _≤_, min}
 use native.Mathlib.Omega.{arith}
 use lib.ListN.{length}
-use lib.Dec.{T, leb, leb→le}
+use lib.Dec.{T, leb, leb→le, le→leb}
 use borrow.Author.Tests.{le-leb}
 use Rattle.tokenizer.specs.Answer.{Out, done}
 use Rattle.tokenizer.specs.Utf8.{isUtf8}
-use Rattle.tokenizer.proofs.Basics.{and-l, and-r, is-true}
+use Rattle.tokenizer.proofs.Basics.{and-l, and-r, both, is-true}
 use Rattle.datatype.specs.Tree.{Forest, ∅, node, count, depth, Row, Label, nameList, labelOf, labels}
 use Rattle.datatype.specs.Table.{tableOf, treeOf}
 use Rattle.datatype.specs.Sound.{bare, isSound}
@@ -64,6 +64,15 @@ conditions text names table h =
       plain = and-r a b (and-l (a && b) c h);
       short = leb→le (length (printed text names table)) 16384 (and-r (a && b) c h);
     }
+
+-- the other way round: a sound tree, plain names and zones, a printed text that is not too long
+pub in-demand3 : (text names table : List ℕ) → T (isSound text names table) → T (isPlainTree text names table) → length (printed text names table) ≤ 16384
+    → T (inDemand3 text names table)
+unfolding inDemand3
+in-demand3 text names table s p l =
+    let a : Bool = isSound text names table in
+    let b : Bool = isPlainTree text names table in
+    both (a && b) (leb (length (printed text names table)) 16384) (both a b s p) (le→leb (length (printed text names table)) 16384 l)
 
 module _ (text names table : List ℕ) (c : Conditions text names table) where
   abbrev rootRow : Row
