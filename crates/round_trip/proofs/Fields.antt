@@ -20,8 +20,7 @@ use Rattle.round_trip.specs.Plain.{isPlain}
 use Rattle.round_trip.proofs.Tokens.{Stop, isListedWord, isWordOf, word-is}
 use Rattle.round_trip.proofs.PlainRows.{FieldRow, bareLabel}
 use Rattle.round_trip.proofs.Pieces.{Look, look-space, need-comma, need-colon, rparen-stands, comma-stands, Found, found-word, need-found, Quoted, need-quoted, double-read, single-read}
-use Rattle.round_trip.proofs.Types as types
-use Rattle.round_trip.proofs.Types.{TreeRead, ReadsTree, RoleRead, role-read}
+use Rattle.round_trip.proofs.Types.{TreeRead, ReadsTree, RoleRead, role-read, as-field}
 
 -- a tree with its printed type
 abbrev pub shownTree : Label → Forest Label → Shown
@@ -45,7 +44,7 @@ module _ (text : List ℕ) (type : ℕ → ℕ → Out Tree) where
           got = record { row = fieldRow (roleAt text (q .token .next + 1)) id (textName (q .token)) (g .got .row); kids = g .got .kids; next = g .got .next };
           reads = rw (need-quoted text doubleQuoted at (l .name) (58 ∷ t) q, need-colon text (q .token .next) t (q .after), g .reads);
           after = g .after;
-          row = types.field-row text l (g .got .row) (roleAt text (q .token .next + 1)) id (textName (q .token)) (g .row) (r .role) i (q .bytes);
+          row = as-field text l (g .got .row) (roleAt text (q .token .next + 1)) id (textName (q .token)) (g .row) (r .role) i (q .bytes);
           below = g .below;
         };
       }
@@ -82,7 +81,7 @@ module _ (text : List ℕ) (type : ℕ → ℕ → Out Tree) where
         got = record { row = fieldRow (roleAt text at) 0 n (t .got .row); kids = t .got .kids; next = t .got .next };
         reads = rw (t .reads);
         after = t .after;
-        row = types.field-row text l (t .got .row) (roleAt text at) 0 n (t .row) (r .role) i b;
+        row = as-field text l (t .got .row) (roleAt text at) 0 n (t .row) (r .role) i b;
         below = t .below;
       }
 
@@ -159,7 +158,7 @@ module _ (text : List ℕ) (type : ℕ → ℕ → Out Tree) where
           got = record { row = fieldRow (roleAt text at) 0 (textName (n .token)) (g .got .row); kids = g .got .kids; next = n .token .next };
           reads = rw (g .reads, comma-stands text (g .got .next) t comma (g .after), need-comma text (g .got .next) t (g .after), n .reads);
           after = n .after;
-          row = types.field-row text l (g .got .row) (roleAt text at) 0 (textName (n .token)) (g .row) (r .role) (sym i) (n .bytes);
+          row = as-field text l (g .got .row) (roleAt text at) 0 (textName (n .token)) (g .row) (r .role) (sym i) (n .bytes);
           below = g .below;
         }
 

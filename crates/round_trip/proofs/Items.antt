@@ -17,10 +17,10 @@ use Rattle.datatype_parse.specs.Parse as P
 use Rattle.datatype_parse.specs.Parse.{Tree, Item, end, last, more, single, idOf, stands, itemsBy, fieldAt, structItem, unionItem}
 use Rattle.datatype_parse.proofs.TokenLaws.{here}
 use Rattle.datatype_display.specs.Display.{digits, fieldText, structText, unionText, shown}
+use Rattle.round_trip.proofs.Tokens.{mark-stop, comma-stop}
 use Rattle.round_trip.proofs.PlainRows.{PlainRows, FieldRow, field-row, union-row, field-id, union-id}
 use Rattle.round_trip.proofs.Pieces.{Look, look-here, look-space, stands-is, rparen-token, need-lparen-behind, need-rparen, need-comma, need-colon, rparen-stands, comma-stands, closes, NumberRead, number-read}
 use Rattle.round_trip.proofs.Types.{TreeRead, FieldsRead, count-read, ReadsTree, ReadsAll}
-use Rattle.round_trip.proofs.Leaves.{mark-stop, comma-stop}
 use Rattle.round_trip.proofs.Fields.{shownTree, FieldRead, field-read}
 
 module _ (text : List ℕ) where

@@ -18,7 +18,7 @@ use Rattle.datatype.specs.Sound.{arityFits, noChild, rulesOf, zoneFits, shapeFi
 use Rattle.datatype_parse.specs.Parse.{Zone, Tree, bareRow, scaleOf, unitAt, zoneString, zoneAt, timestampAt, timeAt, intervalAt, fixedSizeBinaryAt, scaleAt, decimalAt}
 use Rattle.datatype_display.specs.Display.{digits, unitText, intervalText, scaleText, zoneText, quoted, shapeText, shown}
 use Rattle.round_trip.specs.Plain.{isPlain}
-use Rattle.round_trip.proofs.Tokens.{Stop, isListedWord, isWordOf, WordOf, word-is}
+use Rattle.round_trip.proofs.Tokens.{Stop, mark-stop, comma-stop, isListedWord, isWordOf, WordOf, word-is}
 use Rattle.round_trip.proofs.PlainRows.{ShapeRow, bareLabel, no-zone}
 use Rattle.round_trip.proofs.Pieces.{Look, look-here, look-space, need-lparen, need-rparen, need-comma, rparen-stands, comma-stands, stands-is, closes, Found, found-word, need-found, NumberRead, number-read, minus-read, Quoted, need-quoted, double-read}
 use Rattle.round_trip.proofs.Types.{TreeRead, zone-none, bare-row, bare-tree}
@@ -44,13 +44,6 @@ no-kids : (kids : Forest Label) → T (arityFits noChild (length (roots kids))) 
 unfolding arityFits
 no-kids ∅ h = refl
 no-kids (node l k n) h = absurd h
-
--- a word or a number that ends at a mark
-pub mark-stop : (s : List ℕ) → Stop (41 ∷ s)
-mark-stop s = unfold isSeparator in tt
-
-pub comma-stop : (s : List ℕ) → Stop (44 ∷ s)
-comma-stop s = unfold isSeparator in tt
 
 module _ (text : List ℕ) where
   nothing-below : labels text nameList ∅ ≡ ∅

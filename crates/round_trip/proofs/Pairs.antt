@@ -15,11 +15,10 @@ use Rattle.datatype.specs.Tree.{Forest, ∅, node, count, Label, nameOf, labels
 use Rattle.datatype.proofs.SoundTree.{same-eq}
 use Rattle.datatype_parse.specs.Parse.{Tree, run-ends, values, pair, stands, namedRunEnds, defaultRunEnds, runEndFields}
 use Rattle.datatype_display.specs.Display.{nullityText, fieldText, defaultNames, runEndText, typeText, shown}
-use Rattle.round_trip.proofs.Tokens.{isListedWord, isWordOf, word-is}
+use Rattle.round_trip.proofs.Tokens.{mark-stop, comma-stop, isListedWord, isWordOf, word-is}
 use Rattle.round_trip.proofs.PlainRows.{FieldRow}
 use Rattle.round_trip.proofs.Pieces.{look-here, look-space, stands-is, need-comma, Found, found-word}
 use Rattle.round_trip.proofs.Types.{FieldsRead, count-read, row-role, ReadsTree}
-use Rattle.round_trip.proofs.Leaves.{mark-stop, comma-stop}
 use Rattle.round_trip.proofs.Fields.{shownTree, FieldRead, field-read, DefaultRead, default-read}
 
 -- what is known of the run ends m and the values n

@@ -15,11 +15,10 @@ use Rattle.datatype.specs.Tree.{Forest, ∅, node, count, roots, Label, nameLis
 use Rattle.datatype.specs.Sound.{arityFits, rulesOf, shapeFits, rolesOf, idsOf}
 use Rattle.datatype_parse.specs.Parse.{Tree, single, pair, itemsBy, listField, structItem, unionItem, runEndFields, entriesAt, fixedListField, listAt, fixedSizeListAt, structAt, unionAt, dictionaryAt, mapAt, runEndEncodedAt}
 use Rattle.datatype_display.specs.Display.{digits, modeText, sortedText, fieldText, listFieldText, structText, unionText, runEndText, shapeText, typeText, shown}
-use Rattle.round_trip.proofs.Tokens.{Stop, isListedWord, isWordOf, WordOf, word-is}
+use Rattle.round_trip.proofs.Tokens.{Stop, mark-stop, comma-stop, isListedWord, isWordOf, WordOf, word-is}
 use Rattle.round_trip.proofs.PlainRows.{ShapeRow, field-row, field-id, bareLabel, bare-is, no-zone}
 use Rattle.round_trip.proofs.Pieces.{look-here, look-space, need-lparen, need-comma, stands-is, closes, Found, found-word, need-found, NumberRead, number-read}
 use Rattle.round_trip.proofs.Types.{TreeRead, FieldsRead, count-read, row-kind, row-role, roles-read, ids-read, ReadsAll, begins, bare-tree}
-use Rattle.round_trip.proofs.Leaves.{mark-stop, comma-stop}
 use Rattle.round_trip.proofs.Fields.{shownTree, FieldRead, field-read, list-field-read}
 use Rattle.round_trip.proofs.Items.{struct-fields, union-fields}
 use Rattle.round_trip.proofs.Pairs.{pair-read}

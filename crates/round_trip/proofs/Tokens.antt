@@ -29,6 +29,12 @@ abbrev pub Stop : List ℕ → Type 0
 Stop [] = Unit {0}
 Stop (c ∷ s) = T (isSeparator c)
 
+pub mark-stop : (s : List ℕ) → Stop (41 ∷ s)
+mark-stop s = unfold isSeparator in tt
+
+pub comma-stop : (s : List ℕ) → Stop (44 ∷ s)
+comma-stop s = unfold isSeparator in tt
+
 abbrev pub inWord : ℕ → Bool
 inWord c = not (isSeparator c)
 

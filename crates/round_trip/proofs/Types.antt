@@ -157,10 +157,10 @@ module _ (text : List ℕ) where
   unfolding labelOf nameOf
   bare-row l param scale start size p s z = λ j. record { kind = l .kind; role = 0; id = 0; param = p j; scale = s j; name = []; zone = z j }
 
-  pub field-row : (l : Label) (r : Row) (role id : ℕ) (n : Name) → labelOf text nameList r ≡ bareLabel l → role ≡ l .role → id ≡ l .id
+  pub as-field : (l : Label) (r : Row) (role id : ℕ) (n : Name) → labelOf text nameList r ≡ bareLabel l → role ≡ l .role → id ≡ l .id
       → nameOf text nameList (n .home) (n .start) (n .size) ≡ l .name → labelOf text nameList (fieldRow role id n r) ≡ l
   unfolding labelOf
-  field-row l r role id n h e i p =
+  as-field l r role id n h e i p =
       λ j. record { kind = (h j) .kind; role = e j; id = i j; param = (h j) .param; scale = (h j) .scale; name = p j; zone = (h j) .zone }
 
   -- a type that is no field and has no zone, over children that were read
