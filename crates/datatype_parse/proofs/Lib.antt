@@ -14,3 +14,5 @@ pub mod Types
 pub mod Entries
 pub mod Whole
 pub mod MoreRows
+pub mod TokenFacts
+pub mod SoundRows
