@@ -16,3 +16,4 @@ pub mod Whole
 pub mod MoreRows
 pub mod TokenFacts
 pub mod SoundRows
+pub mod ReadSound

@@ -38,6 +38,10 @@ holds-when P false x y p q = q
 
 -- ---- values
 
+-- a number lies within its limits
+abbrev pub Limited : ℕ → ℕ → Token → Type 0
+Limited least most t = valueOf (t .kind) ≤ (if isNegative (t .kind) then least else most)
+
 module _ (text : List ℕ) where
   -- a value is one of its sort's
   pub need-value : (sort at : ℕ) → Holds (λ (t : Token). T (Marks.inRange sort (valueOf (t .kind)))) (need text sort at)
@@ -65,10 +69,6 @@ module _ (text : List ℕ) where
           one-two (valueOf ((tokenAt text at) .kind)) (Marks.nullability-least text at s) (Marks.nullability-most text at s)
       go false e = tt
 
-  -- a number lies within its limits
-  abbrev pub Limited : ℕ → ℕ → Token → Type 0
-  Limited least most t = valueOf (t .kind) ≤ (if isNegative (t .kind) then least else most)
-
   pub number-limited : (least most at : ℕ) → Holds (Limited least most) (numberIn text least most at)
   unfolding numberIn
   number-limited least most at =
@@ -83,9 +83,12 @@ module _ (text : List ℕ) where
       (need text timeUnit at) _ (need-value timeUnit at) λ t h.
       holds-when (λ (t : Token). T (ltb (valueOf (t .kind)) 4) × T (unitFits k (valueOf (t .kind)))) (unitFits k (valueOf (t .kind))) (done t) (refuse 11) (λ e. (h, e)) tt
 
-pub limit-most : (b : Bool) (v most : ℕ) → v ≤ (if b then 0 else most) → v ≤ most
-limit-most true v most h = omega arith
-limit-most false v most h = h
+pub limit-most : (k : TokenKind) (most : ℕ) → valueOf k ≤ (if isNegative k then 0 else most) → valueOf k ≤ most
+limit-most k most = go (isNegative k) (valueOf k)
+  where
+    go : (b : Bool) (v : ℕ) → v ≤ (if b then 0 else most) → v ≤ most
+    go true v h = omega arith
+    go false v h = h
 
 pub scale-most : (k : TokenKind) → valueOf k ≤ (if isNegative k then 128 else 127) → scaleOf k < 256
 scale-most k = go (isNegative k) (valueOf k)
