@@ -1,12 +1,12 @@
 -- Runs of sound rows, put together as the reader puts them together: a type over its children, a type made a field, and
 -- a field before the fields that follow it.
-use mathlib.Core.Path.{_≡_, refl, sym, subst}
+use mathlib.Core.Path.{_≡_, sym, subst}
 use mathlib.Core.Bool.{Bool, true, false, not, _&&_, _||_}
 use mathlib.Core.List.{List, [], _∷_, map}
-use Prim.Native.Nat.{ℕ, zero, suc, _+_, _-_, _≤_, _<_}
+use Prim.Native.Nat.{ℕ, zero, suc, _-_, _≤_, _<_}
 use native.Mathlib.Omega.{arith}
 use lib.ListN.{length}
-use lib.Dec.{T, leb, ltb, eqb, lt→ltb}
+use lib.Dec.{T, ltb, eqb, lt→ltb}
 use Rattle.tokenizer.proofs.Basics.{and-l, and-r, both}
 use Rattle.datatype.specs.Kind.{Shape, kinds, shapeOf, has, idsFit}
 use Rattle.datatype.specs.Tree.{Forest, ∅, node, count, roots, Row, labels}
@@ -153,6 +153,10 @@ module _ (text : List ℕ) where
   pub record Fits (place : Place) (level rows : ℕ) (f : Forest Row) : Type 0 where
     pub run : T (idsAllow place (ids f)) → Run text place level f
     pub few : count f ≤ rows
+
+  -- A type or a field.
+  abbrev pub Typed : Place → ℕ → ℕ → Tree → Type 0
+  Typed place level rows t = Fits place level rows (single t)
 
   pub fits-none : (place : Place) (level rows : ℕ) → Fits place level rows ∅
   fits-none place level rows = record { run = λ t. run-empty place level; few = omega arith }

@@ -1,31 +1,29 @@
 -- What is known of the tokens that the reader takes: their values, and that the string between two marks is a part of
 -- the text that cuts no character.
-use mathlib.Core.Path.{_≡_, refl, sym, ap, _∙_, subst}
+use mathlib.Core.Path.{_≡_, refl, sym, _∙_, subst}
 use mathlib.Core.Bool.{Bool, true, false, not, _&&_, _||_}
 use mathlib.Core.List.{List, [], _∷_}
 use mathlib.Core.Option.{Option, none, some, Option·map}
-use Prim.Native.Nat.{ℕ, zero, suc, _+_, _-_, _^_, _≤_, _<_}
+use Prim.Native.Nat.{ℕ, zero, suc, _+_, _-_, _≤_, _<_}
 use native.Mathlib.Omega.{arith}
 use lib.ListN.{length, take, drop, getD, length-drop}
 use lib.Seq.{drop-cons, take-add, getD-drop}
-use lib.Dec.{T, leb, ltb, eqb, leb→le, le→leb, ltb→lt, eqb→eq}
+use lib.Dec.{T, leb, ltb, eqb, leb→le, eqb→eq}
 use borrow.Author.Tests.{le-leb, ne-eqb, eqb-true}
 use Rattle.tokenizer.specs.Text.{if_then_else_}
-use Rattle.tokenizer.specs.Answer.{Out, refused, done, refuse, _>>=_}
-use Rattle.tokenizer.specs.Utf8.{utf8State, utf8Step, isUtf8}
+use Rattle.tokenizer.specs.Answer.{Out, done, refuse}
+use Rattle.tokenizer.specs.Utf8.{utf8State, isUtf8}
 use Rattle.tokenizer.specs.Words.{words}
 use Rattle.tokenizer.specs.Places.{afterSpaces}
 use Rattle.tokenizer.specs.Token.{tokenAt, sortOf, valueOf, isNegative, wordOf, wordKind, escapedAfter, untilQuote, stringToken, integer, doubleQuoted, singleQuoted, fieldWord, colon, timeUnit, nullability, lparen, rparen, comma, noneWord, someWord}
-use Rattle.tokenizer.specs.Ends.{closes}
 use Rattle.tokenizer.specs.declared.Token.{Token}
 use Rattle.tokenizer.specs.declared.TokenKind.{TokenKind}
 use Rattle.tokenizer.specs.declared.TokenKind.the-variants.{DoubleQuotedString, SingleQuotedString}
-use Rattle.tokenizer.proofs.Basics.{and-l, and-r, both, is-true, of-true}
+use Rattle.tokenizer.proofs.Basics.{and-l}
 use Rattle.tokenizer.proofs.Runs.{Within, until-within}
 use Rattle.tokenizer.proofs.Marks as Marks
 use Rattle.tokenizer.proofs.Utf8Laws.{state-append, step-ascii}
 use Rattle.datatype.specs.Kind.{unitFits}
-use Rattle.datatype.specs.Tree.{part}
 use Rattle.datatype.specs.Check.{boundary, partFits, zoneOk}
 use Rattle.datatype.proofs.Boundary.{boundary-low, part-utf8}
 use Rattle.datatype_parse.specs.Parse.{Zone, refusalOf, scaleOf, need, stands, roleAt, numberIn, unitAt, listNameAt, someZone, zoneString, zoneAt}
