@@ -14,3 +14,8 @@ pub mod Types
 pub mod Entries
 pub mod Whole
 pub mod MoreRows
+pub mod TokenFacts
+pub mod SoundRows
+pub mod SoundLeaves
+pub mod SoundFields
+pub mod ReadSound

@@ -215,21 +215,22 @@ more-rows text r s tree h e = kept (parse text r) (parse text s) (parse-up text 
 
 -- ---- the public reader
 
+-- the first words of a buffer that was filled are the tree's table
+pub filled-rows : (n : ℕ) (words : List ℕ) (f : Forest Row) → count f ≡ n → take (rowWords * n) (filled words (done f)) ≡ tableOf f
+filled-rows n words f e =
+    ap (λ (k : ℕ). take k (tableOf f ++ drop (length (tableOf f)) words)) (ap (λ (k : ℕ). rowWords * k) (sym e) ∙ sym (length-table f))
+    ∙ take-append-seam (tableOf f) (drop (length (tableOf f)) words)
+
 module _ (before before′ : List ℕ) (n : ℕ) where
   abbrev Agrees : Out (Forest Row) → Out (Forest Row) → Type 0
   Agrees o p = (rowCount p ≡ done n) × (take (rowWords * n) (filled before′ p) ≡ take (rowWords * n) (filled before o))
-
-  filled-rows : (words : List ℕ) (f : Forest Row) → count f ≡ n → take (rowWords * n) (filled words (done f)) ≡ tableOf f
-  filled-rows words f e =
-      ap (λ (k : ℕ). take k (tableOf f ++ drop (length (tableOf f)) words)) (ap (λ (k : ℕ). rowWords * k) (sym e) ∙ sym (length-table f))
-      ∙ take-append-seam (tableOf f) (drop (length (tableOf f)) words)
 
   agrees : (o p : Out (Forest Row)) → Keeps o p → rowCount o ≡ done n → Agrees o p
   unfolding Keeps
   agrees (refused r) p k e = absurd (let z : _≡_ {A = ℕ} 0 1 = cc in omega arith)
   agrees (done f) p k e =
       let c : count f ≡ n = cc in
-      (ap rowCount k ∙ e, ap (λ (q : Out (Forest Row)). take (rowWords * n) (filled before′ q)) k ∙ filled-rows before′ f c ∙ sym (filled-rows before f c))
+      (ap rowCount k ∙ e, ap (λ (q : Out (Forest Row)). take (rowWords * n) (filled before′ q)) k ∙ filled-rows n before′ f c ∙ sym (filled-rows n before f c))
 
 -- Lending more rows changes nothing of an accepted text: the answer and the rows are the same.
 pub more-lent : (text before before′ : List ℕ) (n : ℕ) → rowsLent (length before) ≤ rowsLent (length before′) → parseAnswer text before ≡ done n
