@@ -9,6 +9,7 @@ use lib.Dec.{T}
 use Rattle.tokenizer.specs.Answer.{done}
 use Rattle.datatype.specs.Tree.{Forest, count, Row}
 use Rattle.datatype.specs.Table.{rowWords, tableOf, treeOf, rowsLent}
+use Rattle.datatype.specs.Sound.{isSound}
 use Rattle.datatype.specs.Equal.{equalTrees}
 use Rattle.datatype.proofs.Table.{length-table}
 use Rattle.datatype_parse.specs.Parse.{parse, filled, parseAnswer, parseRows}
@@ -48,7 +49,9 @@ filled-start words f n e =
 pub record ReadAnswer (text names table words : List ℕ) : Type 0 where
   -- it answers the tree's row count
   pub answer : parseAnswer (printed text names table) words ≡ done (count (treeOf text names table))
-  -- the rows filled, with those bytes as their text and the same name list, are equal to the tree printed
+  -- the rows filled, with those bytes as their text and the same name list, are a sound tree
+  pub sound : T (isSound (printed text names table) names (take (rowWords * count (treeOf text names table)) (parseRows (printed text names table) words)))
+  -- equal to the one printed
   pub equal : T (equalTrees (printed text names table) names text names (take (rowWords * count (treeOf text names table)) (parseRows (printed text names table) words)) table)
   -- they are the table of the tree that is read
   pub back : Forest Row
@@ -67,6 +70,7 @@ read-answer text names table words h room = go (conditions text names table h) (
         let rows : take (rowWords * n) (parseRows (printed text names table) words) ≡ tableOf (r .back) = rw reads (filled-start words (r .back) n (r .rows)) in
         record {
           answer = rw reads (ap done (r .rows));
+          sound = rw rows (subst (λ (l : List ℕ). T (isSound (printed text names table) l (tableOf (r .back)))) (sym (c .tree .listed)) (r .sound));
           equal =
               rw rows
               (subst (λ (l : List ℕ). T (equalTrees (printed text names table) l text names (tableOf (r .back)) table)) (sym (c .tree .listed)) (r .equal));

@@ -1,6 +1,6 @@
 -- Demand 3 on the definitions. For every text, name list and table that meet its conditions (`inDemand3`):
 --   round-trip      the printed text is accepted, with any number of rows lent that holds the tree, and the tree that is
---                   read says the same as the one printed: it has as many rows, and the two are equal trees
+--                   read is sound and says the same as the one printed: it has as many rows, and the two are equal trees
 --   printed-utf8    the printed text is UTF-8
 --   prints          the printer gives exactly the printed text, into any room that holds it: no refusal 17, 18 or 19
 --   prints-apart    two such trees with one printed text say the same, whatever their texts and tables are
@@ -27,6 +27,7 @@ use Rattle.datatype.proofs.LevelLaws.{depth-labels}
 use Rattle.datatype.proofs.Equivalence.{labels-equal}
 use Rattle.datatype_parse.specs.Parse.{wholeText, parse}
 use Rattle.datatype_parse.proofs.MoreRows.{more-rows}
+use Rattle.datatype_parse.proofs.ReadSound.{read-sound}
 use Rattle.datatype_display.specs.Display.{display}
 use Rattle.datatype_display.specs.Print.{quotedAscii, print}
 use Rattle.round_trip.specs.Plain.{allPlain, isPlainTree, printed, inDemand3}
@@ -129,6 +130,8 @@ pub record RoundTrip (text names table : List ℕ) : Type 0 where
   pub rows : count back ≡ count (treeOf text names table)
   -- and so they are equal trees by document 01's rule
   pub equal : T (equalTrees (printed text names table) nameList text names (tableOf back) table)
+  -- its table is sound over the printed text
+  pub sound : T (isSound (printed text names table) nameList (tableOf back))
 
 module _ (text names table : List ℕ) (c : Conditions text names table) where
   abbrev tree : Forest Label
@@ -137,6 +140,7 @@ module _ (text names table : List ℕ) (c : Conditions text names table) where
   with-tree : (p : PlainTree tree) → WholeRead tree (count tree) → RoundTrip text names table
   with-tree p w =
       let first : parse (display tree) (count tree) ≡ done (w .back) = parse-whole (display tree) (count tree) (w .back) (c .short) (tree-utf8 tree p) (w .reads) in
+      let lent : parse (display tree) 1024 ≡ done (w .back) = more-rows (display tree) (count tree) 1024 (w .back) (tree-few tree p) first in
       let f : Forest Row = node (c .tree .root) (c .tree .kids) ∅ in
       let same : labels (display tree) nameList (w .back) ≡ labels text names f = w .says ∙ sound-labels text names table (c .tree) in
       record {
@@ -148,6 +152,7 @@ module _ (text names table : List ℕ) (c : Conditions text names table) where
         equal =
             subst (λ (t : List ℕ). T (equalTrees (display tree) nameList text names (tableOf (w .back)) t)) (table-view table f (c .tree .view))
             (labels-equal (display tree) nameList text names (w .back) f same);
+        sound = read-sound (display tree) 1024 (w .back) lent (omega arith);
       }
 
 pub round-trip : (text names table : List ℕ) → T (inDemand3 text names table) → RoundTrip text names table
