@@ -3,7 +3,9 @@
 ghost use mathlib.Core.Path.{_≡_};
 ghost use Rattle.tokenizer.specs.Token.{tokenAt};
 ghost use Rattle.token_stream.specs.Stream.{startOf, tokenOf, movedOn};
+ghost use Rattle.token_stream.specs.Count.{countTokens};
 use tokenizer::Token;
+use tokenizer::TokenKind;
 use tokenizer::next_token;
 
 pub struct Tokenizer<'a> {
@@ -54,4 +56,29 @@ pub fn token_from(text: &[u8], at: usize) -> Token
 {
     let tokens = Tokenizer { text, at };
     tokens.peek()
+}
+
+// How many tokens are read one behind another, and what ends them: 5 at the text's end, else what the next token is
+// refused with.
+pub struct TokenCount {
+    pub tokens: usize,
+    pub refusal: u32,
+}
+
+// Counts the tokens of a text.
+pub fn count_tokens(text: &[u8]) -> TokenCount
+    ensures { λ r. ⌜ r ≡ countTokens (now (text .entry)) ⌝ }
+{
+    let mut at = 0;
+    let mut tokens = 0;
+    while at < text.len() {
+        let token = token_from(text, at);
+        let kind = token.kind;
+        if let TokenKind::Refused(refusal) = kind {
+            return TokenCount { tokens, refusal };
+        }
+        at = token.next;
+        tokens += 1;
+    }
+    TokenCount { tokens, refusal: 5 }
 }
