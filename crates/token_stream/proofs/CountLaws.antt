@@ -1,6 +1,6 @@
 -- Tokens that are read one behind another: what the loop that counts them meets.
 use mathlib.Core.Path.{_≡_, refl, sym, ap, _∙_, subst}
-use mathlib.Core.Bool.{Bool, true, false}
+use mathlib.Core.Bool.{true, false}
 use mathlib.Core.List.{List, [], _∷_}
 use mathlib.Core.Option.{Option, none, some}
 use Prim.Native.Nat.{ℕ, zero, suc, _+_, _≤_, _<_}
@@ -17,7 +17,6 @@ use Rattle.tokenizer.specs.declared.TokenKind.the-variants.{LParen, RParen, Com
 use Rattle.tokenizer.proofs.Runs.{spaces-end, word-part, Within, until-within}
 use Rattle.tokenizer.proofs.Marks.{by-cases, word-first}
 use Rattle.token_stream.specs.Count.{isRead, tokensFrom, tokensOf, placeBehind, countTokens}
-use Rattle.token_stream.specs.declared.TokenCount.{TokenCount}
 
 -- ---- a token that is read takes a byte at least, and lies in the text
 

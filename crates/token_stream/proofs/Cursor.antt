@@ -15,7 +15,7 @@ use prog.Routine.{Routine}
 use prog.Wp.{Heap}
 use ghost.Atoms.{Atoms, sem}
 use contract.Monad.{Fun, fact}
-use types.Kit.{Given, ‵, raw, _⊛_, given, ⋆, _$_, _∵_, !, qed, move, drop, use1, use2, split, join, learn, fsplit, fjoin, frame, done}
+use types.Kit.{Given, ‵, raw, _⊛_, given, ⋆, _$_, _∵_, !, qed, move, drop, use1, use2, split, join, learn, fjoin, frame, done}
 use denote.RattleType.{owns}
 use denote.Laws.{Is}
 use denote.Plain.{uint-makes}

@@ -1,7 +1,5 @@
 -- `count_tokens` meets its contract. The loop keeps the tokens that are left, as seen from the place reached.
-use mathlib.Core.Path.{_≡_, ap}
-use Prim.Native.Nat.{_-_, _<_}
-use native.Mathlib.Omega.{arith}
+use Prim.Native.Nat.{_-_}
 use lib.ListN.{length}
 use borrow.Author.Needs.{needs}
 use Rattle.token_stream.proofs.CountLaws.{Turn, turn-start, turn-stop, turn-step, step-moves, turn-end, other-tag}
