@@ -40,7 +40,7 @@ impl<'a> Tokenizer<'a> {
     }
 
     // The token at the place, and the place moves behind it.
-    pub fn next<'s>(self: &'s mut Tokenizer<'a>) -> Token
+    pub fn next(&mut self) -> Token
         ensures { λ r. ⌜ (r ≡ tokenOf (now (self .entry))) × (now (self .exit) ≡ movedOn (now (self .entry))) ⌝ }
     {
         let token = next_token(self.text, self.at);
