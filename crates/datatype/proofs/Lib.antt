@@ -5,6 +5,7 @@ pub mod Names
 pub mod Boundary
 pub mod Clauses
 pub mod KindLaws
+pub mod ShapeLaws
 pub mod FieldLaws
 pub mod IdLaws
 pub mod ChildLaws

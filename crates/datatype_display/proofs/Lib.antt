@@ -1,2 +1,10 @@
+pub mod Writes
 pub mod Digits
+pub mod Escapes
+pub mod WordLaws
+pub mod Rows
+pub mod AsciiLaws
+pub mod Walked
+pub mod Printing
+pub mod Prints
 pub mod Length

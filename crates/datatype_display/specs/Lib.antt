@@ -1,3 +1,4 @@
 pub mod Display
 pub mod Print
 pub mod Computed
+pub mod Steps

@@ -13,8 +13,6 @@ use Rattle.tokenizer.specs.Token.{tokenAt, sortOf, valueOf, lparen, unionMode, 
 use Rattle.tokenizer.proofs.Marks.{type-value}
 use Rattle.tokenizer.specs.declared.Token.{Token}
 use Rattle.datatype.specs.Kind.{Shape, leaf, timestamp, time, interval, fixed, list, fixedList, struct, union, dictionary, decimal, mapping, runEnds, shapeOf, has, idsFit}
-use Rattle.datatype.proofs.KindLaws.{allBelow, below-at}
-use Rattle.tokenizer.proofs.Listed.{NoneOf}
 use Rattle.datatype.specs.Tree.{Forest, ∅, node, count, roots, Row}
 use Rattle.datatype.specs.Table.{rowWords, wordsOf, tableOf}
 use Rattle.datatype_parse.specs.Parse.{Tree, Fields, bareRow, refusalOf, need, itemsBy, structItem, unionItem, structAt, unionAt, shapeAt, typeWith, typeAt}
@@ -128,59 +126,6 @@ module _ (text : List ℕ) (level at left : ℕ) where
           rw (one-row, g .is, g .value) (rw e at h)
 
 -- ---- by the shape of a kind
-
--- the shapes that are not leaves, in the order of the kinds
-pub shapes-of : (shapeOf 13 ≡ timestamp) × (shapeOf 16 ≡ time) × (shapeOf 17 ≡ time) × (shapeOf 18 ≡ time) × (shapeOf 19 ≡ interval) × (shapeOf 21 ≡ fixed)
-    × (shapeOf 27 ≡ list) × (shapeOf 28 ≡ list) × (shapeOf 29 ≡ fixedList) × (shapeOf 30 ≡ list) × (shapeOf 31 ≡ list) × (shapeOf 32 ≡ struct) × (shapeOf 33 ≡ union)
-    × (shapeOf 34 ≡ dictionary) × (shapeOf 35 ≡ decimal) × (shapeOf 36 ≡ decimal) × (shapeOf 37 ≡ decimal) × (shapeOf 38 ≡ decimal) × (shapeOf 39 ≡ mapping) × (shapeOf 40 ≡ runEnds)
-unfolding shapeOf
-shapes-of = (refl, refl, refl, refl, refl, refl, refl, refl, refl, refl, refl, refl, refl, refl, refl, refl, refl, refl, refl, refl)
-
--- their kinds; all others are leaves
-abbrev pub branching : List ℕ
-branching = 13 ∷ 16 ∷ 17 ∷ 18 ∷ 19 ∷ 21 ∷ 27 ∷ 28 ∷ 29 ∷ 30 ∷ 31 ∷ 32 ∷ 33 ∷ 34 ∷ 35 ∷ 36 ∷ 37 ∷ 38 ∷ 39 ∷ 40 ∷ []
-
-abbrev isLeaf : Shape → Bool
-isLeaf leaf = true
-isLeaf timestamp = false
-isLeaf time = false
-isLeaf interval = false
-isLeaf fixed = false
-isLeaf list = false
-isLeaf fixedList = false
-isLeaf struct = false
-isLeaf union = false
-isLeaf dictionary = false
-isLeaf decimal = false
-isLeaf mapping = false
-isLeaf runEnds = false
-
-leaf-is : (s : Shape) → T (isLeaf s) → s ≡ leaf
-leaf-is leaf h = refl
-leaf-is timestamp h = absurd h
-leaf-is time h = absurd h
-leaf-is interval h = absurd h
-leaf-is fixed h = absurd h
-leaf-is list h = absurd h
-leaf-is fixedList h = absurd h
-leaf-is struct h = absurd h
-leaf-is union h = absurd h
-leaf-is dictionary h = absurd h
-leaf-is decimal h = absurd h
-leaf-is mapping h = absurd h
-leaf-is runEnds h = absurd h
-
-leaf-or : T (allBelow 41 (λ k. has k branching || isLeaf (shapeOf k)))
-unfolding shapeOf
-leaf-or = tt
-
-none-has : (k : ℕ) (A : Type 0) (xs : List ℕ) → NoneOf k A xs → A × (has k xs ≡ false)
-none-has k A [] n = (n, refl)
-none-has k A (x ∷ xs) n = let r = none-has k (A × (k ≡ x → ⊥)) xs n in (r .0 .0, rw (ne-eqb k x (r .0 .1)) (r .1))
-
-pub leaf-kind : (k : ℕ) → k < 41 → NoneOf k (Unit {0}) branching → shapeOf k ≡ leaf
-leaf-kind k h n =
-    leaf-is (shapeOf k) (rw (none-has k (Unit {0}) branching n .1) at (below-at 41 (λ i. has i branching || isLeaf (shapeOf i)) leaf-or k h))
 
 module _ (text : List ℕ) (type : ℕ → ℕ → Out Tree) (s : Shape) (j k at left row : ℕ) (before after : List ℕ) (a : Read) (e : shapeOf j ≡ s) (i : k ≡ j) where
   -- the reader of a shape is that of the kind

@@ -1,4 +1,5 @@
-use Rattle.datatype_parse.proofs.Types.{as-childless, as-shape, leaf-done, leaf-kind, shapes-of}
+use Rattle.datatype.proofs.ShapeLaws.{leaf-kind, shapes-of}
+use Rattle.datatype_parse.proofs.Types.{as-childless, as-shape, leaf-done}
 use mathlib.Core.Path.{_≡_, refl, sym, _∙_}
 use Rattle.datatype.specs.Kind.{timestamp, time, interval, fixed, list, fixedList, struct, union, dictionary, decimal, mapping, runEnds}
 use Rattle.datatype_parse.specs.Parse.{shapeAt}

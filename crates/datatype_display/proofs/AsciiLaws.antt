@@ -1,0 +1,285 @@
+-- What prints in double quotes is ASCII: what the functions of `ascii.rt` find, and what their loops hold.
+use mathlib.Core.Path.{_≡_, refl, sym, ap, _∙_}
+use mathlib.Core.Bool.{Bool, true, false, not, _&&_, and-true, and-assoc, or-true}
+use mathlib.Core.List.{List, [], _∷_}
+use Prim.Native.Nat.{ℕ, zero, suc, _+_, _-_, _*_, _/_, _≤_, _<_, max}
+use native.Mathlib.Omega.{arith}
+use lib.ListN.{length, getD, take, drop, drop-of-length-le}
+use lib.Seq.{drop-cons}
+use lib.Dec.{T, leb, leb→le, le→leb}
+use Rattle.tokenizer.specs.Text.{same, bytes, if_then_else_}
+use Rattle.tokenizer.proofs.Basics.{and-l, and-r, both, is-true, of-true}
+use Rattle.datatype.specs.Kind.{Shape, runEnds, shapeOf}
+use Rattle.datatype.specs.Tree.{Forest, ∅, node, count, roots, depth, Row, Label, part, nameOf, zoneOf, labelOf, labels}
+use Rattle.datatype.specs.Table.{rowWords, treeOf}
+use Rattle.datatype.specs.Sound.{isSound}
+use Rattle.datatype.specs.Run.{sizeAt, rowAt, forestAt, Nests}
+use Rattle.datatype.proofs.Clauses.{iff-eq}
+use Rattle.datatype.proofs.ChildLaws.{child-turn}
+use Rattle.datatype.proofs.Runs.{Turn, turn, forest-none}
+use Rattle.datatype.proofs.SoundTree.{SoundTree, sound-tree, sound-count, sound-forest, sound-labels}
+use Rattle.datatype.proofs.LevelLaws.{LevelsSo, levels-start, levels-call, levels-again}
+use Rattle.datatype.proofs.Walks.{labels-turn, kind-word, zone-words}
+use Rattle.datatype_display.specs.Display.{defaultNames}
+use Rattle.datatype_display.specs.Print.{quotesNames, isAscii, namesAscii, quotedAscii}
+use Rattle.datatype_display.specs.Steps.{shapeMeans, labelAt, rowAscii}
+use Rattle.datatype_display.specs.declared.shape.Shape.{Shape as CodeShape}
+
+-- ---- bytes
+
+leb-max : (a b : ℕ) → leb (max a b) 127 ≡ (leb a 127 && leb b 127)
+leb-max a b =
+    iff-eq (leb (max a b) 127) (leb a 127 && leb b 127)
+    (λ t. let m = leb→le (max a b) 127 t in both (leb a 127) (leb b 127) (le→leb a 127 (omega arith)) (le→leb b 127 (omega arith)))
+    (λ t. let p = leb→le a 127 (and-l (leb a 127) (leb b 127) t) in let q = leb→le b 127 (and-r (leb a 127) (leb b 127) t) in le→leb (max a b) 127 (omega arith))
+
+-- what the loop holds: the greatest byte met and the rest tell of the whole
+pub record Tops (s : List ℕ) (top i : ℕ) : Type 0 where
+  pub so : isAscii s ≡ (leb top 127 && isAscii (drop i s))
+
+module _ (s : List ℕ) where
+  pub tops-start : Tops s 0 0
+  tops-start = record { so = refl }
+
+  module _ (top i : ℕ) (t : Tops s top i) where
+    pub tops-end : length s ≤ i → leb top 127 ≡ isAscii s
+    tops-end h = sym (t .so ∙ ap (λ (l : List ℕ). leb top 127 && isAscii l) (drop-of-length-le s {i = i} h) ∙ and-true (leb top 127))
+
+    pub tops-more : i < length s → (top′ : ℕ) → top′ ≡ max top (getD s i 0) → Tops s top′ (i + 1)
+    tops-more h top′ e =
+        let n : suc i ≡ i + 1 = omega arith in
+        record { so = t .so ∙ ap (λ (l : List ℕ). leb top 127 && isAscii l) (drop-cons s i 0 h) ∙ sym (and-assoc (leb top 127) (leb (getD s i 0) 127) (isAscii (drop (suc i) s))) ∙ rw (e, leb-max top (getD s i 0), n) }
+
+-- ---- children side by side
+
+module _ (text names table : List ℕ) where
+  abbrev run : ℕ → ℕ → Forest Label
+  run at end = labels text names (forestAt table at (end - at))
+
+  module _ (at end : ℕ) where
+    run-none : end ≤ at → run at end ≡ ∅
+    unfolding labels
+    run-none h = let e : end - at ≡ 0 = omega arith in rw (e, forest-none table at)
+
+    run-turn : Turn table at end → run at end ≡ node (labelAt text names table at) (run (at + 1) (at + sizeAt table at)) (run (at + sizeAt table at) end)
+    unfolding labelAt
+    run-turn t = labels-turn text names table at end t
+
+    roots-turn : Turn table at end → roots (run at end) ≡ labelAt text names table at ∷ roots (run (at + sizeAt table at) end)
+    roots-turn t = ap roots (run-turn t)
+
+  module _ (start end : ℕ) (h : Nests table start (end - start)) (l : start ≤ end) where
+    pub pair-none : start ≡ end → false ≡ quotesNames runEnds (roots (run start end))
+    unfolding quotesNames
+    pair-none e = rw (run-none start end (omega arith))
+
+    module _ (some : start ≡ end → ⊥) (s : ℕ) (is : s ≡ sizeAt table start) where
+      first : Turn table start end
+      first = child-turn table start end h l some
+
+      pub pair-one : start + s ≡ end → false ≡ quotesNames runEnds (roots (run start end))
+      unfolding quotesNames
+      pair-one e = rw (roots-turn start end first, run-none (start + sizeAt table start) end (omega arith))
+
+      pub pair-two : (start + s ≡ end → ⊥) → (r : Bool) → r ≡ defaultNames (labelAt text names table start) (labelAt text names table (start + s)) → not r ≡ quotesNames runEnds (roots (run start end))
+      unfolding quotesNames
+      pair-two d r e = go first (rw is at e)
+        where
+          go : Turn table start end → r ≡ defaultNames (labelAt text names table start) (labelAt text names table (start + sizeAt table start)) → not r ≡ quotesNames runEnds (roots (run start end))
+          go t e =
+              let w = t .within in
+              rw (roots-turn start end t, roots-turn (start + sizeAt table start) end (turn table (start + sizeAt table start) end (t .rest) (omega arith)), e)
+
+pub pair-rooms : (table : List ℕ) (start end : ℕ) → Nests table start (end - start) → start ≤ end → (start ≡ end → ⊥) → (s : ℕ) → s ≡ sizeAt table start → (start + s ≡ end → ⊥)
+    → (rowWords * (start + 1) ≤ length table) × (rowWords * (start + s + 1) ≤ length table)
+pair-rooms table start end h l some s is d =
+    let w = child-turn table start end h l some .within in
+    let r = h .room in
+    (omega arith, omega arith)
+
+-- the default names, by the bytes of the names
+module _ (l k : Label) (a : List ℕ) (p : Bool) where
+  pub default-not : a ≡ l .name → p ≡ same a (bytes "run_ends") → p ≡ false → false ≡ defaultNames l k
+  unfolding defaultNames
+  default-not e f g = sym (ap (λ (s : List ℕ). same s (bytes "run_ends") && same (k .name) (bytes "values")) (sym e) ∙ ap (λ (t : Bool). t && same (k .name) (bytes "values")) (sym f ∙ g))
+
+  pub default-both : a ≡ l .name → p ≡ same a (bytes "run_ends") → p ≡ true → (b : List ℕ) → b ≡ k .name → (q : Bool) → q ≡ same b (bytes "values") → q ≡ defaultNames l k
+  unfolding defaultNames
+  default-both e f g b e′ q f′ =
+      sym (ap (λ (s : List ℕ). same s (bytes "run_ends") && same (k .name) (bytes "values")) (sym e) ∙ ap (λ (t : Bool). t && same (k .name) (bytes "values")) (sym f ∙ g) ∙ sym (f′ ∙ ap (λ (s : List ℕ). same s (bytes "values")) e′))
+
+-- the shapes, by the code's
+pub quotes-at : (s t : CodeShape) (ks : List Label) (r : Bool) → s ≡ t → r ≡ quotesNames (shapeMeans t) ks → r ≡ quotesNames (shapeMeans s) ks
+quotes-at s t ks r e h = h ∙ ap (λ (c : CodeShape). quotesNames (shapeMeans c) ks) (sym e)
+
+-- what the loop over names holds
+pub record NamesSo (text names table : List ℕ) (start end at : ℕ) : Type 0 where
+  pub upto : at ≤ end
+  pub nests : Nests table at (end - at)
+  pub so : namesAscii (roots (labels text names (forestAt table start (end - start)))) ≡ namesAscii (roots (labels text names (forestAt table at (end - at))))
+
+module _ (text names table : List ℕ) (start end : ℕ) where
+  pub names-start : Nests table start (end - start) → start ≤ end → NamesSo text names table start end start
+  names-start h l = record { upto = l; nests = h; so = refl }
+
+  module _ (at : ℕ) (i : NamesSo text names table start end at) where
+    pub names-end : end ≤ at → true ≡ namesAscii (roots (labels text names (forestAt table start (end - start))))
+    names-end h = sym (i .so ∙ rw (run-none text names table at end h))
+
+    module _ (l : at < end) where
+      pub names-turn : Turn table at end
+      names-turn = turn table at end (i .nests) l
+
+      module _ (s : List ℕ) (e : s ≡ (labelAt text names table at) .name) (p : Bool) (f : p ≡ isAscii s) where
+        step : namesAscii (roots (labels text names (forestAt table start (end - start)))) ≡ (p && namesAscii (roots (labels text names (forestAt table (at + sizeAt table at) (end - (at + sizeAt table at))))))
+        step = i .so ∙ ap namesAscii (roots-turn text names table at end names-turn) ∙ ap (λ (b : Bool). b && namesAscii (roots (labels text names (forestAt table (at + sizeAt table at) (end - (at + sizeAt table at)))))) (sym (f ∙ ap isAscii e))
+
+        pub names-not : p ≡ false → false ≡ namesAscii (roots (labels text names (forestAt table start (end - start))))
+        names-not g = sym (step ∙ rw g)
+
+        pub names-more : p ≡ true → (n : ℕ) → n ≡ sizeAt table at → NamesSo text names table start end (at + n)
+        names-more g n is = rw is (record { upto = names-turn .within; nests = names-turn .rest; so = step ∙ rw g })
+
+-- ---- one row
+
+pub shape-quotes : (s : CodeShape) (k : ℕ) (ks : List Label) (r : Bool) → shapeMeans s ≡ shapeOf k → r ≡ quotesNames (shapeMeans s) ks → r ≡ quotesNames (shapeOf k) ks
+shape-quotes s k ks r e h = h ∙ ap (λ (c : Shape). quotesNames c ks) e
+
+module _ (text names table : List ℕ) (i : ℕ) (kids : List Label) (from size : ℕ) (a : from ≡ getD table (rowWords * i + 9) 0) (b : size ≡ getD table (rowWords * i + 10) 0) where
+  module _ (z : List ℕ) (e : z ≡ zoneOf text from size) (p : Bool) (f : p ≡ isAscii z) where
+    zone-is : p ≡ isAscii ((labelAt text names table i) .zone)
+    unfolding labelAt
+    zone-is =
+        let w : z ≡ (labelOf text names (rowAt table i)) .zone = e ∙ rw (a, b) (sym (zone-words text names table i)) in
+        f ∙ ap isAscii w
+
+    pub row-zone : p ≡ false → false ≡ rowAscii (labelAt text names table i) kids
+    unfolding rowAscii
+    row-zone g = rw (← zone-is, g)
+
+    module _ (g : p ≡ true) (k : ℕ) (c : k ≡ getD table (rowWords * i + 0) 0) (q : Bool) (d : q ≡ quotesNames (shapeOf k) kids) where
+      names-is : q ≡ quotesNames (shapeOf ((labelAt text names table i) .kind)) kids
+      unfolding labelAt
+      names-is = d ∙ ap (λ (n : ℕ). quotesNames (shapeOf n) kids) (c ∙ sym (kind-word text names table i))
+
+      pub row-quotes : q ≡ true → (r : Bool) → r ≡ namesAscii kids → r ≡ rowAscii (labelAt text names table i) kids
+      unfolding rowAscii
+      row-quotes y r w = w ∙ rw (← zone-is, g, ← names-is, y)
+
+      pub row-plain : q ≡ false → true ≡ rowAscii (labelAt text names table i) kids
+      unfolding rowAscii
+      row-plain y = rw (← zone-is, g, ← names-is, y)
+
+-- ---- a run: what the loop over its trees holds
+
+pub record QuotedSo (text names table : List ℕ) (level start end at : ℕ) : Type 0 where
+  pub upto : at ≤ end
+  pub nests : Nests table at (end - at)
+  pub flat : depth (forestAt table at (end - at)) ≤ level
+  pub so : quotedAscii (labels text names (forestAt table start (end - start))) ≡ quotedAscii (labels text names (forestAt table at (end - at)))
+
+module _ (text names table : List ℕ) (level start end : ℕ) where
+  pub quoted-start : Nests table start (end - start) → start ≤ end → depth (forestAt table start (end - start)) ≤ level → QuotedSo text names table level start end start
+  quoted-start h l d = record { upto = l; nests = h; flat = d; so = refl }
+
+  module _ (at : ℕ) (i : QuotedSo text names table level start end at) where
+    pub quoted-end : end ≤ at → true ≡ quotedAscii (labels text names (forestAt table start (end - start)))
+    unfolding quotedAscii
+    quoted-end h = sym (i .so ∙ rw (run-none text names table at end h))
+
+    -- what is left, as the walk that counts levels has it
+    left : LevelsSo table level at end 0 at
+    left = levels-start table level at end (i .nests) (i .upto) (i .flat)
+
+    module _ (l : at < end) where
+      pub quoted-turn : Turn table at end
+      quoted-turn = turn table at end (i .nests) l
+
+      abbrev kids : ℕ → Forest Label
+      kids s = labels text names (forestAt table (at + 1) (at + s - (at + 1)))
+
+      module _ (s : ℕ) (is : s ≡ sizeAt table at) where
+        pub quoted-call : (level - 1 < level) × (Nests table (at + 1) (at + s - (at + 1)) × (at + 1 ≤ at + s) × (depth (forestAt table (at + 1) (at + s - (at + 1))) ≤ level - 1))
+        quoted-call = levels-call table level at end 0 at left l s is
+
+        module _ (p : Bool) (e : p ≡ rowAscii (labelAt text names table at) (roots (kids s))) where
+          here : quotedAscii (labels text names (forestAt table start (end - start))) ≡ (p && quotedAscii (kids s) && quotedAscii (labels text names (forestAt table (at + s) (end - (at + s)))))
+          unfolding quotedAscii rowAscii
+          here = i .so ∙ ap quotedAscii (run-turn text names table at end quoted-turn) ∙ rw (e, is)
+
+          pub quoted-not-row : p ≡ false → false ≡ quotedAscii (labels text names (forestAt table start (end - start)))
+          quoted-not-row g = sym (here ∙ rw g)
+
+          module _ (g : p ≡ true) (q : Bool) (f : q ≡ quotedAscii (kids s)) where
+            pub quoted-not-kids : q ≡ false → false ≡ quotedAscii (labels text names (forestAt table start (end - start)))
+            quoted-not-kids y = sym (here ∙ rw (g, ← f, y))
+
+            pub quoted-more : q ≡ true → QuotedSo text names table level start end (at + s)
+            quoted-more y = go (levels-again table level at end 0 at left l s is (depth (forestAt table (at + 1) (at + s - (at + 1)))) (max 0 (depth (forestAt table (at + 1) (at + s - (at + 1))) + 1)) refl refl)
+              where
+                go : LevelsSo table level at end (max 0 (depth (forestAt table (at + 1) (at + s - (at + 1))) + 1)) (at + s) → QuotedSo text names table level start end (at + s)
+                go r = record { upto = r .upto; nests = r .nests; flat = r .flat; so = here ∙ rw (g, ← f, y) }
+
+-- ---- a text that is ASCII
+
+take-ascii : (n : ℕ) (s : List ℕ) → T (isAscii s) → T (isAscii (take n s))
+take-ascii zero s t = tt
+take-ascii (suc n) [] t = tt
+take-ascii (suc n) (c ∷ s) t = both (leb c 127) (isAscii (take n s)) (and-l (leb c 127) (isAscii s) t) (take-ascii n s (and-r (leb c 127) (isAscii s) t))
+
+drop-ascii : (n : ℕ) (s : List ℕ) → T (isAscii s) → T (isAscii (drop n s))
+drop-ascii zero s t = t
+drop-ascii (suc n) [] t = tt
+drop-ascii (suc n) (c ∷ s) t = drop-ascii n s (and-r (leb c 127) (isAscii s) t)
+
+part-ascii : (s : List ℕ) (start size : ℕ) → T (isAscii s) → isAscii (part s start size) ≡ true
+part-ascii s start size t = go (leb (start + size) (length s))
+  where
+    go : (b : Bool) → isAscii (if b then take size (drop start s) else []) ≡ true
+    go true = is-true _ (take-ascii size (drop start s) (drop-ascii start s t))
+    go false = refl
+
+-- so is what a tree over it says
+module _ (text names : List ℕ) (a : T (isAscii text)) (b : T (isAscii names)) where
+  name-ascii : (home start size : ℕ) → isAscii (nameOf text names home start size) ≡ true
+  unfolding nameOf
+  name-ascii zero start size = refl
+  name-ascii (suc zero) start size = part-ascii text start size a
+  name-ascii (suc (suc zero)) start size = part-ascii names start size b
+  name-ascii (suc (suc (suc home))) start size = refl
+
+  zone-ascii : (start size : ℕ) → isAscii (zoneOf text start size) ≡ true
+  unfolding zoneOf
+  zone-ascii start size = part-ascii text start size a
+
+  roots-ascii : (f : Forest Row) → namesAscii (roots (labels text names f)) ≡ true
+  unfolding labels labelOf
+  roots-ascii ∅ = refl
+  roots-ascii (node r k n) = rw (name-ascii (r .home) (r .start) (r .size)) (roots-ascii n)
+
+  quoted-ascii : (f : Forest Row) → quotedAscii (labels text names f) ≡ true
+  unfolding quotedAscii labels labelOf
+  quoted-ascii ∅ = refl
+  quoted-ascii (node r k n) =
+      let q = not (quotesNames (shapeOf (r .kind)) (roots (labels text names k))) in
+      rw (zone-ascii (r .zoneStart) (r .zoneSize), roots-ascii k, or-true q, quoted-ascii k) (quoted-ascii n)
+
+-- ---- the whole tree
+
+module _ (text names table : List ℕ) (sound : T (isSound text names table)) where
+  tree : SoundTree text names table
+  tree = sound-tree text names table sound
+
+  all-rows : length table / 11 - 0 ≡ suc (count (tree .kids))
+  all-rows = let c = sound-count text names table tree in omega arith
+
+  all-labels : treeOf text names table ≡ labels text names (forestAt table 0 (length table / 11 - 0))
+  all-labels = sound-labels text names table tree ∙ ap (labels text names) (sym (ap (λ (n : ℕ). forestAt table 0 n) all-rows ∙ sound-forest text names table tree))
+
+  pub tree-ascii : (r : Bool) → r ≡ isAscii text → r ≡ true → true ≡ quotedAscii (treeOf text names table)
+  tree-ascii r e f =
+      let n : T (isAscii names) = rw (tree .listed) tt in
+      sym (ap quotedAscii all-labels ∙ quoted-ascii text names (of-true _ (sym e ∙ f)) n (forestAt table 0 (length table / 11 - 0)))
+
+  pub tree-is : (r : Bool) → r ≡ quotedAscii (labels text names (forestAt table 0 (length table / 11 - 0))) → r ≡ quotedAscii (treeOf text names table)
+  tree-is r e = e ∙ ap quotedAscii (sym all-labels)

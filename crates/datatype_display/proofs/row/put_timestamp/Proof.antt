@@ -1,0 +1,47 @@
+use Rattle.datatype_display.specs.Steps.{openText}
+use Rattle.datatype_display.proofs.Writes.{put-then}
+use native.Mathlib.Omega.{arith}
+use borrow.Author.Needs.{needs}
+use Rattle.datatype_display.proofs.row.put_timestamp.Statement.{statement}
+use Rattle.datatype_display.proofs.row.put_timestamp.Tie as tie
+use Rattle.datatype_display.proofs.row.put_timestamp.Reads as reads
+use Rattle.datatype_display.proofs.row.put_timestamp.Lts as lts
+use Rattle.datatype_display.proofs.row.put_zone.Reads as put-zone-reads
+use Rattle.datatype_display.proofs.words.put_unit.Reads as put-unit-reads
+use Rattle.datatype_display.proofs.write.put_byte.Reads as put-byte-reads
+
+-- src/row.rt:73:9
+put-byte-requires : tie.Need-put-byte-requires
+put-byte-requires c κs = search needs
+
+-- src/row.rt:74:9
+put-unit-requires : tie.Need-put-unit-requires
+put-unit-requires c κs = search needs
+
+-- src/row.rt:75:9
+put-zone-requires : tie.Need-put-zone-requires
+put-zone-requires c κs = search needs
+
+-- src/row.rt:76:5
+put-byte-requires-2 : tie.Need-put-byte-requires-2
+put-byte-requires-2 c κs = search needs
+
+-- src/row.rt:70:1
+same-length : tie.Need-same-length
+same-length c = search needs
+
+-- src/row.rt:70:1
+returns : tie.Need-returns
+unfolding openText
+returns c = put-then _ _ _ _ _ _ _ _ (c .before .before .before .before .before .before .before .before .before .before .before .before .before .before .put-byte .ensures) (put-then _ _ _ _ _ _ _ _ (c .before .before .before .before .before .before .before .before .before .before .put-unit .ensures) (put-then _ _ _ _ _ _ _ _ (c .before .before .before .before .before .before .put-zone .ensures) (c .before .before .put-byte2 .ensures)))
+
+pub put-timestamp-spec : {M : Type 1} → statement M
+put-timestamp-spec =
+    tie.close
+    (tie.spec
+    put-byte-requires
+    put-unit-requires
+    put-zone-requires
+    put-byte-requires-2
+    same-length
+    returns)

@@ -1,0 +1,65 @@
+// The walk: a row's type is its own bytes and its children's types. Printing into no bytes gives the length.
+ghost use mathlib.Core.Path.{_≡_};
+ghost use lib.ListN.{length};
+ghost use lib.Dec.{T};
+ghost use Rattle.datatype.specs.Table.{treeOf};
+ghost use Rattle.datatype.specs.Sound.{isSound};
+ghost use Rattle.datatype_display.specs.Display.{display};
+ghost use Rattle.datatype_display.specs.Steps.{Moved, Put, Subtree, textAt};
+use crate::ascii::quotes_names;
+use crate::row::name_at;
+use crate::row::put_close;
+use crate::row::put_head;
+use crate::row::put_lead;
+use crate::row::put_trail;
+use crate::row::subtree;
+use crate::row::word;
+use crate::shape::shape_of;
+use datatype::rows::KIND;
+use datatype::rows::MAX_LEVELS;
+use datatype::rows::PARAM;
+
+// Writes the type of row i with all that stands below it.
+fn put_type<'a>(
+    text: &'a [u8],
+    names: &'a [u8],
+    rows: &[u32],
+    level: usize,
+    i: usize,
+    out: &mut [u8],
+    at: usize,
+) -> usize
+    requires { ⌜ Subtree (now rows) level i ⌝ }
+    ensures { λ r. ⌜ Put (now (out .entry)) at (textAt (now (text .entry)) (now (names .entry)) (now (rows .entry)) i) r (now (out .exit)) ⌝ }
+{
+    let shape = shape_of(word(rows, i, KIND));
+    let end = i + subtree(rows, i);
+    let quotes = quotes_names(text, names, rows, shape, i + 1, end);
+    let mut next = put_head(text, rows, i, out, at);
+    let mut j = i + 1;
+    while j < end {
+        let first = j == i + 1;
+        let led = put_lead(text, names, rows, shape, quotes, first, j, out, next);
+        let typed = put_type(text, names, rows, level - 1, j, out, led);
+        next = put_trail(shape, name_at(text, names, rows, j), out, typed);
+        j = j + subtree(rows, j);
+    }
+    put_close(shape, word(rows, i, PARAM), out, next)
+}
+
+// Writes the printed text of a sound tree.
+pub(crate) fn put_tree<'a>(text: &'a [u8], names: &'a [u8], rows: &[u32], out: &mut [u8]) -> usize
+    requires { ⌜ T (isSound (now text) (now names) (now rows)) ⌝ }
+    ensures { λ r. ⌜ Put (now (out .entry)) 0 (display (treeOf (now (text .entry)) (now (names .entry)) (now (rows .entry)))) r (now (out .exit)) ⌝ }
+{
+    put_type(text, names, rows, MAX_LEVELS, 0, out, 0)
+}
+
+// The printed length of a sound tree; past the greatest length of a text, a number past it.
+pub(crate) fn tree_length<'a>(text: &'a [u8], names: &'a [u8], rows: &[u32]) -> usize
+    requires { ⌜ T (isSound (now text) (now names) (now rows)) ⌝ }
+    ensures { λ r. ⌜ Moved 0 (length (display (treeOf (now (text .entry)) (now (names .entry)) (now (rows .entry))))) r ⌝ }
+{
+    let mut none: [u8; 1] = [0];
+    put_tree(text, names, rows, &mut none)
+}

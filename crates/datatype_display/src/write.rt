@@ -1,0 +1,73 @@
+// Writing into the output buffer: each function writes at a place and answers the place behind what it wrote. What the
+// buffer has no room for is not written, and the place behind it is answered all the same: printing into no bytes
+// measures the text. A place past the greatest length of a text stays past it, so that no sum can overflow.
+ghost use mathlib.Core.Path.{_≡_};
+ghost use mathlib.Core.List.{[], _∷_};
+ghost use Prim.Native.Nat.{_+_, _≤_, _<_};
+ghost use lib.ListN.{length};
+ghost use Rattle.datatype_display.specs.Display.{digits};
+ghost use Rattle.datatype_display.specs.Steps.{Wrote, Moved, Put};
+use datatype::rows::MAX_TEXT;
+
+// The place n bytes behind another, or the first place past the limit.
+fn advance(at: usize, n: usize) -> usize
+    ensures { λ r. ⌜ Moved at n r ⌝ }
+{
+    if MAX_TEXT < at {
+        return MAX_TEXT + 1;
+    }
+    if MAX_TEXT - at < n {
+        return MAX_TEXT + 1;
+    }
+    at + n
+}
+
+// Copies bytes to a place that has room for them.
+fn copy(out: &mut [u8], at: usize, s: &[u8])
+    requires { ⌜ at + length (now s) ≤ length (now out) ⌝ }
+    ensures { λ r. ⌜ Wrote (now (out .entry)) at (now (s .entry)) (now (out .exit)) ⌝ }
+{
+    let mut i = 0;
+    while i < s.len() {
+        out[at + i] = s[i];
+        i += 1;
+    }
+}
+
+// Writes bytes.
+pub(crate) fn put(out: &mut [u8], at: usize, s: &[u8]) -> usize
+    ensures { λ r. ⌜ Put (now (out .entry)) at (now (s .entry)) r (now (out .exit)) ⌝ }
+{
+    let next = advance(at, s.len());
+    if out.len() < at {
+        return next;
+    }
+    if out.len() - at < s.len() {
+        return next;
+    }
+    copy(out, at, s);
+    next
+}
+
+// Writes one byte.
+pub(crate) fn put_byte(out: &mut [u8], at: usize, c: u8) -> usize
+    ensures { λ r. ⌜ Put (now (out .entry)) at (c ∷ []) r (now (out .exit)) ⌝ }
+{
+    let next = advance(at, 1);
+    if out.len() <= at {
+        return next;
+    }
+    out[at] = c;
+    next
+}
+
+// Writes a number in decimal digits.
+pub(crate) fn put_digits(out: &mut [u8], at: usize, n: u32) -> usize
+    ensures { λ r. ⌜ Put (now (out .entry)) at (digits n) r (now (out .exit)) ⌝ }
+{
+    if n < 10 {
+        return put_byte(out, at, 48 + n as u8);
+    }
+    let next = put_digits(out, at, n / 10);
+    put_byte(out, next, 48 + (n % 10) as u8)
+}
