@@ -12,3 +12,4 @@ pub mod ReadBack
 pub mod Printed
 pub mod RoundTrip
 pub mod Buffers
+pub mod Rewrite
