@@ -55,6 +55,7 @@ rewriteRows text names table out back = rowsTo back (print text names table (len
 -- ---- demand 3
 
 -- Its conditions on the two calls: a tree that it speaks of, and buffers that hold the printed text and the tree's rows.
+-- 16,384 bytes and 1,024 rows always do (`large-buffers` in proofs/Rewrite.antt).
 pub record Asks3 (text names table out back : List ℕ) : Type 0 where
   pub tree : T (inDemand3 text names table)
   pub bytes : length (printed text names table) ≤ length out
@@ -72,6 +73,7 @@ rowsOf (notPrinted n) back = []
 rowsOf (notRead n) back = []
 
 -- What demand 3 says of an answer and of what the two buffers then hold. What they held before is not in it.
+-- Two such trees that are not equal never get one text (`never-one-text` in proofs/Rewrite.antt).
 pub record Demand3 (text names table : List ℕ) (answer : Rewrite) (out back : List ℕ) : Type 0 where
   -- neither call refuses: the printer answers the printed length, the reader the tree's row count
   pub answers : answer ≡ tree (length (printed text names table)) (count (treeOf text names table))
