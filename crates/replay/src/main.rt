@@ -6,6 +6,7 @@ ghost use Rattle.io.specs.Counts.{Counts};
 
 mod counts;
 mod stored;
+mod tables;
 mod texts;
 
 // A number, and the place behind it.
@@ -34,6 +35,36 @@ struct ReadCase {
     next: usize,
 }
 
+// A stored table, but for its words: where text and name list stand and how long they are, how many words it has, and
+// the place behind it.
+struct Table {
+    text: usize,
+    text_size: u32,
+    list: usize,
+    list_size: u32,
+    count: usize,
+    next: usize,
+}
+
+// A stored case of a table: the word that is changed and its value; whether the table is then sound (1 or 0); status and
+// value of the depth and of the verdict; whether it equals the other (1 or 0); the name and the zone of the row that has
+// the word.
+struct TableCase {
+    place: u32,
+    value: u32,
+    sound: u32,
+    depth_status: u32,
+    depth: u32,
+    verdict_status: u32,
+    verdict: u32,
+    equal: u32,
+    name: usize,
+    name_size: u32,
+    zone: usize,
+    zone_size: u32,
+    next: usize,
+}
+
 // Reads a file into a buffer: how many bytes of it are read.
 fn load(path: &[u8], sample: &mut [u8]) -> usize
     ensures { λ r. ⌜ Counts r (now (sample .exit)) ⌝ }
@@ -55,6 +86,13 @@ fn replay_texts(sample: &[u8]) {
     counts::print(b" texts, ", t, sample.len());
 }
 
+fn replay_tables(sample: &[u8]) {
+    let mut words = [0u32; 12000];
+    let mut others = [0u32; 12000];
+    let t = tables::all(sample, &mut words, &mut others);
+    counts::print(b" tables, ", t, sample.len());
+}
+
 // Room for a sample.
 fn room() -> [u8; 1000000]
     ensures { λ r. ⌜ 1000000 ≡ length r ⌝ }
@@ -66,4 +104,6 @@ fn main() {
     let mut sample = room();
     let n = load(b"texts", &mut sample);
     replay_texts(&sample[..n]);
+    let m = load(b"tables", &mut sample);
+    replay_tables(&sample[..m]);
 }

@@ -234,7 +234,8 @@ pub fn tables(file: &str, seed: u64) -> Result<ExitCode, String> {
         let Some((_, damaged)) = trees::broken(&mut random, &tree) else {
             continue;
         };
-        if damaged.words.len() <= MOST_LENT && kept.offer(table_record(&damaged, &tree, &[vec![]]))
+        if damaged.words.len() <= MOST_LENT
+            && kept.offer(table_record(&damaged, &tree, &[UNCHANGED]))
         {
             cases += 1;
         }
@@ -244,14 +245,16 @@ pub fn tables(file: &str, seed: u64) -> Result<ExitCode, String> {
     Ok(ExitCode::SUCCESS)
 }
 
-/// Words to change, each with its new value.
-type Changes = Vec<(usize, u32)>;
+/// A word and the value it is set to. A word past the table's end changes nothing.
+type Change = (usize, u32);
 
-/// Nothing changed, and each word set to values around its bounds, some of them with the word behind it.
-fn around_bounds(random: &mut Random, tree: &Tree) -> Vec<Changes> {
+const UNCHANGED: Change = (u32::MAX as usize, 0);
+
+/// Nothing changed, and each word set to values around its bounds, or rather to half of them.
+fn around_bounds(random: &mut Random, tree: &Tree) -> Vec<Change> {
     let rows = (tree.words.len() / WORDS) as u32;
     let bytes = tree.text.len() as u32;
-    let mut all = vec![vec![]];
+    let mut all = vec![UNCHANGED];
     for (at, word) in tree.words.iter().enumerate() {
         let bounds: &[u32] = match at % WORDS {
             0 => &[0, 2, 3, 5, 13, 16, 17, 27, 32, 33, 34, 38, 39, 40, 41],
@@ -286,9 +289,8 @@ fn around_bounds(random: &mut Random, tree: &Tree) -> Vec<Changes> {
         values.dedup();
         values.retain(|value| value != word);
         for value in values {
-            // Kinds are many, and most words are unused: a part of them is enough.
             if random.one_in(2) {
-                all.push(vec![(at, value)]);
+                all.push((at, value));
             }
         }
     }
@@ -296,7 +298,7 @@ fn around_bounds(random: &mut Random, tree: &Tree) -> Vec<Changes> {
 }
 
 /// Two tables, and changes of the first with the answers of each.
-fn table_record(tree: &Tree, other: &Tree, changes: &[Changes]) -> Vec<u8> {
+fn table_record(tree: &Tree, other: &Tree, changes: &[Change]) -> Vec<u8> {
     let mut record = Stored::default();
     for tree in [tree, other] {
         record.bytes(&tree.text).bytes(&tree.list);
@@ -304,16 +306,13 @@ fn table_record(tree: &Tree, other: &Tree, changes: &[Changes]) -> Vec<u8> {
         record.words(&tree.words);
     }
     record.number(changes.len()).line();
-    for change in changes {
+    for (at, value) in changes {
         let mut changed = tree.clone();
-        record.number(change.len());
-        for (at, value) in change {
-            changed.words[*at] = *value;
-            record.number(*at).number(*value as usize);
+        if let Some(word) = changed.words.get_mut(*at) {
+            *word = *value;
         }
-        let row = change.first().map_or(0, |(at, _)| at / WORDS);
-        record.number(row);
-        answers(&mut record, &changed, other, row);
+        record.number(*at).number(*value as usize);
+        answers(&mut record, &changed, other, at / WORDS);
     }
     record.0
 }
