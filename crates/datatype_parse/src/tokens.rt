@@ -1,7 +1,8 @@
 // Tokens where one is needed or looked for: the small functions of the Rust's `Parser`.
 ghost use mathlib.Core.Path.{_≡_};
 ghost use mathlib.Core.Bool.{true};
-ghost use Prim.Native.Nat.{_≤_};
+ghost use Prim.Native.Nat.{_≤_, _<_};
+ghost use lib.ListN.{length, getD};
 ghost use Rattle.tokenizer.specs.Text.{if_then_else_};
 ghost use Rattle.tokenizer.specs.Token.{doubleQuoted, singleQuoted, typeWord, timeUnit, intervalUnit, unionMode, mapSorted, fieldWord, xWord};
 ghost use Rattle.datatype.specs.Kind.{unitFits};
@@ -69,6 +70,13 @@ pub(crate) fn parse_opt_nullable(text: &[u8], at: usize) -> Nullability
     if text[from] != 110 {
         return Nullability { role: 1, next: at };
     }
+    let sure = tokenizer::behind_word(text, from, b"non-null");
+    if sure > 0 {
+        return Nullability {
+            role: 2,
+            next: sure,
+        };
+    }
     let token = tokenizer::next_token(text, from);
     let kind = token.kind;
     let TokenKind::Nullability(role) = kind else {
@@ -92,10 +100,40 @@ pub(crate) fn peek_double_quoted(text: &[u8], at: usize) -> bool
     true
 }
 
+// Whether a byte stands at a place.
+fn starts(text: &[u8], at: usize, byte: u8) -> bool
+    ensures { λ r. ⌜ (r ≡ true → (at < length (now (text .entry))) × (getD (now (text .entry)) at 0 ≡ byte)) ⌝ }
+{
+    if at >= text.len() {
+        return false;
+    }
+    text[at] == byte
+}
+
+// A double-quoted string is needed where its opening mark stands.
+fn double_quoted(text: &[u8], at: usize) -> Quoted
+    requires { ⌜ (at < length (now text)) × (getD (now text) at 0 ≡ 34) ⌝ }
+    ensures { λ r. ⌜ r ≡ quotedOf (need (now (text .entry)) doubleQuoted at) ⌝ }
+{
+    let start = at + 1;
+    let end = tokenizer::quote_end(text, start, 34);
+    if end >= text.len() {
+        return Quoted::Refused(6);
+    }
+    if end <= start {
+        return Quoted::Refused(7);
+    }
+    Quoted::String(start, end - start, end + 1)
+}
+
 // A double-quoted string is needed.
 pub(crate) fn parse_double_quoted_string(text: &[u8], at: usize) -> Quoted
     ensures { λ r. ⌜ r ≡ quotedOf (need (now (text .entry)) doubleQuoted at) ⌝ }
 {
+    let from = tokenizer::skip_spaces(text, at);
+    if starts(text, from, 34) {
+        return double_quoted(text, from);
+    }
     let token = tokenizer::next_token(text, at);
     let kind = token.kind;
     let TokenKind::DoubleQuotedString = kind else {
@@ -120,6 +158,11 @@ pub(crate) fn parse_single_quoted_string(text: &[u8], at: usize) -> Quoted
 pub(crate) fn parse_type_word(text: &[u8], at: usize) -> Valued
     ensures { λ r. ⌜ r ≡ valuedOf (need (now (text .entry)) typeWord at) ⌝ }
 {
+    let from = tokenizer::skip_spaces(text, at);
+    let word = tokenizer::type_word(text, from);
+    if word.next > 0 {
+        return Valued::Value(word.value, word.next);
+    }
     let token = tokenizer::next_token(text, at);
     let kind = token.kind;
     let TokenKind::DataType(k) = kind else {
@@ -131,6 +174,11 @@ pub(crate) fn parse_type_word(text: &[u8], at: usize) -> Valued
 pub(crate) fn parse_time_unit(text: &[u8], at: usize) -> Valued
     ensures { λ r. ⌜ r ≡ valuedOf (need (now (text .entry)) timeUnit at) ⌝ }
 {
+    let from = tokenizer::skip_spaces(text, at);
+    let word = tokenizer::unit_word(text, from);
+    if word.next > 0 {
+        return Valued::Value(word.value, word.next);
+    }
     let token = tokenizer::next_token(text, at);
     let kind = token.kind;
     let TokenKind::TimeUnit(unit) = kind else {
@@ -283,6 +331,10 @@ fn parse_some(text: &[u8], at: usize) -> Quoted
 fn parse_zone_string(text: &[u8], at: usize) -> Quoted
     ensures { λ r. ⌜ r ≡ zoneStep (zoneString (now (text .entry)) at) ⌝ }
 {
+    let from = tokenizer::skip_spaces(text, at);
+    if starts(text, from, 34) {
+        return double_quoted(text, from);
+    }
     let token = tokenizer::next_token(text, at);
     let kind = token.kind;
     match kind {

@@ -1,0 +1,23 @@
+use borrow.Author.Tests.{eqb-true}
+use Rattle.tokenizer.proofs.WordLaws.{never}
+use native.Mathlib.Omega.{arith}
+use borrow.Author.Needs.{needs}
+use Rattle.datatype_parse.proofs.tokens.starts.Statement.{statement}
+use Rattle.datatype_parse.proofs.tokens.starts.Tie as tie
+use Rattle.datatype_parse.proofs.tokens.starts.Reads as reads
+use Rattle.datatype_parse.proofs.tokens.starts.Lts as lts
+
+-- src/tokens.rt:108:9
+returns : tie.Need-returns
+returns c = λ e. never e
+
+-- src/tokens.rt:110:5
+shared-slice-read-result : tie.Need-shared-slice-read-result
+shared-slice-read-result c = search needs
+
+-- src/tokens.rt:104:1
+returns-2 : tie.Need-returns-2
+returns-2 c = λ e. (c .before .if1 .left, eqb-true _ _ e)
+
+pub starts-spec : {M : Type 1} → statement M
+starts-spec = tie.close (tie.spec returns shared-slice-read-result returns-2)
