@@ -4,7 +4,7 @@ use mathlib.Core.Bool.{Bool, true, false, not}
 use mathlib.Core.List.{List, [], _∷_}
 use Prim.Native.Nat.{ℕ, zero, suc, _+_, _-_, _%_, _≤_, _<_}
 use native.Mathlib.Omega.{arith}
-use lib.ListN.{length, drop, getD}
+use lib.ListN.{length, drop, getD, List·getD-eq-default}
 use lib.Dec.{T, eqb, leb}
 use borrow.Author.Tests.{eq-eqb, ne-eqb, le-leb, lt-leb, lt-ltb, le-ltb}
 use types.Run.{OneOf, miss}
@@ -179,6 +179,19 @@ module _ (text : List ℕ) (at from : ℕ) (f : from ≡ afterSpaces text at) wh
   -- the token of a string whose opening mark stands there
   pub opened-behind : from < length text → getD text from 0 ≡ 34 → stringToken DoubleQuotedString from (untilQuote 34 false (drop (from + 1) text)) ≡ tokenAt text at
   opened-behind h c = token-34 text at from f h c
+
+  -- where no string begins
+  pub string-other : (getD text from 0 ≡ 34 → ⊥) → (x : ℕ) → x ≡ refusalOf ((tokenAt text from) .kind) → Q.Refused x ≡ quotedOf (need text doubleQuoted at)
+  unfolding quotedOf
+  string-other h x e = rw (need-not text doubleQuoted at (Marks.no-double text at (rw f at h)), e, behind-spaces)
+
+  pub stands-other : (getD text from 0 ≡ 34 → ⊥) → false ≡ stands text doubleQuoted at
+  unfolding stands
+  stands-other h = sym (Marks.no-double text at (rw f at h))
+
+-- behind the text's end no byte stands
+pub no-byte : (text : List ℕ) (at byte : ℕ) → length text ≤ at → 0 < byte → getD text at 0 ≡ byte → ⊥
+no-byte text at byte h z e = let d = List·getD-eq-default text 0 {n = at} h in omega arith
 
 -- a string whose opening mark stands at a place
 module _ (text : List ℕ) (at : ℕ) (h : at < length text) (c : getD text at 0 ≡ 34) where

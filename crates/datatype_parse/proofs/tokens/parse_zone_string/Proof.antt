@@ -28,11 +28,11 @@ starts-requires c κs = search needs
 
 -- src/tokens.rt:336:9
 double-quoted-requires : tie.Need-double-quoted-requires
-double-quoted-requires c κs = c .before .starts .ensures (c .if1 .taken)
+double-quoted-requires c κs = c .before .starts .ensures .0 (c .if1 .taken)
 
 -- src/tokens.rt:336:9
 returns : tie.Need-returns
-returns c = c .double-quoted .ensures ∙ zone-begun _ _ _ (c .before .before .before .skip-spaces .ensures) (c .before .before .starts .ensures (c .before .if1 .taken) .0) (c .before .before .starts .ensures (c .before .if1 .taken) .1)
+returns c = c .double-quoted .ensures ∙ zone-begun _ _ _ (c .before .before .before .skip-spaces .ensures) (c .before .before .starts .ensures .0 (c .before .if1 .taken) .0) (c .before .before .starts .ensures .0 (c .before .if1 .taken) .1)
 
 -- src/tokens.rt:338:9
 next-token-requires : tie.Need-next-token-requires
