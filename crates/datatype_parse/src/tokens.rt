@@ -137,7 +137,7 @@ fn double_quoted(text: &[u8], at: usize) -> Quoted
     ensures { λ r. ⌜ r ≡ quotedOf (need (now (text .entry)) doubleQuoted at) ⌝ }
 {
     let start = at + 1;
-    let end = tokenizer::quote_end(text, start, 34);
+    let end = tokenizer::string_end(text, start, 34);
     if end >= text.len() {
         return Quoted::Refused(6);
     }

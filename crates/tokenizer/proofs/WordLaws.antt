@@ -10,7 +10,7 @@ use lib.Seq.{drop-cons, drop-drop, getD-drop}
 use lib.Dec.{T, ltb, eqb, ltb→lt}
 use borrow.Author.Tests.{ne-eqb}
 use Rattle.tokenizer.specs.Text.{if_then_else_, same}
-use Rattle.tokenizer.specs.Token.{token, isSeparator, wordOf, wordKind, escapedAfter, tokenAt}
+use Rattle.tokenizer.specs.Token.{token, isSeparator, wordOf, wordKind, escapedAfter, untilQuote, tokenAt}
 use Rattle.tokenizer.specs.Ends.{closes, quoteEnd}
 use Rattle.tokenizer.specs.Places.{afterSpaces}
 use Rattle.tokenizer.specs.Sought.{isPlain, Found}
@@ -38,6 +38,11 @@ module _ (text : List ℕ) (quote i : ℕ) (h : i < length text) where
     where
       same-mark : closes quote false quote ≡ true
       same-mark = rw (borrow.Author.Tests.eq-eqb quote quote refl)
+
+-- behind the text's end
+pub quote-past : (text : List ℕ) (quote from : ℕ) → length text ≤ from → length text ≡ quoteEnd text quote false from
+unfolding quoteEnd untilQuote
+quote-past text quote from h = rw (drop-of-length-le text h) refl
 
 -- ---- bytes compared
 

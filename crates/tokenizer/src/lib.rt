@@ -10,8 +10,8 @@ pub use quick::behind_word;
 pub use quick::type_word;
 pub use quick::unit_word;
 pub use tokenizer::next_token;
-pub use tokenizer::quote_end;
 pub use tokenizer::skip_spaces;
+pub use tokenizer::string_end;
 pub use utf8::is_utf8;
 
 // What a token is.

@@ -47,10 +47,11 @@ fn ends_word(text: &[u8], at: usize) -> bool
 
 // The place behind a word that stands at a place, or 0 where it does not.
 pub fn behind_word(text: &[u8], at: usize, word: &[u8]) -> usize
-    requires { ⌜ at ≤ length (now text) ⌝ }
-    requires { ⌜ isPlain (now word) ≡ true ⌝ }
-    ensures { λ r. ⌜ Found (wordKind (now (word .entry))) (now (text .entry)) at r ⌝ }
+    ensures { λ r. ⌜ (isPlain (now (word .entry)) ≡ true → Found (wordKind (now (word .entry))) (now (text .entry)) at r) ⌝ }
 {
+    if at > text.len() {
+        return 0;
+    }
     if !has_bytes(text, at, word) {
         return 0;
     }

@@ -112,7 +112,7 @@ fn is_plain(quote: u8, b: u8) -> bool
 }
 
 // The place of the mark that ends the string whose bytes start at `from`, or the text's end.
-pub fn quote_end(text: &[u8], from: usize, quote: u8) -> usize
+fn quote_end(text: &[u8], from: usize, quote: u8) -> usize
     requires { ⌜ from ≤ length (now text) ⌝ }
     ensures { λ r. ⌜ r ≡ quoteEnd (now (text .entry)) quote false from ⌝ }
 {
@@ -128,6 +128,16 @@ pub fn quote_end(text: &[u8], from: usize, quote: u8) -> usize
         i += 1;
     }
     i
+}
+
+// The same at any place.
+pub fn string_end(text: &[u8], from: usize, quote: u8) -> usize
+    ensures { λ r. ⌜ r ≡ quoteEnd (now (text .entry)) quote false from ⌝ }
+{
+    if from > text.len() {
+        return text.len();
+    }
+    quote_end(text, from, quote)
 }
 
 // The token of a kind that starts at a place and has a length.

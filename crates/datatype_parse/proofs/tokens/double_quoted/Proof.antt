@@ -5,23 +5,23 @@ use Rattle.datatype_parse.proofs.tokens.double_quoted.Statement.{statem
 use Rattle.datatype_parse.proofs.tokens.double_quoted.Tie as tie
 use Rattle.datatype_parse.proofs.tokens.double_quoted.Reads as reads
 use Rattle.datatype_parse.proofs.tokens.double_quoted.Lts as lts
-use Rattle.tokenizer.proofs.quote_end.Reads as quote-end-reads
+use Rattle.tokenizer.proofs.string_end.Reads as string-end-reads
 
 -- src/tokens.rt:118:17
 add-start : tie.Need-add-start
 add-start c = search needs
 
 -- src/tokens.rt:119:9
-quote-end-requires : tie.Need-quote-end-requires
-quote-end-requires c κs = search needs
+string-end-requires : tie.Need-string-end-requires
+string-end-requires c κs = search needs
 
 -- src/tokens.rt:121:9
 returns : tie.Need-returns
-returns c = opened-open _ _ (c .before .before .before .pre .0) (c .before .before .before .pre .1) _ (c .before .quote-end .ensures) (c .if1 .taken)
+returns c = opened-open _ _ (c .before .before .before .pre .0) (c .before .before .before .pre .1) _ (c .before .string-end .ensures) (c .if1 .taken)
 
 -- src/tokens.rt:124:9
 returns-2 : tie.Need-returns-2
-returns-2 c = opened-empty _ _ (c .before .before .before .before .pre .0) (c .before .before .before .before .pre .1) _ (c .before .before .quote-end .ensures) (c .before .if1 .left) (c .if2 .taken)
+returns-2 c = opened-empty _ _ (c .before .before .before .before .pre .0) (c .before .before .before .before .pre .1) _ (c .before .before .string-end .ensures) (c .before .if1 .left) (c .if2 .taken)
 
 -- src/tokens.rt:126:27
 sub-t5 : tie.Need-sub-t5
@@ -33,8 +33,8 @@ add-t7 c = search needs
 
 -- src/tokens.rt:114:1
 returns-3 : tie.Need-returns-3
-returns-3 c = opened-whole _ _ (c .before .before .before .before .pre .0) (c .before .before .before .before .pre .1) _ (c .before .before .quote-end .ensures) (c .before .if1 .left) (c .if2 .left)
+returns-3 c = opened-whole _ _ (c .before .before .before .before .pre .0) (c .before .before .before .before .pre .1) _ (c .before .before .string-end .ensures) (c .before .if1 .left) (c .if2 .left)
 
 pub double-quoted-spec : {M : Type 1} → statement M
 double-quoted-spec =
-    tie.close (tie.spec add-start quote-end-requires returns returns-2 sub-t5 add-t7 returns-3)
+    tie.close (tie.spec add-start string-end-requires returns returns-2 sub-t5 add-t7 returns-3)

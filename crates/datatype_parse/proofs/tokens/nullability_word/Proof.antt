@@ -1,4 +1,5 @@
 use Rattle.datatype_parse.proofs.TokenLaws.{but, null-found, null-not, null-here}
+use mathlib.Core.Path.{refl}
 use Rattle.tokenizer.specs.Words.{words}
 use Rattle.tokenizer.specs.Token.{isSeparator, wordOf, isDigit, wordKind}
 use native.Mathlib.Omega.{arith}
@@ -16,13 +17,12 @@ slice-aggregate-behind-word c = search needs
 
 -- src/tokens.rt:86:9
 behind-word-requires : tie.Need-behind-word-requires
-unfolding wordOf isSeparator
 behind-word-requires c κs = search needs
 
 -- src/tokens.rt:88:9
 returns : tie.Need-returns
-unfolding wordKind isDigit words
-returns c = null-found _ _ _ (c .before .before .before .before .pre .0) 2 _ (c .before .behind-word .ensures) (c .if1 .taken)
+unfolding wordOf isSeparator wordKind isDigit words
+returns c = null-found _ _ _ (c .before .before .before .before .pre .0) 2 _ (c .before .behind-word .ensures refl) (c .if1 .taken)
 
 -- src/tokens.rt:93:9
 next-token-requires : tie.Need-next-token-requires

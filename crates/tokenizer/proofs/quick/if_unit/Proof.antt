@@ -14,7 +14,7 @@ behind-word-requires c κs = search needs
 
 -- src/quick.rt:231:1
 returns : tie.Need-returns
-returns c = found-as _ _ _ _ _ (c .before .before .before .pre .1 .1) (c .behind-word .ensures)
+returns c = found-as _ _ _ _ _ (c .before .before .before .pre .1 .1) (c .behind-word .ensures (c .before .before .before .pre .1 .0))
 
 pub if-unit-spec : {M : Type 1} → statement M
 if-unit-spec = tie.close (tie.spec behind-word-requires returns)
