@@ -8,3 +8,4 @@ pub mod Ends
 pub mod Digits
 pub mod Keys
 pub mod Computed
+pub mod Sought
