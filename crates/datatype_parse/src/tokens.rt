@@ -15,6 +15,10 @@ use crate::Number;
 use crate::Quoted;
 use crate::Step;
 use crate::Valued;
+use crate::quick::behind_word;
+use crate::quick::type_word;
+use crate::quick::unit_word;
+use tokenizer::Token;
 use tokenizer::TokenKind;
 
 // The refusal at a token that is not of the sort needed.
@@ -25,15 +29,6 @@ fn refusal(kind: TokenKind) -> u32
         return 9;
     };
     n
-}
-
-// The refusal at the token at a place, where another is needed.
-fn refusal_at(text: &[u8], at: usize) -> u32
-    ensures { λ r. ⌜ r ≡ refusalOf ((tokenAt (now (text .entry)) at) .kind) ⌝ }
-{
-    let token = tokenizer::next_token(text, at);
-    let kind = token.kind;
-    refusal(kind)
 }
 
 // Whether a byte stands at a place.
@@ -85,7 +80,7 @@ fn nullability_word(text: &[u8], at: usize, from: usize) -> Nullability
     ensures role { λ r. ⌜ r .role ≡ roleAt (now (text .entry)) at ⌝ }
     ensures next { λ r. ⌜ r .next ≡ afterRole (now (text .entry)) at ⌝ }
 {
-    let sure = tokenizer::behind_word(text, from, b"non-null");
+    let sure = behind_word(text, from, b"non-null");
     if sure > 0 {
         return Nullability {
             role: 2,
@@ -131,31 +126,58 @@ pub(crate) fn peek_double_quoted(text: &[u8], at: usize) -> bool
     true
 }
 
-// A double-quoted string is needed where its opening mark stands.
-fn double_quoted(text: &[u8], at: usize) -> Quoted
+// The token where the opening mark of a double-quoted string stands.
+fn string_token(text: &[u8], at: usize) -> Token
     requires { ⌜ (at < length (now text)) × (getD (now text) at 0 ≡ 34) ⌝ }
-    ensures { λ r. ⌜ r ≡ quotedOf (need (now (text .entry)) doubleQuoted at) ⌝ }
+    ensures { λ r. ⌜ r ≡ tokenAt (now (text .entry)) at ⌝ }
 {
     let start = at + 1;
     let end = tokenizer::string_end(text, start, 34);
     if end >= text.len() {
-        return Quoted::Refused(6);
+        return Token {
+            kind: TokenKind::Refused(6),
+            start: at,
+            size: 0,
+            next: at,
+        };
     }
     if end <= start {
-        return Quoted::Refused(7);
+        return Token {
+            kind: TokenKind::Refused(7),
+            start: at,
+            size: 0,
+            next: at,
+        };
     }
-    Quoted::String(start, end - start, end + 1)
+    Token {
+        kind: TokenKind::DoubleQuotedString,
+        start: start,
+        size: end - start,
+        next: end + 1,
+    }
+}
+
+// The token at a place where a double-quoted string is looked for.
+fn sought_string(text: &[u8], at: usize) -> Token
+    ensures { λ r. ⌜ r ≡ tokenAt (now (text .entry)) at ⌝ }
+{
+    let from = tokenizer::skip_spaces(text, at);
+    if starts(text, from, 34) {
+        return string_token(text, from);
+    }
+    tokenizer::next_token(text, from)
 }
 
 // A double-quoted string is needed.
 pub(crate) fn parse_double_quoted_string(text: &[u8], at: usize) -> Quoted
     ensures { λ r. ⌜ r ≡ quotedOf (need (now (text .entry)) doubleQuoted at) ⌝ }
 {
-    let from = tokenizer::skip_spaces(text, at);
-    if starts(text, from, 34) {
-        return double_quoted(text, from);
-    }
-    Quoted::Refused(refusal_at(text, from))
+    let token = sought_string(text, at);
+    let kind = token.kind;
+    let TokenKind::DoubleQuotedString = kind else {
+        return Quoted::Refused(refusal(kind));
+    };
+    Quoted::String(token.start, token.size, token.next)
 }
 
 // A single-quoted string is needed.
@@ -175,7 +197,7 @@ pub(crate) fn parse_type_word(text: &[u8], at: usize) -> Valued
     ensures { λ r. ⌜ r ≡ valuedOf (need (now (text .entry)) typeWord at) ⌝ }
 {
     let from = tokenizer::skip_spaces(text, at);
-    let word = tokenizer::type_word(text, from);
+    let word = type_word(text, from);
     if word.next > 0 {
         return Valued::Value(word.value, word.next);
     }
@@ -191,7 +213,7 @@ pub(crate) fn parse_time_unit(text: &[u8], at: usize) -> Valued
     ensures { λ r. ⌜ r ≡ valuedOf (need (now (text .entry)) timeUnit at) ⌝ }
 {
     let from = tokenizer::skip_spaces(text, at);
-    let word = tokenizer::unit_word(text, from);
+    let word = unit_word(text, from);
     if word.next > 0 {
         return Valued::Value(word.value, word.next);
     }
@@ -347,11 +369,7 @@ fn parse_some(text: &[u8], at: usize) -> Quoted
 fn parse_zone_string(text: &[u8], at: usize) -> Quoted
     ensures { λ r. ⌜ r ≡ zoneStep (zoneString (now (text .entry)) at) ⌝ }
 {
-    let from = tokenizer::skip_spaces(text, at);
-    if starts(text, from, 34) {
-        return double_quoted(text, from);
-    }
-    let token = tokenizer::next_token(text, at);
+    let token = sought_string(text, at);
     let kind = token.kind;
     match kind {
         TokenKind::None => Quoted::String(0, 0, token.next),

@@ -8,4 +8,3 @@ pub mod Ends
 pub mod Digits
 pub mod Keys
 pub mod Computed
-pub mod Sought

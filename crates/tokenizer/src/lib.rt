@@ -1,14 +1,10 @@
 // Tokens of a type text: the work of the Rust's `Tokenizer`.
 mod number;
-mod quick;
 mod tokenizer;
 mod utf8;
 mod words;
 
-pub use quick::Word;
-pub use quick::behind_word;
-pub use quick::type_word;
-pub use quick::unit_word;
+pub use tokenizer::is_separator;
 pub use tokenizer::next_token;
 pub use tokenizer::skip_spaces;
 pub use tokenizer::string_end;

@@ -25,7 +25,7 @@ pub fn skip_spaces(text: &[u8], from: usize) -> usize
 }
 
 // Whether a byte ends a word: one of the four marks, or a space.
-pub(crate) fn is_separator(b: u8) -> bool
+pub fn is_separator(b: u8) -> bool
     ensures { λ r. ⌜ r ≡ isSeparator b ⌝ }
 {
     if b == 40 {

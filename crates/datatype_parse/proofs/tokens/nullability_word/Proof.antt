@@ -8,7 +8,7 @@ use Rattle.datatype_parse.proofs.tokens.nullability_word.Statement.{sta
 use Rattle.datatype_parse.proofs.tokens.nullability_word.Tie as tie
 use Rattle.datatype_parse.proofs.tokens.nullability_word.Reads as reads
 use Rattle.datatype_parse.proofs.tokens.nullability_word.Lts as lts
-use Rattle.tokenizer.proofs.behind_word.Reads as behind-word-reads
+use Rattle.datatype_parse.proofs.quick.behind_word.Reads as behind-word-reads
 use Rattle.tokenizer.proofs.next_token.Reads as next-token-reads
 
 -- src/tokens.rt:86:51

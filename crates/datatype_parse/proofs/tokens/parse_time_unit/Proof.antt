@@ -8,7 +8,7 @@ use Rattle.datatype_parse.proofs.tokens.parse_time_unit.Tie as tie
 use Rattle.datatype_parse.proofs.tokens.parse_time_unit.Reads as reads
 use Rattle.datatype_parse.proofs.tokens.parse_time_unit.Lts as lts
 use Rattle.datatype_parse.proofs.tokens.refusal.Reads as refusal-reads
-use Rattle.tokenizer.proofs.unit_word.Reads as unit-word-reads
+use Rattle.datatype_parse.proofs.quick.unit_word.Reads as unit-word-reads
 use Rattle.tokenizer.proofs.next_token.Reads as next-token-reads
 use Rattle.tokenizer.proofs.skip_spaces.Reads as skip-spaces-reads
 

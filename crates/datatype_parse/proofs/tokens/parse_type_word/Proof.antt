@@ -8,7 +8,7 @@ use Rattle.datatype_parse.proofs.tokens.parse_type_word.Tie as tie
 use Rattle.datatype_parse.proofs.tokens.parse_type_word.Reads as reads
 use Rattle.datatype_parse.proofs.tokens.parse_type_word.Lts as lts
 use Rattle.datatype_parse.proofs.tokens.refusal.Reads as refusal-reads
-use Rattle.tokenizer.proofs.type_word.Reads as type-word-reads
+use Rattle.datatype_parse.proofs.quick.type_word.Reads as type-word-reads
 use Rattle.tokenizer.proofs.next_token.Reads as next-token-reads
 use Rattle.tokenizer.proofs.skip_spaces.Reads as skip-spaces-reads
 

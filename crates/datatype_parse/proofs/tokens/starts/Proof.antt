@@ -1,5 +1,5 @@
 use borrow.Author.Tests.{eqb-true, eqb-false}
-use Rattle.tokenizer.proofs.WordLaws.{never}
+use Rattle.tokenizer.proofs.StringLaws.{never}
 use Rattle.datatype_parse.proofs.TokenLaws.{no-byte}
 use native.Mathlib.Omega.{arith}
 use borrow.Author.Needs.{needs}

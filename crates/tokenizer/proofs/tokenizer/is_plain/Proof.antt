@@ -1,6 +1,6 @@
 -- `is_plain` meets its contract: a byte above the backslash, the backslash, and one below.
 use borrow.Author.Tests.{eqb-false, not-true}
-use Rattle.tokenizer.proofs.WordLaws.{plain-byte, never}
+use Rattle.tokenizer.proofs.StringLaws.{plain-byte, never}
 use borrow.Author.Needs.{needs}
 use native.Mathlib.Omega.{arith}
 use Rattle.tokenizer.proofs.tokenizer.is_plain.Statement.{statement}

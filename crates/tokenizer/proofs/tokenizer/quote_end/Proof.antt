@@ -6,7 +6,7 @@ use lib.ListN.{length}
 use borrow.Author.Tests.{not-false}
 use Rattle.tokenizer.specs.Ends.{quoteEnd}
 use Rattle.tokenizer.proofs.Runs.{quote-out}
-use Rattle.tokenizer.proofs.WordLaws.{mark-stop, plain-go}
+use Rattle.tokenizer.proofs.StringLaws.{mark-stop, plain-go}
 use borrow.Author.Needs.{needs}
 use native.Mathlib.Omega.{arith}
 use Rattle.tokenizer.proofs.tokenizer.quote_end.Statement.{statement}

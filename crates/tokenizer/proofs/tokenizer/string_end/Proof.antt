@@ -1,5 +1,5 @@
 -- `string_end` meets its contract.
-use Rattle.tokenizer.proofs.WordLaws.{quote-past}
+use Rattle.tokenizer.proofs.StringLaws.{quote-past}
 use native.Mathlib.Omega.{arith}
 use borrow.Author.Needs.{needs}
 use Rattle.tokenizer.proofs.tokenizer.string_end.Statement.{statement}
