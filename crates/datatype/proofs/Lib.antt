@@ -1,3 +1,4 @@
+pub mod Sets
 pub mod Table
 pub mod Runs
 pub mod SoundTree

@@ -6,26 +6,10 @@ use native.Mathlib.Decide.{decLt}
 use native.Mathlib.Omega.{arith}
 use lib.ListN.{length, getD, set, take, length-append, length-set}
 use lib.Seq.{sets, length-sets, take-suc, take-all, length-take-le}
+use Rattle.datatype.proofs.Sets.{sets-append}
 use Rattle.datatype_display.specs.Steps.{Wrote, Moved, Put}
 
--- Stores behind stores.
-pub sets-append : (xs : List ℕ) (i : ℕ) (vs ws : List ℕ) → sets (sets xs i vs) (i + length vs) ws ≡ sets xs i (vs ++ ws)
-sets-append xs i [] ws = ap (λ (k : ℕ). sets xs k ws) (omega arith)
-sets-append xs i (v ∷ vs) ws =
-    ap (λ (k : ℕ). sets (sets (set xs i v) (suc i) vs) k ws) (omega arith)
-    ∙ sets-append (set xs i v) (suc i) vs ws
-
 -- ---- the place behind what was written
-
-module _ (at n : ℕ) where
-  pub moved-past : 16384 < at → Moved at n 16385
-  moved-past h = record { exact = λ e. absurd (omega arith); over = λ e. omega arith }
-
-  pub moved-over : 16384 - at < n → at ≤ 16384 → Moved at n 16385
-  moved-over h l = record { exact = λ e. absurd (omega arith); over = λ e. omega arith }
-
-  pub moved-on : n ≤ 16384 - at → at ≤ 16384 → Moved at n (at + n)
-  moved-on h l = record { exact = λ e. refl; over = λ e. absurd (omega arith) }
 
 pub moved-then : (at m n mid last : ℕ) → Moved at m mid → Moved mid n last → Moved at (m + n) last
 moved-then at m n mid last p q =

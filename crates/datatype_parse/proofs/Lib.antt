@@ -3,6 +3,7 @@ pub mod Counters
 pub mod Stores
 pub mod Answers
 pub mod Looks
+pub mod WordLaws
 pub mod TokenLaws
 pub mod Zones
 pub mod Values

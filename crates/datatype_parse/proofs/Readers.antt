@@ -20,7 +20,8 @@ use Rattle.datatype_parse.specs.Parse.{Name, Tree, Fields, Zone, item, t
 use Rattle.datatype_parse.specs.Steps.{Room, Stored, Meets, MeetsFields, Closed}
 use Rattle.datatype_parse.specs.declared.Read.{Read}
 use Rattle.datatype_parse.specs.declared.Read.the-variants as R
-use Rattle.datatype_parse.proofs.Stores.{in-front, as-field, sets-append, table-one}
+use Rattle.datatype.proofs.Sets.{sets-append}
+use Rattle.datatype_parse.proofs.Stores.{in-front, as-field, table-one}
 use Rattle.datatype_parse.proofs.Answers.{behind, string, GotValue, GotNumber, GotTree, GotFields, got-tree, lost-tree}
 
 -- ---- refusals, and rows

@@ -5,6 +5,7 @@ use native.Mathlib.Omega.{arith}
 use mathlib.Core.List.{List, [], _∷_, _++_, append-nil, append-assoc}
 use lib.ListN.{length, set, length-append}
 use lib.Seq.{sets, set-comm, set-set}
+use Rattle.datatype.proofs.Sets.{sets-append}
 use Rattle.datatype.specs.Tree.{Forest, ∅, node, count, Row}
 use Rattle.datatype.specs.Table.{rowWords, wordsOf, tableOf}
 use Rattle.datatype.proofs.Table.{length-table}
@@ -45,14 +46,7 @@ sets-set xs j v i (w ∷ vs) h =
     ap (λ (l : List ℕ). sets l (suc i) vs) (set-comm xs j i v w (λ e. omega arith))
     ∙ sets-set (set xs i w) j v (suc i) vs (omega arith)
 
--- two runs, the second where the first ends
-pub sets-append : (xs : List ℕ) (i : ℕ) (vs ws : List ℕ) → sets (sets xs i vs) (i + length vs) ws ≡ sets xs i (vs ++ ws)
-sets-append xs i [] ws = ap (λ (k : ℕ). sets xs k ws) (omega arith)
-sets-append xs i (v ∷ vs) ws =
-    ap (λ (k : ℕ). sets (sets (set xs i v) (suc i) vs) k ws) (omega arith)
-    ∙ sets-append (set xs i v) (suc i) vs ws
-
--- the same with the first written last
+-- stores behind stores, the first written last
 pub sets-before : (xs : List ℕ) (i : ℕ) (vs ws : List ℕ) → sets (sets xs (i + length vs) ws) i vs ≡ sets xs i (vs ++ ws)
 sets-before xs i [] ws = ap (λ (k : ℕ). sets xs k ws) (omega arith)
 sets-before xs i (v ∷ vs) ws =

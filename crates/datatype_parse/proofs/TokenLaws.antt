@@ -2,9 +2,9 @@
 use mathlib.Core.Path.{_≡_, refl, sym, ap, _∙_, subst}
 use mathlib.Core.Bool.{Bool, true, false, not}
 use mathlib.Core.List.{List, [], _∷_}
-use Prim.Native.Nat.{ℕ, zero, suc, _+_, _%_, _≤_, _<_}
+use Prim.Native.Nat.{ℕ, zero, suc, _+_, _-_, _%_, _≤_, _<_}
 use native.Mathlib.Omega.{arith}
-use lib.ListN.{length, getD}
+use lib.ListN.{length, drop, getD, List·getD-eq-default}
 use lib.Dec.{T, eqb, leb}
 use borrow.Author.Tests.{eq-eqb, ne-eqb, le-leb, lt-leb, lt-ltb, le-ltb}
 use types.Run.{OneOf, miss}
@@ -14,15 +14,18 @@ use Rattle.tokenizer.proofs.TokenKind.{the-type}
 use Rattle.tokenizer.specs.Text.{if_then_else_}
 use Rattle.tokenizer.specs.Answer.{Refusal, Out, refused, done, refuse, _>>=_}
 use Rattle.tokenizer.specs.Places.{afterSpaces}
-use Rattle.tokenizer.specs.Token.{token, tokenAt, sortOf, valueOf, isNegative, noToken, lparen, rparen, comma, colon, integer, doubleQuoted, singleQuoted, fieldWord, timeUnit, nullability, someWord, noneWord}
+use Rattle.tokenizer.specs.Ends.{quoteEnd}
+use Rattle.tokenizer.specs.Token.{token, tokenAt, untilQuote, stringToken, sortOf, valueOf, isNegative, noToken, lparen, rparen, comma, colon, integer, doubleQuoted, singleQuoted, fieldWord, timeUnit, nullability, someWord, noneWord}
 use Rattle.tokenizer.specs.declared.Token.{Token}
 use Rattle.tokenizer.specs.declared.TokenKind.{TokenKind}
 use Rattle.tokenizer.specs.declared.TokenKind.the-variants.{LParen, RParen, Comma, Colon, Integer, DoubleQuotedString, SingleQuotedString, DataType, TimeUnit, IntervalUnit, UnionMode, MapSorted, Nullability, Field, Some, None, X, Refused}
 use Rattle.tokenizer.proofs.Marks as Marks
 use Rattle.tokenizer.proofs.Basics.{of-true}
-use Rattle.tokenizer.proofs.Tokens.{token-spaces, token-end}
+use Rattle.tokenizer.proofs.Tokens.{token-spaces, token-end, token-34}
+use Rattle.tokenizer.proofs.Runs.{spaces-stop, string-open, string-empty, string-whole}
 use Rattle.datatype.specs.Kind.{unitFits}
 use Rattle.datatype_parse.specs.Parse.{Zone, refusalOf, need, stands, roleAt, afterRole, numberIn, unitAt, someZone, zoneString, zoneAt, listNameAt}
+use Rattle.datatype_parse.specs.Sought.{Found}
 use Rattle.datatype_parse.specs.Steps.{markSort, isMark, stepOf, lookOf, valuedOf, numberOf, quotedOf, zoneStep}
 use Rattle.datatype_parse.specs.declared.Step.the-variants as S
 use Rattle.datatype_parse.specs.declared.Look.the-variants as L
@@ -156,6 +159,46 @@ module _ (text : List ℕ) (sort at : ℕ) (t : Token) (e : t ≡ tokenAt text a
     unfolding stands
     stands-lost = sym (sym (ap (λ (x : Token). eqb (sortOf (x .kind)) sort) e) ∙ other-sort sort others (t .kind) h o)
 
+-- ---- behind the spaces, where a word was found or a string begins
+
+module _ (text : List ℕ) (at from : ℕ) (f : from ≡ afterSpaces text at) where
+  pub behind-spaces : tokenAt text from ≡ tokenAt text at
+  behind-spaces = ap (tokenAt text) f ∙ sym (token-spaces text at)
+
+  pub valued-found : (sort : ℕ) (k : TokenKind) (v next : ℕ) → Found k text from next → 0 < next → sortOf k ≡ sort → valueOf k ≡ v → W.Value v next ≡ valuedOf (need text sort at)
+  unfolding Found
+  valued-found sort k v next w h s u =
+      let p = w h in
+      ap (W.Value v) (sym (p .1))
+      ∙ valued-here text sort at (tokenAt text from) behind-spaces v (ap sortOf (p .0) ∙ s) (ap valueOf (p .0) ∙ u)
+
+  pub stands-other : (getD text from 0 ≡ 34 → ⊥) → false ≡ stands text doubleQuoted at
+  unfolding stands
+  stands-other h = sym (Marks.no-double text at (rw f at h))
+
+-- behind the text's end no byte stands
+pub no-byte : (text : List ℕ) (at byte : ℕ) → length text ≤ at → 0 < byte → getD text at 0 ≡ byte → ⊥
+no-byte text at byte h z e = let d = List·getD-eq-default text 0 {n = at} h in omega arith
+
+-- a string whose opening mark stands at a place
+module _ (text : List ℕ) (at : ℕ) (h : at < length text) (c : getD text at 0 ≡ 34) where
+  opened : stringToken DoubleQuotedString at (untilQuote 34 false (drop (at + 1) text)) ≡ tokenAt text at
+  opened = token-34 text at at (sym (spaces-stop text at h (λ e. let z = sym c ∙ e in omega arith))) h c
+
+  -- a token of no length
+  here-only : (k : TokenKind) → _≡_ {A = Token} (record { kind = k; start = at; size = 0; next = at }) (token k at 0)
+  here-only k = let z : at ≡ at + 0 = omega arith in ap (λ (n : ℕ). record { kind = k; start = at; size = 0; next = n }) z
+
+  module _ (end : ℕ) (e : end ≡ quoteEnd text 34 false (at + 1)) where
+    pub opened-open : length text ≤ end → _≡_ {A = Token} (record { kind = Refused 6; start = at; size = 0; next = at }) (tokenAt text at)
+    opened-open m = here-only (Refused 6) ∙ string-open DoubleQuotedString text 34 at end h e m ∙ opened
+
+    pub opened-empty : end < length text → end ≤ at + 1 → _≡_ {A = Token} (record { kind = Refused 7; start = at; size = 0; next = at }) (tokenAt text at)
+    opened-empty m i = here-only (Refused 7) ∙ string-empty DoubleQuotedString text 34 at end h e m i ∙ opened
+
+    pub opened-whole : end < length text → at + 1 < end → _≡_ {A = Token} (record { kind = DoubleQuotedString; start = at + 1; size = end - (at + 1); next = end + 1 }) (tokenAt text at)
+    opened-whole m i = string-whole DoubleQuotedString text 34 at end h e m i ∙ opened
+
 -- ---- numbers
 
 module _ (text : List ℕ) (least most at : ℕ) (t : Token) (e : t ≡ tokenAt text at) where
@@ -248,3 +291,10 @@ module _ (text : List ℕ) (at : ℕ) where
       pub null-here : (r : ℕ) → t .kind ≡ Nullability r → (r ≡ roleAt text at) × (t .next ≡ afterRole text at)
       unfolding roleAt afterRole stands
       null-here r k = rw (← same-token, k) (refl, refl)
+
+    pub null-found : (r next : ℕ) → Found (Nullability r) text from next → 0 < next → (r ≡ roleAt text at) × (next ≡ afterRole text at)
+    unfolding Found
+    null-found r next w h =
+        let p = w h in
+        let q = null-here (tokenAt text from) refl r (p .0) in
+        (q .0, sym (p .1) ∙ q .1)

@@ -1,3 +1,4 @@
 pub mod Parse
 pub mod Steps
 pub mod Computed
+pub mod Sought

@@ -6,6 +6,7 @@ ghost use Rattle.datatype.specs.Table.{rowsLent};
 ghost use Rattle.datatype_parse.specs.Parse.{textOver, parseAnswer, parseRows, parsedMeans};
 
 mod parser;
+mod quick;
 mod rows;
 mod tokens;
 

@@ -1,9 +1,11 @@
 // Tokens where one is needed or looked for: the small functions of the Rust's `Parser`.
 ghost use mathlib.Core.Path.{_≡_};
-ghost use mathlib.Core.Bool.{true};
-ghost use Prim.Native.Nat.{_≤_};
+ghost use mathlib.Core.Bool.{true, false};
+ghost use Prim.Native.Nat.{_≤_, _<_};
+ghost use lib.ListN.{length, getD};
 ghost use Rattle.tokenizer.specs.Text.{if_then_else_};
-ghost use Rattle.tokenizer.specs.Token.{doubleQuoted, singleQuoted, typeWord, timeUnit, intervalUnit, unionMode, mapSorted, fieldWord, xWord};
+ghost use Rattle.tokenizer.specs.Places.{afterSpaces};
+ghost use Rattle.tokenizer.specs.Token.{tokenAt, doubleQuoted, singleQuoted, typeWord, timeUnit, intervalUnit, unionMode, mapSorted, fieldWord, xWord};
 ghost use Rattle.datatype.specs.Kind.{unitFits};
 ghost use Rattle.datatype_parse.specs.Parse.{refusalOf, need, roleAt, afterRole, numberIn, unitAt, someZone, zoneString, zoneAt, listNameAt, stands};
 ghost use Rattle.datatype_parse.specs.Steps.{markSort, isMark, stepOf, lookOf, valuedOf, numberOf, quotedOf, zoneStep};
@@ -13,6 +15,10 @@ use crate::Number;
 use crate::Quoted;
 use crate::Step;
 use crate::Valued;
+use crate::quick::behind_word;
+use crate::quick::type_word;
+use crate::quick::unit_word;
+use tokenizer::Token;
 use tokenizer::TokenKind;
 
 // The refusal at a token that is not of the sort needed.
@@ -23,6 +29,17 @@ fn refusal(kind: TokenKind) -> u32
         return 9;
     };
     n
+}
+
+// Whether a byte stands at a place.
+fn starts(text: &[u8], at: usize, byte: u8) -> bool
+    ensures here { λ r. ⌜ (r ≡ true → (at < length (now (text .entry))) × (getD (now (text .entry)) at 0 ≡ byte)) ⌝ }
+    ensures other { λ r. ⌜ (r ≡ false → 0 < byte → getD (now (text .entry)) at 0 ≡ byte → ⊥) ⌝ }
+{
+    if at >= text.len() {
+        return false;
+    }
+    text[at] == byte
 }
 
 // A mark is needed.
@@ -57,17 +74,18 @@ pub(crate) fn next_if(text: &[u8], at: usize, mark: u8) -> Look
     Look::Other
 }
 
-// Nullability, which may be left out.
-pub(crate) fn parse_opt_nullable(text: &[u8], at: usize) -> Nullability
+// Nullability where a word stands that may be one for it, behind the spaces.
+fn nullability_word(text: &[u8], at: usize, from: usize) -> Nullability
+    requires { ⌜ (from ≡ afterSpaces (now text) at) × (from < length (now text)) ⌝ }
     ensures role { λ r. ⌜ r .role ≡ roleAt (now (text .entry)) at ⌝ }
     ensures next { λ r. ⌜ r .next ≡ afterRole (now (text .entry)) at ⌝ }
 {
-    let from = tokenizer::skip_spaces(text, at);
-    if from >= text.len() {
-        return Nullability { role: 1, next: at };
-    }
-    if text[from] != 110 {
-        return Nullability { role: 1, next: at };
+    let sure = behind_word(text, from, b"non-null");
+    if sure > 0 {
+        return Nullability {
+            role: 2,
+            next: sure,
+        };
     }
     let token = tokenizer::next_token(text, from);
     let kind = token.kind;
@@ -80,10 +98,26 @@ pub(crate) fn parse_opt_nullable(text: &[u8], at: usize) -> Nullability
     }
 }
 
+// Nullability, which may be left out. Both of its words begin with an n.
+pub(crate) fn parse_opt_nullable(text: &[u8], at: usize) -> Nullability
+    ensures role { λ r. ⌜ r .role ≡ roleAt (now (text .entry)) at ⌝ }
+    ensures next { λ r. ⌜ r .next ≡ afterRole (now (text .entry)) at ⌝ }
+{
+    let from = tokenizer::skip_spaces(text, at);
+    if starts(text, from, 110) {
+        return nullability_word(text, at, from);
+    }
+    Nullability { role: 1, next: at }
+}
+
 // Whether a whole, non-empty double-quoted string is next.
 pub(crate) fn peek_double_quoted(text: &[u8], at: usize) -> bool
     ensures { λ r. ⌜ r ≡ stands (now (text .entry)) doubleQuoted at ⌝ }
 {
+    let from = tokenizer::skip_spaces(text, at);
+    if !starts(text, from, 34) {
+        return false;
+    }
     let token = tokenizer::next_token(text, at);
     let kind = token.kind;
     let TokenKind::DoubleQuotedString = kind else {
@@ -92,11 +126,53 @@ pub(crate) fn peek_double_quoted(text: &[u8], at: usize) -> bool
     true
 }
 
+// The token where the opening mark of a double-quoted string stands.
+fn string_token(text: &[u8], at: usize) -> Token
+    requires { ⌜ (at < length (now text)) × (getD (now text) at 0 ≡ 34) ⌝ }
+    ensures { λ r. ⌜ r ≡ tokenAt (now (text .entry)) at ⌝ }
+{
+    let start = at + 1;
+    let end = tokenizer::string_end(text, start, 34);
+    if end >= text.len() {
+        return Token {
+            kind: TokenKind::Refused(6),
+            start: at,
+            size: 0,
+            next: at,
+        };
+    }
+    if end <= start {
+        return Token {
+            kind: TokenKind::Refused(7),
+            start: at,
+            size: 0,
+            next: at,
+        };
+    }
+    Token {
+        kind: TokenKind::DoubleQuotedString,
+        start: start,
+        size: end - start,
+        next: end + 1,
+    }
+}
+
+// The token at a place where a double-quoted string is looked for.
+fn sought_string(text: &[u8], at: usize) -> Token
+    ensures { λ r. ⌜ r ≡ tokenAt (now (text .entry)) at ⌝ }
+{
+    let from = tokenizer::skip_spaces(text, at);
+    if starts(text, from, 34) {
+        return string_token(text, from);
+    }
+    tokenizer::next_token(text, from)
+}
+
 // A double-quoted string is needed.
 pub(crate) fn parse_double_quoted_string(text: &[u8], at: usize) -> Quoted
     ensures { λ r. ⌜ r ≡ quotedOf (need (now (text .entry)) doubleQuoted at) ⌝ }
 {
-    let token = tokenizer::next_token(text, at);
+    let token = sought_string(text, at);
     let kind = token.kind;
     let TokenKind::DoubleQuotedString = kind else {
         return Quoted::Refused(refusal(kind));
@@ -120,6 +196,11 @@ pub(crate) fn parse_single_quoted_string(text: &[u8], at: usize) -> Quoted
 pub(crate) fn parse_type_word(text: &[u8], at: usize) -> Valued
     ensures { λ r. ⌜ r ≡ valuedOf (need (now (text .entry)) typeWord at) ⌝ }
 {
+    let from = tokenizer::skip_spaces(text, at);
+    let word = type_word(text, from);
+    if word.next > 0 {
+        return Valued::Value(word.value, word.next);
+    }
     let token = tokenizer::next_token(text, at);
     let kind = token.kind;
     let TokenKind::DataType(k) = kind else {
@@ -131,6 +212,11 @@ pub(crate) fn parse_type_word(text: &[u8], at: usize) -> Valued
 pub(crate) fn parse_time_unit(text: &[u8], at: usize) -> Valued
     ensures { λ r. ⌜ r ≡ valuedOf (need (now (text .entry)) timeUnit at) ⌝ }
 {
+    let from = tokenizer::skip_spaces(text, at);
+    let word = unit_word(text, from);
+    if word.next > 0 {
+        return Valued::Value(word.value, word.next);
+    }
     let token = tokenizer::next_token(text, at);
     let kind = token.kind;
     let TokenKind::TimeUnit(unit) = kind else {
@@ -283,7 +369,7 @@ fn parse_some(text: &[u8], at: usize) -> Quoted
 fn parse_zone_string(text: &[u8], at: usize) -> Quoted
     ensures { λ r. ⌜ r ≡ zoneStep (zoneString (now (text .entry)) at) ⌝ }
 {
-    let token = tokenizer::next_token(text, at);
+    let token = sought_string(text, at);
     let kind = token.kind;
     match kind {
         TokenKind::None => Quoted::String(0, 0, token.next),

@@ -4,5 +4,6 @@ pub mod Runs
 pub mod Magnitude
 pub mod Listed
 pub mod Tokens
+pub mod StringLaws
 pub mod Marks
 pub mod Utf8Laws

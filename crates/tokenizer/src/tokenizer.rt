@@ -3,7 +3,7 @@ use crate::Token;
 use crate::TokenKind;
 use crate::words::word_kind;
 ghost use mathlib.Core.Path.{_≡_};
-ghost use mathlib.Core.Bool.{false};
+ghost use mathlib.Core.Bool.{true, false};
 ghost use Prim.Native.Nat.{_+_, _<_, _≤_};
 ghost use lib.ListN.{length, drop};
 ghost use Rattle.tokenizer.specs.Token.{token, isSeparator, wordOf, wordKind, escapedAfter, untilQuote, stringToken, tokenAt};
@@ -25,7 +25,7 @@ pub fn skip_spaces(text: &[u8], from: usize) -> usize
 }
 
 // Whether a byte ends a word: one of the four marks, or a space.
-fn is_separator(b: u8) -> bool
+pub fn is_separator(b: u8) -> bool
     ensures { λ r. ⌜ r ≡ isSeparator b ⌝ }
 {
     if b == 40 {
@@ -80,8 +80,8 @@ fn escaped_after(quote: u8, escaped: bool, b: u8) -> bool
     escaped
 }
 
-// The place of the mark that ends the string whose bytes start at `from`, or the text's end.
-fn quote_end(text: &[u8], from: usize, quote: u8) -> usize
+// The place of the mark that ends a string, from a place in it on that no escape reaches, or the text's end.
+fn escaped_end(text: &[u8], from: usize, quote: u8) -> usize
     requires { ⌜ from ≤ length (now text) ⌝ }
     ensures { λ r. ⌜ r ≡ quoteEnd (now (text .entry)) quote false from ⌝ }
 {
@@ -96,6 +96,48 @@ fn quote_end(text: &[u8], from: usize, quote: u8) -> usize
         i += 1;
     }
     i
+}
+
+// Whether a byte neither ends a string nor is a backslash. Most letters are above both.
+fn is_plain(quote: u8, b: u8) -> bool
+    ensures { λ r. ⌜ (r ≡ true → (closes quote false b ≡ false) × (escapedAfter quote false b ≡ false)) ⌝ }
+{
+    if b > 92 {
+        return b != quote;
+    }
+    if b == 92 {
+        return false;
+    }
+    b != quote
+}
+
+// The place of the mark that ends the string whose bytes start at `from`, or the text's end.
+fn quote_end(text: &[u8], from: usize, quote: u8) -> usize
+    requires { ⌜ from ≤ length (now text) ⌝ }
+    ensures { λ r. ⌜ r ≡ quoteEnd (now (text .entry)) quote false from ⌝ }
+{
+    let mut i = from;
+    while i < text.len() {
+        let b = text[i];
+        if !is_plain(quote, b) {
+            if b == quote {
+                return i;
+            }
+            return escaped_end(text, i, quote);
+        }
+        i += 1;
+    }
+    i
+}
+
+// The same at any place.
+pub fn string_end(text: &[u8], from: usize, quote: u8) -> usize
+    ensures { λ r. ⌜ r ≡ quoteEnd (now (text .entry)) quote false from ⌝ }
+{
+    if from > text.len() {
+        return text.len();
+    }
+    quote_end(text, from, quote)
 }
 
 // The token of a kind that starts at a place and has a length.

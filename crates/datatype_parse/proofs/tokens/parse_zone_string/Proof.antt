@@ -13,11 +13,11 @@ use Rattle.datatype_parse.proofs.tokens.parse_zone_string.Reads as read
 use Rattle.datatype_parse.proofs.tokens.parse_zone_string.Lts as lts
 use Rattle.datatype_parse.proofs.tokens.parse_some.Reads as parse-some-reads
 use Rattle.datatype_parse.proofs.tokens.refusal.Reads as refusal-reads
-use Rattle.tokenizer.proofs.next_token.Reads as next-token-reads
+use Rattle.datatype_parse.proofs.tokens.sought_string.Reads as sought-string-reads
 
 -- src/tokens.rt:286:9
-next-token-requires : tie.Need-next-token-requires
-next-token-requires c κs = search needs
+sought-string-requires : tie.Need-sought-string-requires
+sought-string-requires c κs = search needs
 
 -- src/tokens.rt:289:28
 enum-told : tie.Need-enum-told
@@ -41,25 +41,25 @@ refusal-requires c κs = search needs
 
 -- src/tokens.rt:283:1
 returns : tie.Need-returns
-returns c = zone-done _ _ _ _ (zone-none _ _ _ (c .before .before .next-token .ensures) (only-sort 15 (c .before .before .next-token .result .kind) (c .before .match .keys1)))
+returns c = zone-done _ _ _ _ (zone-none _ _ _ (c .before .before .sought-string .ensures) (only-sort 15 (c .before .before .sought-string .result .kind) (c .before .match .keys1)))
 
 -- src/tokens.rt:283:1
 returns-2 : tie.Need-returns-2
-returns-2 c = c .parse-some .ensures ∙ sym (ap zoneStep (zone-some _ _ _ (c .before .before .before .next-token .ensures) (only-sort 14 (c .before .before .before .next-token .result .kind) (c .before .before .match .keys2))))
+returns-2 c = c .parse-some .ensures ∙ sym (ap zoneStep (zone-some _ _ _ (c .before .before .before .sought-string .ensures) (only-sort 14 (c .before .before .before .sought-string .result .kind) (c .before .before .match .keys2))))
 
 -- src/tokens.rt:283:1
 returns-3 : tie.Need-returns-3
-returns-3 c = zone-done _ _ _ _ (zone-string _ _ _ (c .before .before .next-token .ensures) (only-sort 5 (c .before .before .next-token .result .kind) (c .before .match .keys3)))
+returns-3 c = zone-done _ _ _ _ (zone-string _ _ _ (c .before .before .sought-string .ensures) (only-sort 5 (c .before .before .sought-string .result .kind) (c .before .match .keys3)))
 
 -- src/tokens.rt:283:1
 returns-4 : tie.Need-returns-4
-returns-4 c = zone-refused _ _ (zone-other _ _ _ (c .before .before .next-token .ensures) (0 ∷ 1 ∷ 2 ∷ 3 ∷ 4 ∷ 6 ∷ 7 ∷ 8 ∷ 9 ∷ 10 ∷ 11 ∷ 12 ∷ 13 ∷ 16 ∷ 17 ∷ []) tt tt tt (c .before .match .keys4) ∙ ap (λ (i : ℕ). refuse i) (sym (c .refusal .ensures)))
+returns-4 c = zone-refused _ _ (zone-other _ _ _ (c .before .before .sought-string .ensures) (0 ∷ 1 ∷ 2 ∷ 3 ∷ 4 ∷ 6 ∷ 7 ∷ 8 ∷ 9 ∷ 10 ∷ 11 ∷ 12 ∷ 13 ∷ 16 ∷ 17 ∷ []) tt tt tt (c .before .match .keys4) ∙ ap (λ (i : ℕ). refuse i) (sym (c .refusal .ensures)))
 
 pub parse-zone-string-spec : {M : Type 1} → statement M
 parse-zone-string-spec =
     tie.close
     (tie.spec
-    next-token-requires
+    sought-string-requires
     enum-told
     enum-told-2
     parse-some-requires

@@ -1,46 +1,66 @@
--- `quote_end` meets its contract. The loop keeps where the string ends, as seen from the place and the escape reached.
+-- `quote_end` meets its contract. The loop keeps where the string ends, as seen from the place reached.
 use mathlib.Core.Bool.{false}
 use mathlib.Core.Path.{_≡_, refl, sym, _∙_}
 use Prim.Native.Nat.{_-_, _≤_}
 use lib.ListN.{length}
-use borrow.Author.Needs.{needs}
+use borrow.Author.Tests.{not-false}
 use Rattle.tokenizer.specs.Ends.{quoteEnd}
-use Rattle.tokenizer.proofs.Runs.{quote-out, quote-stop, quote-go}
+use Rattle.tokenizer.proofs.Runs.{quote-out}
+use Rattle.tokenizer.proofs.StringLaws.{mark-stop, plain-go}
+use borrow.Author.Needs.{needs}
+use native.Mathlib.Omega.{arith}
 use Rattle.tokenizer.proofs.tokenizer.quote_end.Statement.{statement}
 use Rattle.tokenizer.proofs.tokenizer.quote_end.Tie as tie
+use Rattle.tokenizer.proofs.tokenizer.quote_end.Reads as reads
+use Rattle.tokenizer.proofs.tokenizer.quote_end.Lts as lts
+use Rattle.tokenizer.proofs.tokenizer.escaped_end.Reads as escaped-end-reads
+use Rattle.tokenizer.proofs.tokenizer.is_plain.Reads as is-plain-reads
 
 abbrev Inv-loop : tie.InvT-loop
-Inv-loop text from quote i₀ escaped₀ i escaped = (i ≤ length text) × (quoteEnd text quote false from ≡ quoteEnd text quote escaped i)
+Inv-loop text from quote i₀ i = (i ≤ length text) × (quoteEnd text quote false from ≡ quoteEnd text quote false i)
 
 abbrev μ-loop : tie.MeasureT-loop
-μ-loop text from quote i₀ escaped₀ i escaped = length text - i
+μ-loop text from quote i₀ i = length text - i
 
+-- src/tokenizer.rt:120:5
 loop-holds : tie.Need-loop-holds Inv-loop μ-loop
 loop-holds c = (search needs, refl)
 
+-- src/tokenizer.rt:121:17
 shared-slice-read-b : tie.Need-shared-slice-read-b Inv-loop μ-loop
 shared-slice-read-b c = search needs
 
-ends-string-requires : tie.Need-ends-string-requires Inv-loop μ-loop
-ends-string-requires c κs = search needs
+-- src/tokenizer.rt:122:13
+is-plain-requires : tie.Need-is-plain-requires Inv-loop μ-loop
+is-plain-requires c κs = search needs
 
+-- src/tokenizer.rt:124:17
 returns : tie.Need-returns Inv-loop μ-loop
-returns c = sym (c .before .before .before .before .loop .inv .1 ∙ quote-stop _ _ _ _ (c .before .before .before .loop-test .taken) (sym (c .before .ends-string .ensures) ∙ c .if1 .taken))
+returns c = sym (c .before .before .before .before .before .loop .inv .1 ∙ mark-stop _ _ _ (c .before .before .before .before .loop-test .taken) (c .if2 .taken))
 
-escaped-after-requires : tie.Need-escaped-after-requires Inv-loop μ-loop
-escaped-after-requires c κs = search needs
+-- src/tokenizer.rt:126:13
+escaped-end-requires : tie.Need-escaped-end-requires Inv-loop μ-loop
+escaped-end-requires c κs = search needs
 
+-- src/tokenizer.rt:126:13
+returns-2 : tie.Need-returns-2 Inv-loop μ-loop
+returns-2 c = c .escaped-end .ensures ∙ sym (c .before .before .before .before .before .before .loop .inv .1)
+
+-- src/tokenizer.rt:128:9
 add-i : tie.Need-add-i Inv-loop μ-loop
 add-i c = search needs
 
+-- src/tokenizer.rt:120:5
 loop-less : tie.Need-loop-less Inv-loop μ-loop
 loop-less c = search needs
 
+-- src/tokenizer.rt:120:5
 loop-again : tie.Need-loop-again Inv-loop μ-loop
-loop-again c = (search needs, rw (c .escaped-after .ensures) (c .before .before .before .before .before .loop .inv .1 ∙ quote-go _ _ _ _ (c .before .before .before .before .loop-test .taken) (sym (c .before .before .ends-string .ensures) ∙ c .before .if1 .left)))
+loop-again c = (search needs, c .before .before .before .before .loop .inv .1 ∙ plain-go _ _ _ (c .before .before .before .loop-test .taken) (c .before .is-plain .ensures (not-false _ (c .if1 .left))))
 
-returns-2 : tie.Need-returns-2 Inv-loop μ-loop
-returns-2 c = sym (c .before .loop .inv .1 ∙ quote-out _ _ _ _ (c .loop-test .left) (c .before .loop .inv .0))
+-- src/tokenizer.rt:115:1
+returns-3 : tie.Need-returns-3 Inv-loop μ-loop
+returns-3 c = sym (c .before .loop .inv .1 ∙ quote-out _ _ _ _ (c .loop-test .left) (c .before .loop .inv .0))
 
 pub quote-end-spec : {M : Type 1} → statement M
 quote-end-spec =
@@ -50,10 +70,11 @@ quote-end-spec =
     μ-loop
     loop-holds
     shared-slice-read-b
-    ends-string-requires
+    is-plain-requires
     returns
-    escaped-after-requires
+    escaped-end-requires
+    returns-2
     add-i
     loop-less
     loop-again
-    returns-2)
+    returns-3)
