@@ -1,9 +1,9 @@
 use Rattle.round_trip.proofs.Rewrite.{within, counted, not-printed, not-read, read-back}
 use borrow.Author.Needs.{needs}
-use Rattle.round_trip.proofs.print_and_read.Statement.{statement}
-use Rattle.round_trip.proofs.print_and_read.Tie as tie
-use Rattle.round_trip.proofs.print_and_read.Reads as reads
-use Rattle.round_trip.proofs.print_and_read.Lts as lts
+use Rattle.rewrite.proofs.print_and_read.Statement.{statement}
+use Rattle.rewrite.proofs.print_and_read.Tie as tie
+use Rattle.rewrite.proofs.print_and_read.Reads as reads
+use Rattle.rewrite.proofs.print_and_read.Lts as lts
 use Rattle.datatype_display.proofs.print_data_type.Reads as print-data-type-reads
 use Rattle.datatype_parse.proofs.parse_data_type.Reads as parse-data-type-reads
 
