@@ -17,7 +17,7 @@ use crate::rows::ZONE_START;
 use crate::rows::word;
 
 // Whether two slices of words are the same.
-fn equal_words(a: &[u32], b: &[u32]) -> bool
+pub fn equal_words(a: &[u32], b: &[u32]) -> bool
     ensures { λ r. ⌜ r ≡ same (now (a .entry)) (now (b .entry)) ⌝ }
 {
     if a.len() != b.len() {

@@ -14,6 +14,7 @@ mod sound;
 mod union_fields;
 
 pub use equality::equal_trees;
+pub use equality::equal_words;
 pub use field::Field;
 pub use field::equal_bytes;
 pub use field::name;

@@ -24,8 +24,10 @@ use std::process::ExitCode;
 const USAGE: &str = "\
 compare run [seed=N] [sequences=N] [texts=N] [trees=N]
     compares generated texts and trees; exit status 1 if any difference is found
-compare sample FILE [seed=N]
+compare texts FILE [seed=N]
     writes texts with their answers, for a replay without Rust
+compare tables FILE [seed=N]
+    writes damaged tables with their answers, for the same
 compare show
     reads one text from standard input and shows what model and Rust say
 compare speed
@@ -49,12 +51,13 @@ fn command(arguments: &[String]) -> Result<ExitCode, String> {
     let (name, rest) = arguments.split_first().ok_or("no command")?;
     match name.as_str() {
         "run" => run(&settings(rest, &["seed", "sequences", "texts", "trees"])?),
-        "sample" => {
+        "texts" | "tables" => {
             let (file, rest) = rest.split_first().ok_or("no file")?;
-            sample::write(
-                file,
-                settings(rest, &["seed"])?.get("seed").copied().unwrap_or(1),
-            )
+            let seed = settings(rest, &["seed"])?.get("seed").copied().unwrap_or(1);
+            match name.as_str() {
+                "texts" => sample::texts(file, seed),
+                _ => sample::tables(file, seed),
+            }
         }
         "show" => show(),
         #[cfg(feature = "subject")]

@@ -1,49 +1,137 @@
-//! A stored sample of texts with their answers, for a replay without Rust. README.md has the format.
+//! The stored samples, for a replay without Rust: texts and damaged tables with the answers they are to give. README.md
+//! has the format.
 
 use crate::check::Check;
+use crate::generate::trees::{self, Letters, Tree};
 use crate::generate::{Random, Visit, bytes, damage, limits, places, sequences, texts};
 use crate::known;
-use crate::model::{self, Limits, MOST_BYTES, MOST_ROWS, NAME_LIST, Row};
+use crate::model::{self, Limits, MOST_BYTES, MOST_ROWS, NAME_LIST, Row, WORDS, refusal};
 use crate::subject;
 use std::collections::BTreeMap;
 use std::process::ExitCode;
 
-/// The file stays below this.
-const MOST_FILE_BYTES: usize = 1_500_000;
+/// A file stays below this: the replay has room for a million bytes.
+const MOST_FILE_BYTES: usize = 900_000;
 
 /// Records longer than this are large; there are to be few of them.
 const LARGE: usize = 3_000;
-const MOST_LARGE_BYTES: usize = 500_000;
+const MOST_LARGE_BYTES: usize = 150_000;
 
-pub fn write(file: &str, seed: u64) -> Result<ExitCode, String> {
+/// The most words that the replay lends.
+const MOST_LENT: usize = 12_000;
+
+/// Numbers with a space or a line's end behind each, and bytes with their count before them and a line's end behind.
+#[derive(Default)]
+struct Stored(Vec<u8>);
+
+impl Stored {
+    fn number(&mut self, number: usize) -> &mut Stored {
+        self.0.extend(format!("{number} ").bytes());
+        self
+    }
+
+    fn bytes(&mut self, bytes: &[u8]) -> &mut Stored {
+        self.number(bytes.len()).0.extend(bytes);
+        self.0.push(b'\n');
+        self
+    }
+
+    /// The last number ends its line.
+    fn line(&mut self) {
+        let last = self.0.len() - 1;
+        self.0[last] = b'\n';
+    }
+
+    /// Words, a row to a line.
+    fn words(&mut self, words: &[u32]) {
+        for row in words.chunks(WORDS) {
+            row.iter().for_each(|word| {
+                self.number(*word as usize);
+            });
+            self.line();
+        }
+    }
+}
+
+/// Records that fit into a file, few of them large.
+#[derive(Default)]
+struct File {
+    records: Vec<Vec<u8>>,
+    bytes: usize,
+    large: usize,
+}
+
+impl File {
+    fn offer(&mut self, record: Vec<u8>) -> bool {
+        let large = if record.len() > LARGE {
+            record.len()
+        } else {
+            0
+        };
+        let fits = large == 0 || self.large + large <= MOST_LARGE_BYTES;
+        let fits = fits && self.bytes + record.len() <= MOST_FILE_BYTES;
+        if fits {
+            self.large += large;
+            self.bytes += record.len();
+            self.records.push(record);
+        }
+        fits
+    }
+
+    fn write(&self, file: &str) -> Result<usize, String> {
+        let mut image = Stored::default();
+        image.number(self.records.len()).line();
+        self.records
+            .iter()
+            .for_each(|record| image.0.extend(record));
+        std::fs::write(file, &image.0).map_err(|error| format!("{file}: {error}"))?;
+        Ok(image.0.len())
+    }
+}
+
+/// Writes texts with their answers; none while model, Rust and port differ on any.
+pub fn texts(file: &str, seed: u64) -> Result<ExitCode, String> {
     let subject = subject::linked();
     let mut check = Check::new(subject.as_deref(), seed);
-    let mut large = 0;
-    let mut records = Vec::new();
-    let mut bytes = 4;
+    let mut random = Random::new(seed);
+    let mut kept = File::default();
     for text in chosen(seed) {
         let read = check.text(&text);
-        let record = record(&text, &read);
-        let is_large = record.len() > LARGE;
-        if is_large && large + record.len() > MOST_LARGE_BYTES
-            || bytes + record.len() > MOST_FILE_BYTES
-        {
-            continue;
-        }
-        large += if is_large { record.len() } else { 0 };
-        bytes += record.len();
-        records.push(record);
+        let lent = lent(&mut random, &read);
+        kept.offer(text_record(&text, lent));
     }
     if check.differences() > 0 {
         println!("nothing is written while there are differences");
         return Ok(ExitCode::FAILURE);
     }
-    let mut image = Vec::with_capacity(bytes);
-    put(&mut image, records.len());
-    records.iter().for_each(|record| image.extend(record));
-    std::fs::write(file, &image).map_err(|error| format!("{file}: {error}"))?;
-    println!("{} texts, {} bytes in {file}", records.len(), image.len());
+    let bytes = kept.write(file)?;
+    println!("{} texts, {bytes} bytes in {file}", kept.records.len());
     Ok(ExitCode::SUCCESS)
+}
+
+/// How many words the replay lends: mostly those of 1,024 rows, else more, or about as many as the rows take.
+fn lent(random: &mut Random, read: &Result<Vec<Row>, u32>) -> usize {
+    let taken = read.as_ref().map_or(22, |rows| rows.len() * WORDS);
+    match random.below(8) {
+        0 => random
+            .between(taken.saturating_sub(12), taken + 12)
+            .min(MOST_LENT),
+        1 => random.between(MOST_ROWS * WORDS + 1, MOST_LENT),
+        _ => MOST_ROWS * WORDS,
+    }
+}
+
+fn text_record(text: &[u8], lent: usize) -> Vec<u8> {
+    let mut record = Stored::default();
+    record.number(lent).bytes(text);
+    match model::read(text, Limits::lent(lent / WORDS)) {
+        Ok(rows) => {
+            record.number(0).number(rows.len()).line();
+            record.words(&model::to_words(&rows));
+        }
+        Err(number) => record.number(number as usize).number(0).line(),
+    }
+    record.0
 }
 
 /// Texts out of every generator: from each a few for every answer that it gives.
@@ -125,38 +213,130 @@ impl Kept {
     }
 }
 
-fn put(image: &mut Vec<u8>, number: usize) {
-    image.extend((number as u32).to_le_bytes());
-}
-
-fn record(text: &[u8], read: &Result<Vec<Row>, u32>) -> Vec<u8> {
-    let mut image = Vec::new();
-    put(&mut image, text.len());
-    image.extend(text);
-    match read {
-        Ok(rows) => {
-            put(&mut image, 0);
-            put(&mut image, rows.len());
-            let words = model::to_words(rows);
-            words
-                .iter()
-                .for_each(|word| put(&mut image, *word as usize));
-            match model::print(text, NAME_LIST, &words, MOST_BYTES) {
-                Ok(printed) => {
-                    put(&mut image, 0);
-                    put(&mut image, printed.len());
-                    image.extend(printed);
-                }
-                Err(number) => {
-                    put(&mut image, 1);
-                    put(&mut image, number as usize);
-                }
-            }
-        }
-        Err(number) => {
-            put(&mut image, 1);
-            put(&mut image, *number as usize);
+/// Writes tables with the model's answers: sound trees with each word set to values around its bounds, and trees with a
+/// clause of soundness broken.
+pub fn tables(file: &str, seed: u64) -> Result<ExitCode, String> {
+    let mut random = Random::new(seed);
+    let mut kept = File::default();
+    let mut cases = 0;
+    for _ in 0..60 {
+        let tree = trees::sound(&mut random, Letters::Any, 5);
+        let Some(other) = trees::packed(&tree) else {
+            continue;
+        };
+        let changes = around_bounds(&mut random, &tree);
+        if kept.offer(table_record(&tree, &other, &changes)) {
+            cases += changes.len();
         }
     }
-    image
+    for _ in 0..400 {
+        let tree = trees::sound(&mut random, Letters::Any, 8);
+        let Some((_, damaged)) = trees::broken(&mut random, &tree) else {
+            continue;
+        };
+        if damaged.words.len() <= MOST_LENT
+            && kept.offer(table_record(&damaged, &tree, &[UNCHANGED]))
+        {
+            cases += 1;
+        }
+    }
+    let bytes = kept.write(file)?;
+    println!("{cases} tables, {bytes} bytes in {file}");
+    Ok(ExitCode::SUCCESS)
+}
+
+/// A word and the value it is set to. A word past the table's end changes nothing.
+type Change = (usize, u32);
+
+const UNCHANGED: Change = (u32::MAX as usize, 0);
+
+/// Nothing changed, and each word set to values around its bounds, or rather to half of them.
+fn around_bounds(random: &mut Random, tree: &Tree) -> Vec<Change> {
+    let rows = (tree.words.len() / WORDS) as u32;
+    let bytes = tree.text.len() as u32;
+    let mut all = vec![UNCHANGED];
+    for (at, word) in tree.words.iter().enumerate() {
+        let bounds: &[u32] = match at % WORDS {
+            0 => &[0, 2, 3, 5, 13, 16, 17, 27, 32, 33, 34, 38, 39, 40, 41],
+            1 => &[0, 1, rows, rows + 1, u32::MAX],
+            2 => &[0, 1, 2, 3],
+            3 => &[0, 1, 127, 128],
+            4 => &[
+                0,
+                1,
+                3,
+                4,
+                9,
+                10,
+                18,
+                19,
+                38,
+                39,
+                76,
+                77,
+                0x7fff_ffff,
+                0x8000_0000,
+            ],
+            5 => &[0, 1, 128, 137, 138, 255, 256],
+            6 => &[0, 1, 2, 3],
+            7 => &[0, 4, 12, 18, bytes, bytes + 1, u32::MAX],
+            8 => &[0, 1, 4, 6, 8, 18, bytes, bytes + 1, u32::MAX],
+            _ => &[0, 1, bytes, bytes + 1, u32::MAX],
+        };
+        let mut values = bounds.to_vec();
+        values.extend([word.wrapping_sub(1), word.wrapping_add(1)]);
+        values.sort();
+        values.dedup();
+        values.retain(|value| value != word);
+        for value in values {
+            if random.one_in(2) {
+                all.push((at, value));
+            }
+        }
+    }
+    all
+}
+
+/// Two tables, and changes of the first with the answers of each.
+fn table_record(tree: &Tree, other: &Tree, changes: &[Change]) -> Vec<u8> {
+    let mut record = Stored::default();
+    for tree in [tree, other] {
+        record.bytes(&tree.text).bytes(&tree.list);
+        record.number(tree.words.len()).line();
+        record.words(&tree.words);
+    }
+    record.number(changes.len()).line();
+    for (at, value) in changes {
+        let mut changed = tree.clone();
+        if let Some(word) = changed.words.get_mut(*at) {
+            *word = *value;
+        }
+        record.number(*at).number(*value as usize);
+        answers(&mut record, &changed, other, at / WORDS);
+    }
+    record.0
+}
+
+/// Sound or not, depth, verdict, equality with the other, and a row's name and zone.
+fn answers(record: &mut Stored, tree: &Tree, other: &Tree, row: usize) {
+    let Tree { text, list, words } = tree;
+    let sound = model::sound(text, list, words);
+    let rows = model::from_words(words);
+    let others = model::from_words(&other.words);
+    let equal = model::equal((text, list, &rows), (&other.text, &other.list, &others));
+    record.number(usize::from(sound));
+    let depth = if sound {
+        Ok(model::depth(&rows))
+    } else {
+        Err(refusal::NOT_SOUND)
+    };
+    let verdict = model::verdict(text, list, words).map(|row| row.map_or(0, |row| row + 1));
+    for answer in [depth, verdict] {
+        record.number(answer.err().unwrap_or(0) as usize);
+        record.number(answer.unwrap_or(0));
+    }
+    record.number(usize::from(equal));
+    let row = rows.get(row).copied().unwrap_or_default();
+    record.bytes(model::row_name(text, list, &row));
+    record.bytes(model::row_zone(text, &row));
 }

@@ -1,0 +1,68 @@
+use mathlib.Core.Path.{_≡_, refl, _∙_}
+use lib.ListN.{length}
+use borrow.Author.Needs.{needs}
+use native.Mathlib.Omega.{arith}
+use Rattle.replay.proofs.tables.all.Statement.{statement}
+use Rattle.replay.proofs.tables.all.Tie as tie
+use Rattle.replay.proofs.tables.all.Reads as reads
+use Rattle.replay.proofs.tables.all.Lts as lts
+use Rattle.replay.proofs.stored.number_at.Reads as number-at-reads
+use Rattle.replay.proofs.tables.one_group.Reads as one-group-reads
+
+abbrev Inv-loop : tie.InvT-loop
+Inv-loop sample words₀ others₀ t₀ groups₀ words others t groups = (length words ≡ length words₀) × (length others ≡ length others₀)
+
+abbrev μ-loop : tie.MeasureT-loop
+μ-loop sample words₀ others₀ t₀ groups₀ words others t groups = groups
+
+-- src/tables.rt:241:9
+number-at-requires : tie.Need-number-at-requires Inv-loop μ-loop
+number-at-requires c κs = search needs
+
+-- src/tables.rt:249:5
+loop-holds : tie.Need-loop-holds Inv-loop μ-loop
+loop-holds c = (refl, refl)
+
+-- src/tables.rt:250:9
+one-group-requires : tie.Need-one-group-requires Inv-loop μ-loop
+one-group-requires c κs = search needs
+
+-- src/tables.rt:251:9
+sub-groups : tie.Need-sub-groups Inv-loop μ-loop
+sub-groups c = search needs
+
+-- src/tables.rt:249:5
+loop-less : tie.Need-loop-less Inv-loop μ-loop
+loop-less c = search needs
+
+-- src/tables.rt:249:5
+loop-again : tie.Need-loop-again Inv-loop μ-loop
+loop-again c = (c .before .before .before .before .one-group .kept .1 .1 .0 ∙ c .before .before .before .before .before .before .before .before .loop .inv .0, c .before .before .before .before .one-group .kept .1 .1 .1 .0 ∙ c .before .before .before .before .before .before .before .before .loop .inv .1)
+
+-- src/tables.rt:240:1
+same-length : tie.Need-same-length Inv-loop μ-loop
+same-length c = c .before .loop .inv .0
+
+-- src/tables.rt:240:1
+same-length-2 : tie.Need-same-length-2 Inv-loop μ-loop
+same-length-2 c = c .before .loop .inv .1
+
+-- src/tables.rt:240:1
+returns : tie.Need-returns Inv-loop μ-loop
+returns c = search needs
+
+pub all-spec : {M : Type 1} → statement M
+all-spec =
+    tie.close
+    (tie.spec
+    Inv-loop
+    μ-loop
+    number-at-requires
+    loop-holds
+    one-group-requires
+    sub-groups
+    loop-less
+    loop-again
+    same-length
+    same-length-2
+    returns)

@@ -1,0 +1,18 @@
+use Rattle.replay.proofs.Cases.{rest-unread, rest-zero}
+use borrow.Author.Needs.{needs}
+use native.Mathlib.Omega.{arith}
+use Rattle.replay.proofs.texts.rest.Statement.{statement}
+use Rattle.replay.proofs.texts.rest.Tie as tie
+use Rattle.replay.proofs.texts.rest.Reads as reads
+use Rattle.replay.proofs.texts.rest.Lts as lts
+
+-- src/texts.rt:40:9
+returns : tie.Need-returns
+returns c = rest-unread _ (c .if1 .taken)
+
+-- src/texts.rt:36:1
+returns-2 : tie.Need-returns-2
+returns-2 c = rest-zero _ (c .if1 .left)
+
+pub rest-spec : {M : Type 1} → statement M
+rest-spec = tie.close (tie.spec returns returns-2)

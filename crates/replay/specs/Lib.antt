@@ -1,0 +1,2 @@
+pub mod ReadCase
+pub mod Sample

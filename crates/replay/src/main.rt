@@ -1,0 +1,109 @@
+// Replays stored samples: each case is given to the functions of this repository, and what they answer and leave behind
+// is compared with what is stored.
+ghost use mathlib.Core.Path.{_≡_};
+ghost use lib.ListN.{length};
+ghost use Rattle.io.specs.Counts.{Counts};
+
+mod counts;
+mod stored;
+mod tables;
+mod texts;
+
+// A number, and the place behind it.
+struct Number {
+    value: u32,
+    next: usize,
+}
+
+// How many cases were replayed, how many of them gave what is stored, the number of the first that did not (0 if none),
+// and the place behind the last.
+struct Tally {
+    all: u32,
+    alike: u32,
+    first: u32,
+    next: usize,
+}
+
+// A stored case of the reader, but for the rows' words: the words lent, where the text stands and how long it is, the
+// status, the value, and the place of the words.
+struct ReadCase {
+    lent: u32,
+    at: usize,
+    size: u32,
+    status: u32,
+    value: u32,
+    next: usize,
+}
+
+// A stored table, but for its words: where text and name list stand and how long they are, how many words it has, and
+// the place behind it.
+struct Table {
+    text: usize,
+    text_size: u32,
+    list: usize,
+    list_size: u32,
+    count: usize,
+    next: usize,
+}
+
+// A stored case of a table: the word that is changed and its value; whether the table is then sound (1 or 0); status and
+// value of the depth and of the verdict; whether it equals the other (1 or 0); the name and the zone of the row that has
+// the word.
+struct TableCase {
+    place: u32,
+    value: u32,
+    sound: u32,
+    depth_status: u32,
+    depth: u32,
+    verdict_status: u32,
+    verdict: u32,
+    equal: u32,
+    name: usize,
+    name_size: u32,
+    zone: usize,
+    zone_size: u32,
+    next: usize,
+}
+
+// Reads a file into a buffer: how many bytes of it are read.
+fn load(path: &[u8], sample: &mut [u8]) -> usize
+    ensures { λ r. ⌜ Counts r (now (sample .exit)) ⌝ }
+{
+    let fd = os::open_read(path);
+    if fd < 0 {
+        os::fail(path);
+        return 0;
+    }
+    let n = io::read_full(fd, sample);
+    libc::close(fd);
+    n
+}
+
+fn replay_texts(sample: &[u8]) {
+    let mut rows = [0u32; 12000];
+    let mut left = [0u32; 12000];
+    let t = texts::read_all(sample, &mut rows, &mut left);
+    counts::print(b" texts, ", t, sample.len());
+}
+
+fn replay_tables(sample: &[u8]) {
+    let mut words = [0u32; 12000];
+    let mut others = [0u32; 12000];
+    let t = tables::all(sample, &mut words, &mut others);
+    counts::print(b" tables, ", t, sample.len());
+}
+
+// Room for a sample.
+fn room() -> [u8; 1000000]
+    ensures { λ r. ⌜ 1000000 ≡ length r ⌝ }
+{
+    [0; 1000000]
+}
+
+fn main() {
+    let mut sample = room();
+    let n = load(b"texts", &mut sample);
+    replay_texts(&sample[..n]);
+    let m = load(b"tables", &mut sample);
+    replay_tables(&sample[..m]);
+}
