@@ -17,31 +17,24 @@ Inv-loop bytes from value i₀ i = all (eqb value) (drop i bytes) ≡ all (eqb v
 abbrev μ-loop : tie.MeasureT-loop
 μ-loop bytes from value i₀ i = length bytes - i
 
--- src/prints.rt:75:5
 loop-holds : tie.Need-loop-holds Inv-loop μ-loop
 loop-holds c = refl
 
--- src/prints.rt:76:21
 shared-slice-read-if1 : tie.Need-shared-slice-read-if1 Inv-loop μ-loop
 shared-slice-read-if1 c = search needs
 
--- src/prints.rt:77:13
 returns : tie.Need-returns Inv-loop μ-loop
 returns c = all-other (c .before .before .before .before .args .bytes .now) (c .before .before .before .before .args .from) (c .before .before .before .before .args .value) _ (c .before .before .before .loop .inv) (c .before .before .loop-test .taken) (c .if1 .taken)
 
--- src/prints.rt:79:9
 add-i : tie.Need-add-i Inv-loop μ-loop
 add-i c = search needs
 
--- src/prints.rt:75:5
 loop-less : tie.Need-loop-less Inv-loop μ-loop
 loop-less c = search needs
 
--- src/prints.rt:75:5
 loop-again : tie.Need-loop-again Inv-loop μ-loop
 loop-again c = all-more (c .before .before .before .before .args .bytes .now) (c .before .before .before .before .args .from) (c .before .before .before .before .args .value) _ (c .before .before .before .loop .inv) (c .before .before .loop-test .taken) (c .if1 .left)
 
--- src/prints.rt:71:1
 returns-2 : tie.Need-returns-2 Inv-loop μ-loop
 returns-2 c = all-end (c .before .before .args .bytes .now) (c .before .before .args .from) (c .before .before .args .value) _ (c .before .loop .inv) (c .loop-test .left)
 

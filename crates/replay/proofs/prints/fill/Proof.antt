@@ -14,31 +14,24 @@ Inv-loop bytes₀ value i₀ bytes i = Filled value bytes₀ bytes i
 abbrev μ-loop : tie.MeasureT-loop
 μ-loop bytes₀ value i₀ bytes i = length bytes₀ - i
 
--- src/prints.rt:44:5
 loop-holds : tie.Need-loop-holds Inv-loop μ-loop
 loop-holds c = filled-start _ _
 
--- src/prints.rt:45:9
 slice-write-bytes : tie.Need-slice-write-bytes Inv-loop μ-loop
 slice-write-bytes c = search needs
 
--- src/prints.rt:46:9
 add-i : tie.Need-add-i Inv-loop μ-loop
 add-i c = search needs
 
--- src/prints.rt:44:5
 loop-less : tie.Need-loop-less Inv-loop μ-loop
 loop-less c = search needs
 
--- src/prints.rt:44:5
 loop-again : tie.Need-loop-again Inv-loop μ-loop
 loop-again c = filled-more _ _ _ _ (c .before .loop .inv) (c .loop-test .taken)
 
--- src/prints.rt:40:1
 same-length : tie.Need-same-length Inv-loop μ-loop
 same-length c = c .before .loop .inv .long
 
--- src/prints.rt:40:1
 returns : tie.Need-returns Inv-loop μ-loop
 returns c = filled-all _ _ _ _ (c .before .loop .inv) (c .loop-test .left)
 

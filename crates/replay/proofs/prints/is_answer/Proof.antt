@@ -6,27 +6,21 @@ use Rattle.replay.proofs.prints.is_answer.Tie as tie
 use Rattle.replay.proofs.prints.is_answer.Reads as reads
 use Rattle.replay.proofs.prints.is_answer.Lts as lts
 
--- src/prints.rt:55:25
 enum-known-answer : tie.Need-enum-known-answer
 enum-known-answer c = search needs
 
--- src/prints.rt:57:17
 returns : tie.Need-returns
 returns c = length-is _ _ _ _ (c .before .before .answer .given .1) (c .if1 .taken)
 
--- src/prints.rt:61:26
 enum-known-answer-2 : tie.Need-enum-known-answer-2
 enum-known-answer-2 c = search needs
 
--- src/prints.rt:63:17
 returns-2 : tie.Need-returns-2
 returns-2 c = refused-is _ _ _ _ (c .before .before .answer2 .given .1) (c .if2 .taken)
 
--- src/prints.rt:51:1
 returns-3 : tie.Need-returns-3
 returns-3 c = length-not _ _ _ _ (c .before .before .answer .given .1) (c .if1 .left)
 
--- src/prints.rt:51:1
 returns-4 : tie.Need-returns-4
 returns-4 c = refused-not _ _ _ _ (c .before .before .answer2 .given .1) (c .if2 .left)
 

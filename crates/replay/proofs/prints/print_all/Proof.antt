@@ -14,39 +14,30 @@ Inv-loop sample words₀ out₀ t₀ cases₀ words out t cases = PrintTurn samp
 abbrev μ-loop : tie.MeasureT-loop
 μ-loop sample words₀ out₀ t₀ cases₀ words out t cases = cases
 
--- src/prints.rt:94:9
 number-at-requires : tie.Need-number-at-requires Inv-loop μ-loop
 number-at-requires c κs = search needs
 
--- src/prints.rt:102:5
 loop-holds : tie.Need-loop-holds Inv-loop μ-loop
 loop-holds c = prints-first _ _ _ _ (c .number-at .ensures)
 
--- src/prints.rt:103:9
 print-one-requires : tie.Need-print-one-requires Inv-loop μ-loop
 print-one-requires c κs = search needs
 
--- src/prints.rt:104:9
 sub-cases : tie.Need-sub-cases Inv-loop μ-loop
 sub-cases c = search needs
 
--- src/prints.rt:102:5
 loop-less : tie.Need-loop-less Inv-loop μ-loop
 loop-less c = search needs
 
--- src/prints.rt:102:5
 loop-again : tie.Need-loop-again Inv-loop μ-loop
 loop-again c = prints-next (c .before .before .before .before .before .before .before .before .before .before .before .before .before .args .sample .now) (c .before .before .before .before .before .before .before .before .before .before .before .before .before .args .words .now) (c .before .before .before .before .before .before .before .before .before .before .before .before .before .args .out .now) _ _ _ _ (c .before .before .before .before .before .before .before .before .loop .inv) _ _ _ (c .before .before .before .before .before .before .before .loop-test .taken) (c .before .before .before .before .print-one .ensures) (c .before .before .before .before .print-one .kept .1 .1 .0) (c .before .before .before .before .print-one .kept .1 .1 .1 .0)
 
--- src/prints.rt:91:1
 same-length : tie.Need-same-length Inv-loop μ-loop
 same-length c = c .before .loop .inv .words-long
 
--- src/prints.rt:91:1
 same-length-2 : tie.Need-same-length-2 Inv-loop μ-loop
 same-length-2 c = c .before .loop .inv .out-long
 
--- src/prints.rt:91:1
 returns : tie.Need-returns Inv-loop μ-loop
 returns c = prints-last (c .before .before .before .before .before .before .args .sample .now) (c .before .before .before .before .before .before .args .words .now) (c .before .before .before .before .before .before .args .out .now) _ _ _ _ (c .before .loop .inv) (c .loop-test .left)
 
