@@ -1,3 +1,4 @@
 pub mod Cases
 pub mod Counting
+pub mod PrintCases
 pub mod Reading

@@ -1,2 +1,3 @@
+pub mod PrintCase
 pub mod ReadCase
 pub mod Sample

@@ -5,6 +5,7 @@ ghost use lib.ListN.{length};
 ghost use Rattle.io.specs.Counts.{Counts};
 
 mod counts;
+mod prints;
 mod stored;
 mod tables;
 mod texts;
@@ -32,6 +33,18 @@ struct ReadCase {
     size: u32,
     status: u32,
     value: u32,
+    next: usize,
+}
+
+// A stored case of the printer, but for the rows' words: the bytes lent, the text, the name list, the status, the printed
+// bytes, how many words, and the place of the words. Of bytes, the value is their number and the next place is theirs.
+struct PrintCase {
+    lent: u32,
+    text: Number,
+    list: Number,
+    status: u32,
+    printed: Number,
+    count: u32,
     next: usize,
 }
 
@@ -93,6 +106,13 @@ fn replay_tables(sample: &[u8]) {
     counts::print(b" tables, ", t, sample.len());
 }
 
+fn replay_prints(sample: &[u8]) {
+    let mut words = [0u32; 12000];
+    let mut out = [0u8; 20000];
+    let t = prints::print_all(sample, &mut words, &mut out);
+    counts::print(b" prints, ", t, sample.len());
+}
+
 // Room for a sample.
 fn room() -> [u8; 1000000]
     ensures { λ r. ⌜ 1000000 ≡ length r ⌝ }
@@ -106,4 +126,6 @@ fn main() {
     replay_texts(&sample[..n]);
     let m = load(b"tables", &mut sample);
     replay_tables(&sample[..m]);
+    let k = load(b"prints", &mut sample);
+    replay_prints(&sample[..k]);
 }

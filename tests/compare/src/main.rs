@@ -6,6 +6,7 @@ mod generate;
 mod known;
 mod model;
 mod oracle;
+mod prints;
 mod sample;
 #[cfg(feature = "subject")]
 mod speed;
@@ -28,6 +29,8 @@ compare texts FILE [seed=N]
     writes texts with their answers, for a replay without Rust
 compare tables FILE [seed=N]
     writes damaged tables with their answers, for the same
+compare prints FILE [seed=N]
+    writes trees with what they print, for the same
 compare show
     reads one text from standard input and shows what model and Rust say
 compare speed
@@ -51,11 +54,12 @@ fn command(arguments: &[String]) -> Result<ExitCode, String> {
     let (name, rest) = arguments.split_first().ok_or("no command")?;
     match name.as_str() {
         "run" => run(&settings(rest, &["seed", "sequences", "texts", "trees"])?),
-        "texts" | "tables" => {
+        "texts" | "tables" | "prints" => {
             let (file, rest) = rest.split_first().ok_or("no file")?;
             let seed = settings(rest, &["seed"])?.get("seed").copied().unwrap_or(1);
             match name.as_str() {
                 "texts" => sample::texts(file, seed),
+                "prints" => prints::prints(file, seed),
                 _ => sample::tables(file, seed),
             }
         }

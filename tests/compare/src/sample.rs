@@ -22,28 +22,28 @@ const MOST_LENT: usize = 12_000;
 
 /// Numbers with a space or a line's end behind each, and bytes with their count before them and a line's end behind.
 #[derive(Default)]
-struct Stored(Vec<u8>);
+pub struct Stored(pub Vec<u8>);
 
 impl Stored {
-    fn number(&mut self, number: usize) -> &mut Stored {
+    pub fn number(&mut self, number: usize) -> &mut Stored {
         self.0.extend(format!("{number} ").bytes());
         self
     }
 
-    fn bytes(&mut self, bytes: &[u8]) -> &mut Stored {
+    pub fn bytes(&mut self, bytes: &[u8]) -> &mut Stored {
         self.number(bytes.len()).0.extend(bytes);
         self.0.push(b'\n');
         self
     }
 
     /// The last number ends its line.
-    fn line(&mut self) {
+    pub fn line(&mut self) {
         let last = self.0.len() - 1;
         self.0[last] = b'\n';
     }
 
     /// Words, a row to a line.
-    fn words(&mut self, words: &[u32]) {
+    pub fn words(&mut self, words: &[u32]) {
         for row in words.chunks(WORDS) {
             row.iter().for_each(|word| {
                 self.number(*word as usize);
@@ -55,14 +55,14 @@ impl Stored {
 
 /// Records that fit into a file, few of them large.
 #[derive(Default)]
-struct File {
-    records: Vec<Vec<u8>>,
+pub struct File {
+    pub records: Vec<Vec<u8>>,
     bytes: usize,
     large: usize,
 }
 
 impl File {
-    fn offer(&mut self, record: Vec<u8>) -> bool {
+    pub fn offer(&mut self, record: Vec<u8>) -> bool {
         let large = if record.len() > LARGE {
             record.len()
         } else {
@@ -78,7 +78,7 @@ impl File {
         fits
     }
 
-    fn write(&self, file: &str) -> Result<usize, String> {
+    pub fn write(&self, file: &str) -> Result<usize, String> {
         let mut image = Stored::default();
         image.number(self.records.len()).line();
         self.records
