@@ -25,6 +25,8 @@ pub struct Check<'s> {
     differences: usize,
     /// Texts that went to the Rust.
     pub by_rust: usize,
+    /// Trees that the port printed beside the Rust.
+    pub printed: usize,
     pub counts: Counts,
 }
 
@@ -35,6 +37,7 @@ impl<'s> Check<'s> {
             random: Random::new(seed),
             differences: 0,
             by_rust: 0,
+            printed: 0,
             counts: [0; 20],
         }
     }
@@ -143,6 +146,7 @@ impl<'s> Check<'s> {
             self.differ_tree(tree, &format!("verdicts {verdicts:?}"));
         }
         self.subject_prints(tree, &model);
+        self.port_and_rust(tree, &rust);
     }
 
     /// A tree that is sound by the way it was made.
@@ -279,9 +283,7 @@ impl<'s> Check<'s> {
         for room in [MOST_BYTES, length, few, more] {
             let expected = model::print(&tree.text, &tree.list, &tree.words, room);
             let mut out = vec![BYTE_BEFORE; room];
-            let Some(answer) = subject.print(&tree.text, &tree.list, &tree.words, &mut out) else {
-                return;
-            };
+            let answer = subject.print(&tree.text, &tree.list, &tree.words, &mut out);
             let mut wanted = expected.clone().unwrap_or_default();
             wanted.resize(room, BYTE_BEFORE);
             let count = expected.map(|printed| printed.len());
@@ -292,6 +294,25 @@ impl<'s> Check<'s> {
                 let what = format!("{room} bytes lent: the port's output is {}", shown(&out));
                 self.differ_tree(tree, &what);
             }
+        }
+    }
+
+    /// The port's printer and the Rust's `Display` directly.
+    fn port_and_rust(&mut self, tree: &Tree, rust: &Result<Vec<u8>, u32>) {
+        let Some(subject) = self.subject else {
+            return;
+        };
+        let mut out = vec![BYTE_BEFORE; MOST_BYTES];
+        let answer = subject.print(&tree.text, &tree.list, &tree.words, &mut out);
+        let port = answer.map(|length| out[..length.min(MOST_BYTES)].to_vec());
+        self.printed += usize::from(port.is_ok());
+        if port != *rust {
+            let what = format!(
+                "printed by the port {} by the Rust {}",
+                said(&port),
+                said(rust)
+            );
+            self.differ_tree(tree, &what);
         }
     }
 }

@@ -34,7 +34,8 @@ compare prints FILE [seed=N]
 compare show
     reads one text from standard input and shows what model and Rust say
 compare speed
-    reads four texts with port and Rust, and says how long each takes (with the feature subject)
+    reads texts and prints them with port and Rust, and says how long each takes (with the feature
+    subject)
 ";
 
 fn main() -> ExitCode {
@@ -294,8 +295,9 @@ fn run(settings: &BTreeMap<String, u64>) -> Result<ExitCode, String> {
         .iter()
         .for_each(|(clause, count)| println!("{count:>9}  {clause}"));
 
+    println!("\ntrees printed by port and Rust: {}", report.check.printed);
     let differences = report.check.differences();
-    println!("\ndifferences: {differences}");
+    println!("differences: {differences}");
     Ok(if differences == 0 {
         ExitCode::SUCCESS
     } else {

@@ -1,6 +1,7 @@
-//! How fast the port reads beside the Rust's `from_str`: the same texts, in one process, in turn.
+//! How fast the port reads beside the Rust's `from_str` and prints beside its `to_string`: the same
+//! texts, in one process, in turn.
 
-use crate::model::{MOST_ROWS, WORDS};
+use crate::model::{MOST_BYTES, MOST_ROWS, NAME_LIST, WORDS};
 use crate::subject::{Linked, Subject};
 use arrow_schema::DataType;
 use std::hint::black_box;
@@ -10,10 +11,16 @@ use std::time::Instant;
 /// Rounds of each; the fastest counts.
 const ROUNDS: usize = 9;
 
-/// About as many bytes are read in each round.
+/// About as many bytes are read or printed in each round.
 const BYTES: usize = 4_000_000;
 
 pub fn run() -> ExitCode {
+    read();
+    print();
+    ExitCode::SUCCESS
+}
+
+fn read() {
     println!(
         "nanoseconds for one text: the fastest of {ROUNDS} rounds. The port is lent 1,024 rows,"
     );
@@ -42,16 +49,45 @@ pub fn run() -> ExitCode {
             rust / just,
         );
     }
-    ExitCode::SUCCESS
 }
 
-/// Nanoseconds for one reading.
-fn fastest(text: &str, mut read: impl FnMut(&str)) -> f64 {
+fn print() {
+    println!("\nthe same, printing what was read; the port is lent 16,384 bytes.");
+    println!("text                     bytes   rows     Rust     port  times");
+    for (name, text) in texts() {
+        let Ok(data_type) = text.parse::<DataType>() else {
+            continue;
+        };
+        let mut rows = vec![0; MOST_ROWS * WORDS];
+        let count = Linked.read(text.as_bytes(), &mut rows).expect("read");
+        let rows = &rows[..count * WORDS];
+        let mut out = vec![0; MOST_BYTES];
+        let rust = fastest(&text, |_| {
+            black_box(black_box(&data_type).to_string());
+        });
+        let port = fastest(&text, |text| {
+            let rows = black_box(rows);
+            black_box(
+                Linked
+                    .print(text.as_bytes(), NAME_LIST, rows, black_box(&mut out))
+                    .is_ok(),
+            );
+        });
+        println!(
+            "{name:<22} {:>7} {count:>6} {rust:>8.0} {port:>8.0} {:>6.1}",
+            data_type.to_string().len(),
+            rust / port,
+        );
+    }
+}
+
+/// Nanoseconds for one reading or printing.
+fn fastest(text: &str, mut work: impl FnMut(&str)) -> f64 {
     let times = (BYTES / text.len()).max(1);
     let round = |_| {
         let start = Instant::now();
         for _ in 0..times {
-            read(black_box(text));
+            work(black_box(text));
         }
         start.elapsed().as_nanos() as f64 / times as f64
     };

@@ -6,14 +6,8 @@ pub trait Subject {
     /// Fills `rows` and answers the row count or the refusal's number.
     fn read(&self, text: &[u8], rows: &mut [u32]) -> Result<usize, u32>;
 
-    /// Fills `out` and answers the printed length or the refusal's number. None: it has no printer.
-    fn print(
-        &self,
-        text: &[u8],
-        list: &[u8],
-        rows: &[u32],
-        out: &mut [u8],
-    ) -> Option<Result<usize, u32>>;
+    /// Fills `out` and answers the printed length or the refusal's number.
+    fn print(&self, text: &[u8], list: &[u8], rows: &[u32], out: &mut [u8]) -> Result<usize, u32>;
 }
 
 #[cfg(not(feature = "subject"))]
@@ -39,6 +33,18 @@ unsafe extern "C" {
         rows_length: usize,
         count: *mut usize,
     ) -> u32;
+
+    fn arrow_types_print(
+        text: *const u8,
+        text_length: usize,
+        list: *const u8,
+        list_length: usize,
+        rows: *const u32,
+        rows_length: usize,
+        out: *mut u8,
+        out_length: usize,
+        length: *mut usize,
+    ) -> u32;
 }
 
 #[cfg(feature = "subject")]
@@ -55,20 +61,34 @@ impl Subject for Linked {
                 &mut count,
             )
         };
-        match (status, count) {
-            (0, count) => Ok(count),
-            (number, 0) => Err(number),
-            (number, count) => panic!("refusal {number} with the count {count}"),
-        }
+        answer(status, count)
     }
 
-    fn print(
-        &self,
-        _text: &[u8],
-        _list: &[u8],
-        _rows: &[u32],
-        _out: &mut [u8],
-    ) -> Option<Result<usize, u32>> {
-        None
+    fn print(&self, text: &[u8], list: &[u8], rows: &[u32], out: &mut [u8]) -> Result<usize, u32> {
+        let mut length = usize::MAX;
+        let status = unsafe {
+            arrow_types_print(
+                text.as_ptr(),
+                text.len(),
+                list.as_ptr(),
+                list.len(),
+                rows.as_ptr(),
+                rows.len(),
+                out.as_mut_ptr(),
+                out.len(),
+                &mut length,
+            )
+        };
+        answer(status, length)
+    }
+}
+
+/// A status and a value, which is 0 beside a refusal.
+#[cfg(feature = "subject")]
+fn answer(status: u32, value: usize) -> Result<usize, u32> {
+    match (status, value) {
+        (0, value) => Ok(value),
+        (number, 0) => Err(number),
+        (number, value) => panic!("refusal {number} with the value {value}"),
     }
 }

@@ -116,18 +116,12 @@ impl Subject for Port {
         }
     }
 
-    fn print(
-        &self,
-        text: &[u8],
-        list: &[u8],
-        rows: &[u32],
-        out: &mut [u8],
-    ) -> Option<Result<usize, u32>> {
+    fn print(&self, text: &[u8], list: &[u8], rows: &[u32], out: &mut [u8]) -> Result<usize, u32> {
         let room = match self.0 {
             Fault::OneByteOfRoomMissing => out.len().saturating_sub(1),
             _ => out.len(),
         };
-        Some(match model::print(text, list, rows, room) {
+        match model::print(text, list, rows, room) {
             Ok(mut printed) => {
                 if self.0 == Fault::PlainMicroseconds {
                     let plain = String::from_utf8_lossy(&printed).replace("(µs", "(us");
@@ -146,7 +140,7 @@ impl Subject for Port {
                 }
                 Err(number)
             }
-        })
+        }
     }
 }
 

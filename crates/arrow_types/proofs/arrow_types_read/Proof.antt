@@ -1,4 +1,4 @@
-use Rattle.arrow_types.proofs.Answers.{rows-status, rows-value, refused-status, refused-value}
+use Rattle.arrow_types.proofs.Answers.{done-status, done-value, refused-status, refused-value, rows-done, rows-refused}
 use borrow.Author.Needs.{needs}
 use Rattle.arrow_types.proofs.arrow_types_read.Statement.{statement}
 use Rattle.arrow_types.proofs.arrow_types_read.Tie as tie
@@ -18,13 +18,13 @@ same-length : tie.Need-same-length
 same-length c = search needs
 
 returns : tie.Need-returns
-returns c = (rows-status _ _ _ (c .before .before .before .before .before .parse-data-type .ensures .0) (c .before .n .given .1), (rows-value _ _ _ (c .before .before .before .before .before .parse-data-type .ensures .0) (c .before .n .given .1), c .before .before .before .before .before .parse-data-type .ensures .1))
+returns c = (done-status _ _ (rows-done _ _ _ (c .before .before .before .before .before .parse-data-type .ensures .0) (c .before .n .given .1)), (done-value _ _ (rows-done _ _ _ (c .before .before .before .before .before .parse-data-type .ensures .0) (c .before .n .given .1)), c .before .before .before .before .before .parse-data-type .ensures .1))
 
 same-length-2 : tie.Need-same-length-2
 same-length-2 c = search needs
 
 returns-2 : tie.Need-returns-2
-returns-2 c = (refused-status _ _ _ (c .before .before .before .before .before .parse-data-type .ensures .0) (c .before .n2 .given .1), (refused-value _ _ _ (c .before .before .before .before .before .parse-data-type .ensures .0) (c .before .n2 .given .1), c .before .before .before .before .before .parse-data-type .ensures .1))
+returns-2 c = (refused-status _ _ (rows-refused _ _ _ (c .before .before .before .before .before .parse-data-type .ensures .0) (c .before .n2 .given .1)), (refused-value _ _ (rows-refused _ _ _ (c .before .before .before .before .before .parse-data-type .ensures .0) (c .before .n2 .given .1)), c .before .before .before .before .before .parse-data-type .ensures .1))
 
 pub arrow-types-read-spec : {M : Type 1} → statement M
 arrow-types-read-spec =
