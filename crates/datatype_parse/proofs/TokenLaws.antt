@@ -162,8 +162,12 @@ module _ (text : List ℕ) (sort at : ℕ) (t : Token) (e : t ≡ tokenAt text a
 -- ---- behind the spaces, where a word was found or a string begins
 
 module _ (text : List ℕ) (at from : ℕ) (f : from ≡ afterSpaces text at) where
-  pub behind-spaces : tokenAt text from ≡ tokenAt text at
+  behind-spaces : tokenAt text from ≡ tokenAt text at
   behind-spaces = ap (tokenAt text) f ∙ sym (token-spaces text at)
+
+  pub need-behind : (sort : ℕ) → need text sort from ≡ need text sort at
+  unfolding need
+  need-behind sort = rw behind-spaces
 
   pub valued-found : (sort : ℕ) (k : TokenKind) (v next : ℕ) → Found k text from next → 0 < next → sortOf k ≡ sort → valueOf k ≡ v → W.Value v next ≡ valuedOf (need text sort at)
   unfolding Found
@@ -172,6 +176,11 @@ module _ (text : List ℕ) (at from : ℕ) (f : from ≡ afterSpaces text at) wh
       ap (W.Value v) (sym (p .1))
       ∙ valued-here text sort at (tokenAt text from) behind-spaces v (ap sortOf (p .0) ∙ s) (ap valueOf (p .0) ∙ u)
 
+  -- the token of a string whose opening mark stands there
+  pub opened-behind : from < length text → getD text from 0 ≡ 34 → stringToken DoubleQuotedString from (untilQuote 34 false (drop (from + 1) text)) ≡ tokenAt text at
+  opened-behind h c = token-34 text at from f h c
+
+  -- where no string begins
   pub stands-other : (getD text from 0 ≡ 34 → ⊥) → false ≡ stands text doubleQuoted at
   unfolding stands
   stands-other h = sym (Marks.no-double text at (rw f at h))
@@ -185,19 +194,17 @@ module _ (text : List ℕ) (at : ℕ) (h : at < length text) (c : getD text at 0
   opened : stringToken DoubleQuotedString at (untilQuote 34 false (drop (at + 1) text)) ≡ tokenAt text at
   opened = token-34 text at at (sym (spaces-stop text at h (λ e. let z = sym c ∙ e in omega arith))) h c
 
-  -- a token of no length
-  here-only : (k : TokenKind) → _≡_ {A = Token} (record { kind = k; start = at; size = 0; next = at }) (token k at 0)
-  here-only k = let z : at ≡ at + 0 = omega arith in ap (λ (n : ℕ). record { kind = k; start = at; size = 0; next = n }) z
-
   module _ (end : ℕ) (e : end ≡ quoteEnd text 34 false (at + 1)) where
-    pub opened-open : length text ≤ end → _≡_ {A = Token} (record { kind = Refused 6; start = at; size = 0; next = at }) (tokenAt text at)
-    opened-open m = here-only (Refused 6) ∙ string-open DoubleQuotedString text 34 at end h e m ∙ opened
+    pub opened-open : length text ≤ end → Q.Refused 6 ≡ quotedOf (need text doubleQuoted at)
+    unfolding quotedOf
+    opened-open m = rw (not-here text doubleQuoted at _ (string-open DoubleQuotedString text 34 at end h e m ∙ opened) refl)
 
-    pub opened-empty : end < length text → end ≤ at + 1 → _≡_ {A = Token} (record { kind = Refused 7; start = at; size = 0; next = at }) (tokenAt text at)
-    opened-empty m i = here-only (Refused 7) ∙ string-empty DoubleQuotedString text 34 at end h e m i ∙ opened
+    pub opened-empty : end < length text → end ≤ at + 1 → Q.Refused 7 ≡ quotedOf (need text doubleQuoted at)
+    unfolding quotedOf
+    opened-empty m i = rw (not-here text doubleQuoted at _ (string-empty DoubleQuotedString text 34 at end h e m i ∙ opened) refl)
 
-    pub opened-whole : end < length text → at + 1 < end → _≡_ {A = Token} (record { kind = DoubleQuotedString; start = at + 1; size = end - (at + 1); next = end + 1 }) (tokenAt text at)
-    opened-whole m i = string-whole DoubleQuotedString text 34 at end h e m i ∙ opened
+    pub opened-whole : end < length text → at + 1 < end → Q.String (at + 1) (end - (at + 1)) (end + 1) ≡ quotedOf (need text doubleQuoted at)
+    opened-whole m i = quoted-here text doubleQuoted at _ (string-whole DoubleQuotedString text 34 at end h e m i ∙ opened) refl
 
 -- ---- numbers
 

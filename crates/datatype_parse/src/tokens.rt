@@ -18,7 +18,6 @@ use crate::Valued;
 use crate::quick::behind_word;
 use crate::quick::type_word;
 use crate::quick::unit_word;
-use tokenizer::Token;
 use tokenizer::TokenKind;
 
 // The refusal at a token that is not of the sort needed.
@@ -126,53 +125,31 @@ pub(crate) fn peek_double_quoted(text: &[u8], at: usize) -> bool
     true
 }
 
-// The token where the opening mark of a double-quoted string stands.
-fn string_token(text: &[u8], at: usize) -> Token
+// A double-quoted string is needed where its opening mark stands.
+fn double_quoted(text: &[u8], at: usize) -> Quoted
     requires { ⌜ (at < length (now text)) × (getD (now text) at 0 ≡ 34) ⌝ }
-    ensures { λ r. ⌜ r ≡ tokenAt (now (text .entry)) at ⌝ }
+    ensures { λ r. ⌜ r ≡ quotedOf (need (now (text .entry)) doubleQuoted at) ⌝ }
 {
     let start = at + 1;
     let end = tokenizer::string_end(text, start, 34);
     if end >= text.len() {
-        return Token {
-            kind: TokenKind::Refused(6),
-            start: at,
-            size: 0,
-            next: at,
-        };
+        return Quoted::Refused(6);
     }
     if end <= start {
-        return Token {
-            kind: TokenKind::Refused(7),
-            start: at,
-            size: 0,
-            next: at,
-        };
+        return Quoted::Refused(7);
     }
-    Token {
-        kind: TokenKind::DoubleQuotedString,
-        start: start,
-        size: end - start,
-        next: end + 1,
-    }
+    Quoted::String(start, end - start, end + 1)
 }
 
-// The token at a place where a double-quoted string is looked for.
-fn sought_string(text: &[u8], at: usize) -> Token
-    ensures { λ r. ⌜ r ≡ tokenAt (now (text .entry)) at ⌝ }
-{
-    let from = tokenizer::skip_spaces(text, at);
-    if starts(text, from, 34) {
-        return string_token(text, from);
-    }
-    tokenizer::next_token(text, from)
-}
-
-// A double-quoted string is needed.
+// A double-quoted string is needed. Where its mark stands it is read at once.
 pub(crate) fn parse_double_quoted_string(text: &[u8], at: usize) -> Quoted
     ensures { λ r. ⌜ r ≡ quotedOf (need (now (text .entry)) doubleQuoted at) ⌝ }
 {
-    let token = sought_string(text, at);
+    let from = tokenizer::skip_spaces(text, at);
+    if starts(text, from, 34) {
+        return double_quoted(text, from);
+    }
+    let token = tokenizer::next_token(text, from);
     let kind = token.kind;
     let TokenKind::DoubleQuotedString = kind else {
         return Quoted::Refused(refusal(kind));
@@ -369,7 +346,11 @@ fn parse_some(text: &[u8], at: usize) -> Quoted
 fn parse_zone_string(text: &[u8], at: usize) -> Quoted
     ensures { λ r. ⌜ r ≡ zoneStep (zoneString (now (text .entry)) at) ⌝ }
 {
-    let token = sought_string(text, at);
+    let from = tokenizer::skip_spaces(text, at);
+    if starts(text, from, 34) {
+        return double_quoted(text, from);
+    }
+    let token = tokenizer::next_token(text, at);
     let kind = token.kind;
     match kind {
         TokenKind::None => Quoted::String(0, 0, token.next),
