@@ -1,8 +1,13 @@
 // The functions that services call from Rust or C: on numbers and slices, each with a status, 0 or document 01's number.
 ghost use mathlib.Core.Path.{_≡_};
-ghost use Rattle.arrow_types.specs.Status.{statusOf, valueOf};
+ghost use Rattle.arrow_types.specs.Status.{statusOf, valueOf, flag, yesOf, rowOf};
+ghost use Rattle.datatype.specs.Sound.{isSound, depthOf};
+ghost use Rattle.datatype.specs.Equal.{equalTrees};
+ghost use Rattle.datatype.specs.Layout.{verdictOf};
 ghost use Rattle.datatype_parse.specs.Parse.{parseAnswer, parseRows};
 ghost use Rattle.datatype_display.specs.Print.{printAnswer, printBytes};
+use datatype::Depth;
+use datatype::Verdict;
 use datatype_display::Printed;
 use datatype_parse::Parsed;
 
@@ -47,5 +52,85 @@ pub extern "C" fn arrow_types_print<'a>(
             *length = 0;
             n
         }
+    }
+}
+
+// Whether text, name list and row words are a sound tree: 1 or 0.
+#[no_mangle]
+pub extern "C" fn arrow_types_is_sound(text: &[u8], names: &[u8], rows: &[u32]) -> u32
+    ensures { λ r. ⌜ r ≡ flag (isSound (now (text .entry)) (now (names .entry)) (now (rows .entry))) ⌝ }
+{
+    if datatype::is_sound(text, names, rows) {
+        return 1;
+    }
+    0
+}
+
+// The depth of a tree.
+#[no_mangle]
+pub extern "C" fn arrow_types_depth(
+    text: &[u8],
+    names: &[u8],
+    rows: &[u32],
+    depth: &mut usize,
+) -> u32
+    ensures status { λ r. ⌜ r ≡ statusOf (depthOf (now (text .entry)) (now (names .entry)) (now (rows .entry))) ⌝ }
+    ensures value { λ r. ⌜ now (depth .exit) ≡ valueOf (depthOf (now (text .entry)) (now (names .entry)) (now (rows .entry))) ⌝ }
+{
+    match datatype::levels::depth(text, names, rows) {
+        Depth::Levels(n) => {
+            *depth = n;
+            0
+        }
+        Depth::Refused(n) => {
+            *depth = 0;
+            n
+        }
+    }
+}
+
+// Whether two trees, each with its text, its name list and its row words, are equal: 1 or 0.
+#[no_mangle]
+pub extern "C" fn arrow_types_equal<'a, 'b>(
+    text: &'a [u8],
+    names: &'a [u8],
+    rows: &[u32],
+    text2: &'b [u8],
+    names2: &'b [u8],
+    rows2: &[u32],
+) -> u32
+    ensures { λ r. ⌜ r ≡ flag (equalTrees (now (text .entry)) (now (names .entry)) (now (text2 .entry)) (now (names2 .entry)) (now (rows .entry)) (now (rows2 .entry))) ⌝ }
+{
+    if datatype::equal_trees(text, names, rows, text2, names2, rows2) {
+        return 1;
+    }
+    0
+}
+
+// The layout verdict of a tree: whether it is yes, 1 or 0, and the first row that breaks a rule, where it is not.
+#[no_mangle]
+pub extern "C" fn arrow_types_verdict(
+    text: &[u8],
+    names: &[u8],
+    rows: &[u32],
+    yes: &mut u32,
+    row: &mut usize,
+) -> u32
+    ensures status { λ r. ⌜ r ≡ statusOf (verdictOf (now (text .entry)) (now (names .entry)) (now (rows .entry))) ⌝ }
+    ensures yes { λ r. ⌜ now (yes .exit) ≡ yesOf (verdictOf (now (text .entry)) (now (names .entry)) (now (rows .entry))) ⌝ }
+    ensures row { λ r. ⌜ now (row .exit) ≡ rowOf (verdictOf (now (text .entry)) (now (names .entry)) (now (rows .entry))) ⌝ }
+{
+    *yes = 0;
+    *row = 0;
+    match datatype::layout::verdict(text, names, rows) {
+        Verdict::Yes => {
+            *yes = 1;
+            0
+        }
+        Verdict::Row(i) => {
+            *row = i;
+            0
+        }
+        Verdict::Refused(n) => n,
     }
 }

@@ -11,6 +11,10 @@ use Rattle.datatype_display.specs.Steps.{Wrote, Moved, Put}
 
 -- ---- the place behind what was written
 
+-- Behind what was written no limit has to be looked at.
+pub moved-by : (at n : ℕ) → Moved at n (at + n)
+moved-by at n = record { exact = λ e. refl; over = λ e. e }
+
 pub moved-then : (at m n mid last : ℕ) → Moved at m mid → Moved mid n last → Moved at (m + n) last
 moved-then at m n mid last p q =
     record {

@@ -38,27 +38,25 @@ fn copy(out: &mut [u8], at: usize, s: &[u8])
 pub(crate) fn put(out: &mut [u8], at: usize, s: &[u8]) -> usize
     ensures { λ r. ⌜ Put (now (out .entry)) at (now (s .entry)) r (now (out .exit)) ⌝ }
 {
-    let next = advance(at, s.len());
     if out.len() < at {
-        return next;
+        return advance(at, s.len());
     }
     if out.len() - at < s.len() {
-        return next;
+        return advance(at, s.len());
     }
     copy(out, at, s);
-    next
+    at + s.len()
 }
 
 // Writes one byte.
 pub(crate) fn put_byte(out: &mut [u8], at: usize, c: u8) -> usize
     ensures { λ r. ⌜ Put (now (out .entry)) at (c ∷ []) r (now (out .exit)) ⌝ }
 {
-    let next = advance(at, 1);
     if out.len() <= at {
-        return next;
+        return advance(at, 1);
     }
     out[at] = c;
-    next
+    at + 1
 }
 
 // Writes a number in decimal digits.
