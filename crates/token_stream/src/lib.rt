@@ -49,8 +49,8 @@ impl<'a> Tokenizer<'a> {
     }
 }
 
-// The token at or behind a place, by a tokenizer that stands there. Its contract says nothing of a tokenizer, so whoever
-// calls it needs no walk.
+// The token at or behind a place, by a tokenizer that stands there. Its contract says nothing of a tokenizer, so the
+// proofs of its callers are the usual ones.
 pub fn token_from(text: &[u8], at: usize) -> Token
     ensures { λ r. ⌜ r ≡ tokenAt (now (text .entry)) at ⌝ }
 {
