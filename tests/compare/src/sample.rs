@@ -95,10 +95,14 @@ pub fn texts(file: &str, seed: u64) -> Result<ExitCode, String> {
     let mut check = Check::new(subject.as_deref(), seed);
     let mut random = Random::new(seed);
     let mut kept = File::default();
+    let mut accepted = 0;
     for text in chosen(seed) {
         let read = check.text(&text);
         let lent = lent(&mut random, &read);
-        kept.offer(text_record(&text, lent));
+        let answer = model::read(&text, Limits::lent(lent / WORDS));
+        if kept.offer(text_record(&text, lent, &answer)) {
+            accepted += usize::from(answer.is_ok());
+        }
     }
     if check.differences() > 0 {
         println!("nothing is written while there are differences");
@@ -106,6 +110,7 @@ pub fn texts(file: &str, seed: u64) -> Result<ExitCode, String> {
     }
     let bytes = kept.write(file)?;
     println!("{} texts, {bytes} bytes in {file}", kept.records.len());
+    println!("{accepted:>6} accepted");
     Ok(ExitCode::SUCCESS)
 }
 
@@ -121,15 +126,15 @@ fn lent(random: &mut Random, read: &Result<Vec<Row>, u32>) -> usize {
     }
 }
 
-fn text_record(text: &[u8], lent: usize) -> Vec<u8> {
+fn text_record(text: &[u8], lent: usize, answer: &Result<Vec<Row>, u32>) -> Vec<u8> {
     let mut record = Stored::default();
     record.number(lent).bytes(text);
-    match model::read(text, Limits::lent(lent / WORDS)) {
+    match answer {
         Ok(rows) => {
             record.number(0).number(rows.len()).line();
-            record.words(&model::to_words(&rows));
+            record.words(&model::to_words(rows));
         }
-        Err(number) => record.number(number as usize).number(0).line(),
+        Err(number) => record.number(*number as usize).number(0).line(),
     }
     record.0
 }
@@ -218,15 +223,18 @@ impl Kept {
 pub fn tables(file: &str, seed: u64) -> Result<ExitCode, String> {
     let mut random = Random::new(seed);
     let mut kept = File::default();
-    let mut cases = 0;
+    let (mut changed, mut broken) = (0, 0);
+    let mut all = Tally::default();
     for _ in 0..60 {
         let tree = trees::sound(&mut random, Letters::Any, 5);
         let Some(other) = trees::packed(&tree) else {
             continue;
         };
         let changes = around_bounds(&mut random, &tree);
-        if kept.offer(table_record(&tree, &other, &changes)) {
-            cases += changes.len();
+        let (record, tally) = table_record(&tree, &other, &changes);
+        if kept.offer(record) {
+            changed += 1;
+            all.add(tally);
         }
     }
     for _ in 0..400 {
@@ -234,15 +242,35 @@ pub fn tables(file: &str, seed: u64) -> Result<ExitCode, String> {
         let Some((_, damaged)) = trees::broken(&mut random, &tree) else {
             continue;
         };
-        if damaged.words.len() <= MOST_LENT
-            && kept.offer(table_record(&damaged, &tree, &[UNCHANGED]))
-        {
-            cases += 1;
+        let (record, tally) = table_record(&damaged, &tree, &[UNCHANGED]);
+        if damaged.words.len() <= MOST_LENT && kept.offer(record) {
+            broken += 1;
+            all.add(tally);
         }
     }
     let bytes = kept.write(file)?;
-    println!("{cases} tables, {bytes} bytes in {file}");
+    println!("{} tables, {bytes} bytes in {file}", all.cases);
+    println!("{changed:>6} sound trees with words changed");
+    println!("{broken:>6} trees with a clause broken");
+    println!("{:>6} tables are sound", all.sound);
+    println!("{:>6} equal the other", all.equal);
     Ok(ExitCode::SUCCESS)
+}
+
+/// How many tables there are, how many of them are sound, and how many equal the other.
+#[derive(Default)]
+struct Tally {
+    cases: usize,
+    sound: usize,
+    equal: usize,
+}
+
+impl Tally {
+    fn add(&mut self, other: Tally) {
+        self.cases += other.cases;
+        self.sound += other.sound;
+        self.equal += other.equal;
+    }
 }
 
 /// A word and the value it is set to. A word past the table's end changes nothing.
@@ -298,8 +326,9 @@ fn around_bounds(random: &mut Random, tree: &Tree) -> Vec<Change> {
 }
 
 /// Two tables, and changes of the first with the answers of each.
-fn table_record(tree: &Tree, other: &Tree, changes: &[Change]) -> Vec<u8> {
+fn table_record(tree: &Tree, other: &Tree, changes: &[Change]) -> (Vec<u8>, Tally) {
     let mut record = Stored::default();
+    let mut tally = Tally::default();
     for tree in [tree, other] {
         record.bytes(&tree.text).bytes(&tree.list);
         record.number(tree.words.len()).line();
@@ -312,13 +341,13 @@ fn table_record(tree: &Tree, other: &Tree, changes: &[Change]) -> Vec<u8> {
             *word = *value;
         }
         record.number(*at).number(*value as usize);
-        answers(&mut record, &changed, other, at / WORDS);
+        tally.add(answers(&mut record, &changed, other, at / WORDS));
     }
-    record.0
+    (record.0, tally)
 }
 
 /// Sound or not, depth, verdict, equality with the other, and a row's name and zone.
-fn answers(record: &mut Stored, tree: &Tree, other: &Tree, row: usize) {
+fn answers(record: &mut Stored, tree: &Tree, other: &Tree, row: usize) -> Tally {
     let Tree { text, list, words } = tree;
     let sound = model::sound(text, list, words);
     let rows = model::from_words(words);
@@ -339,4 +368,9 @@ fn answers(record: &mut Stored, tree: &Tree, other: &Tree, row: usize) {
     let row = rows.get(row).copied().unwrap_or_default();
     record.bytes(model::row_name(text, list, &row));
     record.bytes(model::row_zone(text, &row));
+    Tally {
+        cases: 1,
+        sound: usize::from(sound),
+        equal: usize::from(equal),
+    }
 }
