@@ -9,7 +9,7 @@ pub mod Zones
 pub mod Values
 pub mod Readers
 pub mod Parents
-pub mod Fields
+pub mod FieldLaws
 pub mod Loops
 pub mod Types
 pub mod Entries

@@ -16,7 +16,7 @@ use Rattle.datatype_parse.specs.declared.Turn.{Turn}
 use Rattle.datatype_parse.specs.declared.Turn.the-variants as T
 use Rattle.datatype_parse.proofs.Stores.{append, count-append, append-none, append-append, written-behind}
 use Rattle.datatype_parse.proofs.Answers.{GotField, got-end, got-last, got-more, lost-turn}
-use Rattle.datatype_parse.proofs.Fields.{fields-refused, fields-done}
+use Rattle.datatype_parse.proofs.FieldLaws.{fields-refused, fields-done}
 
 -- fields behind those that were read before them
 abbrev prepend : Forest Row → Out Fields → Out Fields

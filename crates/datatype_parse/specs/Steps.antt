@@ -14,7 +14,7 @@ use Rattle.tokenizer.specs.declared.Token.{Token}
 use Rattle.datatype.specs.Kind.{entriesRefusal}
 use Rattle.datatype.specs.Tree.{Forest, ∅, node, count, roots, Row}
 use Rattle.datatype.specs.Table.{rowWords, wordsOf, tableOf}
-use Rattle.datatype_parse.specs.Parse.{Tree, Fields, Zone, Item, end, last, more, single, rowsIn}
+use Rattle.datatype_parse.specs.Parse.{Tree, Fields, Zone, Item, end, last, more, single, rowsIn, structItem, unionItem}
 use Rattle.datatype_parse.specs.declared.Step.{Step}
 use Rattle.datatype_parse.specs.declared.Step.the-variants as S
 use Rattle.datatype_parse.specs.declared.Look.{Look}
@@ -90,6 +90,10 @@ Closed (done t) row used r before a after = (a ≡ R.Tree (t .next) (used + 1)) 
 unfoldable pub MeetsFields : Out Fields → ℕ → ℕ → List ℕ → Read → List ℕ → Type 0
 MeetsFields (refused x) row left before r after = r ≡ R.Refused (x .number)
 MeetsFields (done fs) row left before r after = (r ≡ R.Tree (fs .next) (count (fs .trees))) × Stored (fs .trees) row left before after
+
+-- One turn of the fields of a Union, kind 33, or of a Struct.
+abbrev pub itemOf : ℕ → List ℕ → (ℕ → ℕ → Out Tree) → ℕ → ℕ → Out Item
+itemOf k text type = if eqb k 33 then unionItem text type else structItem text type
 
 -- One turn of reading fields.
 unfoldable pub MeetsTurn : Out Item → ℕ → ℕ → List ℕ → Turn → List ℕ → Type 0

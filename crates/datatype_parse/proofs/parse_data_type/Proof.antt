@@ -11,7 +11,7 @@ use Rattle.datatype_parse.proofs.parse_data_type.Tie as tie
 use Rattle.datatype_parse.proofs.parse_data_type.Reads as reads
 use Rattle.datatype_parse.proofs.parse_data_type.Lts as lts
 use Rattle.datatype_parse.proofs.clear.Reads as clear-reads
-use Rattle.datatype_parse.proofs.parser.parse_next_type.Reads as parse-next-type-reads
+use Rattle.datatype_parse.proofs.parse_next_type.Reads as parse-next-type-reads
 use Rattle.datatype_parse.proofs.rows_lent.Reads as rows-lent-reads
 use Rattle.datatype_parse.proofs.text_over.Reads as text-over-reads
 use Rattle.tokenizer.proofs.is_utf8.Reads as is-utf8-reads

@@ -12,7 +12,7 @@ use Rattle.tokenizer.specs.Token.{valueOf, lparen, rparen, comma, colon, double
 use Rattle.tokenizer.specs.declared.Token.{Token}
 use Rattle.datatype.specs.Tree.{Forest, ∅, node, count, Row}
 use Rattle.datatype_parse.specs.Parse.{Name, Tree, Fields, Item, end, last, more, item, run-ends, values, fieldRow, rowsIn, idOf, need, stands, roleAt, numberIn, closeAt, fieldAt, defaultField, listField, fixedListField, namedRunEnds, defaultRunEnds, runEndFields, structItem, unionField, unionItem}
-use Rattle.datatype_parse.specs.Steps.{Stored, Meets, MeetsFields, MeetsTurn}
+use Rattle.datatype_parse.specs.Steps.{Stored, Meets, MeetsFields, MeetsTurn, itemOf}
 use Rattle.datatype_parse.specs.declared.Read.{Read}
 use Rattle.datatype_parse.specs.declared.Read.the-variants as R
 use Rattle.datatype_parse.specs.declared.Turn.{Turn}
@@ -216,3 +216,11 @@ module _ (text : List ℕ) (type : ℕ → ℕ → Out Tree) where
                 union-7 t y u =
                     turn-more row left before after (unionItem text type at left) (record { row = v .row; kids = v .kids; next = y }) y k
                     (rw (refused-stands text rparen at s z, e, f, g, h, ← w, v .is, u) refl) (v .rows) (v .stored)
+
+-- One turn, by the kind.
+module _ (k : ℕ) (text : List ℕ) (type : ℕ → ℕ → Out Tree) (at left row : ℕ) (before : List ℕ) (r : Turn) (after : List ℕ) where
+  pub as-union : k ≡ 33 → MeetsTurn (unionItem text type at left) row left before r after → MeetsTurn (itemOf k text type at left) row left before r after
+  as-union e h = rw (eq-eqb k 33 e) h
+
+  pub as-struct : (k ≡ 33 → ⊥) → MeetsTurn (structItem text type at left) row left before r after → MeetsTurn (itemOf k text type at left) row left before r after
+  as-struct z h = rw (ne-eqb k 33 z) h

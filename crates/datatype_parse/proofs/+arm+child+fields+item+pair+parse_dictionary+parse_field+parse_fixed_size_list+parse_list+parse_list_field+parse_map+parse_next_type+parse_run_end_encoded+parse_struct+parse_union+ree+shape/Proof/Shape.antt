@@ -8,339 +8,224 @@ use native.Mathlib.Omega.{arith}
 use Prim.Native.Nat.{ℕ, _<_}
 use borrow.Fn.Kinds.{In}
 use borrow.Fn.PlainCycle.{Measures, is, falls, and}
-use Rattle.datatype_parse.proofs.parser.fixed_field.Reads as fixed-field
-use Rattle.datatype_parse.proofs.parser.fixed_field.Kinds as fixed-field-kinds
-use Rattle.datatype_parse.proofs.parser.parse_dictionary.Reads as parse-dictionary
-use Rattle.datatype_parse.proofs.parser.parse_dictionary.Kinds as parse-dictionary-kinds
-use Rattle.datatype_parse.proofs.parser.parse_field.Reads as parse-field
-use Rattle.datatype_parse.proofs.parser.parse_field.Kinds as parse-field-kinds
-use Rattle.datatype_parse.proofs.parser.parse_fixed_size_list.Reads as parse-fixed-size-list
-use Rattle.datatype_parse.proofs.parser.parse_fixed_size_list.Kinds as parse-fixed-size-list-kinds
-use Rattle.datatype_parse.proofs.parser.parse_list.Reads as parse-list
-use Rattle.datatype_parse.proofs.parser.parse_list.Kinds as parse-list-kinds
-use Rattle.datatype_parse.proofs.parser.parse_list_field.Reads as parse-list-field
-use Rattle.datatype_parse.proofs.parser.parse_list_field.Kinds as parse-list-field-kinds
-use Rattle.datatype_parse.proofs.parser.parse_map.Reads as parse-map
-use Rattle.datatype_parse.proofs.parser.parse_map.Kinds as parse-map-kinds
-use Rattle.datatype_parse.proofs.parser.parse_next_type.Reads as parse-next-type
-use Rattle.datatype_parse.proofs.parser.parse_next_type.Kinds as parse-next-type-kinds
-use Rattle.datatype_parse.proofs.parser.parse_run_end_encoded.Reads as parse-run-end-encoded
-use Rattle.datatype_parse.proofs.parser.parse_run_end_encoded.Kinds as parse-run-end-encoded-kinds
-use Rattle.datatype_parse.proofs.parser.parse_struct.Reads as parse-struct
-use Rattle.datatype_parse.proofs.parser.parse_struct.Kinds as parse-struct-kinds
-use Rattle.datatype_parse.proofs.parser.parse_union.Reads as parse-union
-use Rattle.datatype_parse.proofs.parser.parse_union.Kinds as parse-union-kinds
-use Rattle.datatype_parse.proofs.parser.ree_fields.Reads as ree-fields
-use Rattle.datatype_parse.proofs.parser.ree_fields.Kinds as ree-fields-kinds
-use Rattle.datatype_parse.proofs.parser.ree_types.Reads as ree-types
-use Rattle.datatype_parse.proofs.parser.ree_types.Kinds as ree-types-kinds
-use Rattle.datatype_parse.proofs.parser.shape.Reads as shape
-use Rattle.datatype_parse.proofs.parser.shape.Kinds as shape-kinds
-use Rattle.datatype_parse.proofs.parser.struct_fields.Reads as struct-fields
-use Rattle.datatype_parse.proofs.parser.struct_fields.Kinds as struct-fields-kinds
-use Rattle.datatype_parse.proofs.parser.struct_item.Reads as struct-item
-use Rattle.datatype_parse.proofs.parser.struct_item.Kinds as struct-item-kinds
-use Rattle.datatype_parse.proofs.parser.union_fields.Reads as union-fields
-use Rattle.datatype_parse.proofs.parser.union_fields.Kinds as union-fields-kinds
-use Rattle.datatype_parse.proofs.parser.union_item.Reads as union-item
-use Rattle.datatype_parse.proofs.parser.union_item.Kinds as union-item-kinds
-use Rattle.datatype.proofs.try_new.Reads as try-new-reads
-use Rattle.datatype_parse.proofs.parser.close.Reads as close-reads
-use Rattle.datatype_parse.proofs.parser.parse_decimal.Reads as parse-decimal-reads
-use Rattle.datatype_parse.proofs.parser.parse_fixed_size_binary.Reads as parse-fixed-size-binary-reads
-use Rattle.datatype_parse.proofs.parser.parse_interval.Reads as parse-interval-reads
-use Rattle.datatype_parse.proofs.parser.parse_time.Reads as parse-time-reads
-use Rattle.datatype_parse.proofs.parser.parse_timestamp.Reads as parse-timestamp-reads
-use Rattle.datatype_parse.proofs.parser.wrapped.Reads as wrapped-reads
-use Rattle.datatype_parse.proofs.rows.entries_refusal.Reads as entries-refusal-reads
-use Rattle.datatype_parse.proofs.rows.put_field.Reads as put-field-reads
-use Rattle.datatype_parse.proofs.rows.put_row.Reads as put-row-reads
-use Rattle.datatype_parse.proofs.rows.role_of.Reads as role-of-reads
-use Rattle.datatype_parse.proofs.tokens.expect_token.Reads as expect-token-reads
-use Rattle.datatype_parse.proofs.tokens.next_if.Reads as next-if-reads
-use Rattle.datatype_parse.proofs.tokens.next_if_x.Reads as next-if-x-reads
-use Rattle.datatype_parse.proofs.tokens.parse_double_quoted_string.Reads as parse-double-quoted-string-reads
-use Rattle.datatype_parse.proofs.tokens.parse_list_name.Reads as parse-list-name-reads
-use Rattle.datatype_parse.proofs.tokens.parse_map_sorted.Reads as parse-map-sorted-reads
-use Rattle.datatype_parse.proofs.tokens.parse_number.Reads as parse-number-reads
-use Rattle.datatype_parse.proofs.tokens.parse_opt_nullable.Reads as parse-opt-nullable-reads
-use Rattle.datatype_parse.proofs.tokens.parse_type_word.Reads as parse-type-word-reads
-use Rattle.datatype_parse.proofs.tokens.parse_union_mode.Reads as parse-union-mode-reads
-use Rattle.datatype_parse.proofs.tokens.parse_unsigned.Reads as parse-unsigned-reads
-use Rattle.datatype_parse.proofs.tokens.peek_double_quoted.Reads as peek-double-quoted-reads
-use Rattle.datatype_parse.proofs.parser.+fixed_field+parse_dictionary+parse_field+parse_fixed_size_list+parse_list+parse_list_field+parse_map+parse_next_type+parse_run_end_encoded+parse_struct+parse_union+ree_fields+ree_types+shape+struct_fields+struct_item+union_fields+union_item.Lts-shape as lts
-use Rattle.datatype_parse.proofs.parser.+fixed_field+parse_dictionary+parse_field+parse_fixed_size_list+parse_list+parse_list_field+parse_map+parse_next_type+parse_run_end_encoded+parse_struct+parse_union+ree_fields+ree_types+shape+struct_fields+struct_item+union_fields+union_item.Proof.Frame.{shape-at as at, calls-shape as calls}
+use Rattle.datatype_parse.proofs.parse_dictionary.Reads as parse-dictionary
+use Rattle.datatype_parse.proofs.parse_fixed_size_list.Reads as parse-fixed-size-list
+use Rattle.datatype_parse.proofs.parse_list.Reads as parse-list
+use Rattle.datatype_parse.proofs.parse_map.Reads as parse-map
+use Rattle.datatype_parse.proofs.parse_run_end_encoded.Reads as parse-run-end-encoded
+use Rattle.datatype_parse.proofs.parse_struct.Reads as parse-struct
+use Rattle.datatype_parse.proofs.parse_union.Reads as parse-union
+use Rattle.datatype_parse.proofs.shape.Reads as shape
+use Rattle.datatype_parse.proofs.+arm+child+fields+item+pair+parse_dictionary+parse_field+parse_fixed_size_list+parse_list+parse_list_field+parse_map+parse_next_type+parse_run_end_encoded+parse_struct+parse_union+ree+shape.Lts-shape as lts
+use Rattle.datatype_parse.proofs.+arm+child+fields+item+pair+parse_dictionary+parse_field+parse_fixed_size_list+parse_list+parse_list_field+parse_map+parse_next_type+parse_run_end_encoded+parse_struct+parse_union+ree+shape.Proof.Frame.{shape-at as at, calls-shape as calls}
 
 module _ (t : ℕ) where
-  -- src/parser.rt:727:15
   parse-timestamp-requires : lts.Need-parse-timestamp-requires (calls t) (at t) shape.Post
   parse-timestamp-requires c κs = search needs
 
-  -- src/parser.rt:728:15
   parse-time-requires : lts.Need-parse-time-requires (calls t) (at t) shape.Post
   parse-time-requires c κs = search needs
 
-  -- src/parser.rt:729:15
   parse-time-requires-2 : lts.Need-parse-time-requires-2 (calls t) (at t) shape.Post
   parse-time-requires-2 c κs = search needs
 
-  -- src/parser.rt:730:15
   parse-time-requires-3 : lts.Need-parse-time-requires-3 (calls t) (at t) shape.Post
   parse-time-requires-3 c κs = search needs
 
-  -- src/parser.rt:731:15
   parse-interval-requires : lts.Need-parse-interval-requires (calls t) (at t) shape.Post
   parse-interval-requires c κs = search needs
 
-  -- src/parser.rt:732:15
   parse-fixed-size-binary-requires : lts.Need-parse-fixed-size-binary-requires (calls t) (at t) shape.Post
   parse-fixed-size-binary-requires c κs = search needs
 
-  -- src/parser.rt:733:15
   parse-list-requires : lts.Need-parse-list-requires (calls t) (at t) shape.Post
   parse-list-requires c κs = search needs
 
-  -- src/parser.rt:734:15
   parse-list-requires-2 : lts.Need-parse-list-requires-2 (calls t) (at t) shape.Post
   parse-list-requires-2 c κs = search needs
 
-  -- src/parser.rt:735:15
   parse-fixed-size-list-requires : lts.Need-parse-fixed-size-list-requires (calls t) (at t) shape.Post
   parse-fixed-size-list-requires c κs = search needs
 
-  -- src/parser.rt:736:15
   parse-list-requires-3 : lts.Need-parse-list-requires-3 (calls t) (at t) shape.Post
   parse-list-requires-3 c κs = search needs
 
-  -- src/parser.rt:737:15
   parse-list-requires-4 : lts.Need-parse-list-requires-4 (calls t) (at t) shape.Post
   parse-list-requires-4 c κs = search needs
 
-  -- src/parser.rt:738:15
   parse-struct-requires : lts.Need-parse-struct-requires (calls t) (at t) shape.Post
   parse-struct-requires c κs = search needs
 
-  -- src/parser.rt:739:15
   parse-union-requires : lts.Need-parse-union-requires (calls t) (at t) shape.Post
   parse-union-requires c κs = search needs
 
-  -- src/parser.rt:740:15
   parse-dictionary-requires : lts.Need-parse-dictionary-requires (calls t) (at t) shape.Post
   parse-dictionary-requires c κs = search needs
 
-  -- src/parser.rt:741:15
   parse-decimal-requires : lts.Need-parse-decimal-requires (calls t) (at t) shape.Post
   parse-decimal-requires c κs = search needs
 
-  -- src/parser.rt:742:15
   parse-decimal-requires-2 : lts.Need-parse-decimal-requires-2 (calls t) (at t) shape.Post
   parse-decimal-requires-2 c κs = search needs
 
-  -- src/parser.rt:743:15
   parse-decimal-requires-3 : lts.Need-parse-decimal-requires-3 (calls t) (at t) shape.Post
   parse-decimal-requires-3 c κs = search needs
 
-  -- src/parser.rt:744:15
   parse-decimal-requires-4 : lts.Need-parse-decimal-requires-4 (calls t) (at t) shape.Post
   parse-decimal-requires-4 c κs = search needs
 
-  -- src/parser.rt:745:15
   parse-map-requires : lts.Need-parse-map-requires (calls t) (at t) shape.Post
   parse-map-requires c κs = search needs
 
-  -- src/parser.rt:746:15
   parse-run-end-encoded-requires : lts.Need-parse-run-end-encoded-requires (calls t) (at t) shape.Post
   parse-run-end-encoded-requires c κs = search needs
 
-  -- src/parser.rt:748:13
   put-row-requires : lts.Need-put-row-requires (calls t) (at t) shape.Post
   put-row-requires c κs = search needs
 
-  -- src/parser.rt:714:1
   same-length : lts.Need-same-length (calls t) (at t) shape.Post
   same-length c = search needs
 
-  -- src/parser.rt:714:1
   returns : lts.Need-returns (calls t) (at t) shape.Post
   unfolding shapeAt
   returns c = as-childless _ _ timestamp 13 _ _ _ _ _ _ _ (shapes-of .0) (c .before .before .before .before .match .keys1) (c .before .before .parse-timestamp .ensures)
 
-  -- src/parser.rt:714:1
   same-length-2 : lts.Need-same-length-2 (calls t) (at t) shape.Post
   same-length-2 c = search needs
 
-  -- src/parser.rt:714:1
   returns-2 : lts.Need-returns-2 (calls t) (at t) shape.Post
   unfolding shapeAt
   returns-2 c = as-childless _ _ time 16 _ _ _ _ _ _ _ (shapes-of .1) (c .before .before .before .before .match .keys2) (c .before .before .parse-time .ensures)
 
-  -- src/parser.rt:714:1
   same-length-3 : lts.Need-same-length-3 (calls t) (at t) shape.Post
   same-length-3 c = search needs
 
-  -- src/parser.rt:714:1
   returns-3 : lts.Need-returns-3 (calls t) (at t) shape.Post
   unfolding shapeAt
   returns-3 c = as-childless _ _ time 17 _ _ _ _ _ _ _ (shapes-of .2) (c .before .before .before .before .match .keys3) (c .before .before .parse-time2 .ensures)
 
-  -- src/parser.rt:714:1
   same-length-4 : lts.Need-same-length-4 (calls t) (at t) shape.Post
   same-length-4 c = search needs
 
-  -- src/parser.rt:714:1
   returns-4 : lts.Need-returns-4 (calls t) (at t) shape.Post
   unfolding shapeAt
   returns-4 c = as-childless _ _ time 18 _ _ _ _ _ _ _ (shapes-of .3) (c .before .before .before .before .match .keys4) (c .before .before .parse-time3 .ensures)
 
-  -- src/parser.rt:714:1
   same-length-5 : lts.Need-same-length-5 (calls t) (at t) shape.Post
   same-length-5 c = search needs
 
-  -- src/parser.rt:714:1
   returns-5 : lts.Need-returns-5 (calls t) (at t) shape.Post
   unfolding shapeAt
   returns-5 c = as-childless _ _ interval 19 _ _ _ _ _ _ _ (shapes-of .4) (c .before .before .before .before .match .keys5) (c .before .before .parse-interval .ensures)
 
-  -- src/parser.rt:714:1
   same-length-6 : lts.Need-same-length-6 (calls t) (at t) shape.Post
   same-length-6 c = search needs
 
-  -- src/parser.rt:714:1
   returns-6 : lts.Need-returns-6 (calls t) (at t) shape.Post
   unfolding shapeAt
   returns-6 c = as-childless _ _ fixed 21 _ _ _ _ _ _ _ (shapes-of .5) (c .before .before .before .before .match .keys6) (c .before .before .parse-fixed-size-binary .ensures)
 
-  -- src/parser.rt:714:1
   same-length-7 : lts.Need-same-length-7 (calls t) (at t) shape.Post
   same-length-7 c = search needs
 
-  -- src/parser.rt:714:1
   returns-7 : lts.Need-returns-7 (calls t) (at t) shape.Post
   unfolding shapeAt
   returns-7 c = as-shape _ _ list 27 _ _ _ _ _ _ _ (shapes-of .6) (c .before .before .before .before .match .keys7) (c .before .before .parse-list .ensures)
 
-  -- src/parser.rt:714:1
   same-length-8 : lts.Need-same-length-8 (calls t) (at t) shape.Post
   same-length-8 c = search needs
 
-  -- src/parser.rt:714:1
   returns-8 : lts.Need-returns-8 (calls t) (at t) shape.Post
   unfolding shapeAt
   returns-8 c = as-shape _ _ list 28 _ _ _ _ _ _ _ (shapes-of .7) (c .before .before .before .before .match .keys8) (c .before .before .parse-list2 .ensures)
 
-  -- src/parser.rt:714:1
   same-length-9 : lts.Need-same-length-9 (calls t) (at t) shape.Post
   same-length-9 c = search needs
 
-  -- src/parser.rt:714:1
   returns-9 : lts.Need-returns-9 (calls t) (at t) shape.Post
   unfolding shapeAt
   returns-9 c = as-shape _ _ fixedList 29 _ _ _ _ _ _ _ (shapes-of .8) (c .before .before .before .before .match .keys9) (c .before .before .parse-fixed-size-list .ensures)
 
-  -- src/parser.rt:714:1
   same-length-10 : lts.Need-same-length-10 (calls t) (at t) shape.Post
   same-length-10 c = search needs
 
-  -- src/parser.rt:714:1
   returns-10 : lts.Need-returns-10 (calls t) (at t) shape.Post
   unfolding shapeAt
   returns-10 c = as-shape _ _ list 30 _ _ _ _ _ _ _ (shapes-of .9) (c .before .before .before .before .match .keys10) (c .before .before .parse-list3 .ensures)
 
-  -- src/parser.rt:714:1
   same-length-11 : lts.Need-same-length-11 (calls t) (at t) shape.Post
   same-length-11 c = search needs
 
-  -- src/parser.rt:714:1
   returns-11 : lts.Need-returns-11 (calls t) (at t) shape.Post
   unfolding shapeAt
   returns-11 c = as-shape _ _ list 31 _ _ _ _ _ _ _ (shapes-of .10) (c .before .before .before .before .match .keys11) (c .before .before .parse-list4 .ensures)
 
-  -- src/parser.rt:714:1
   same-length-12 : lts.Need-same-length-12 (calls t) (at t) shape.Post
   same-length-12 c = search needs
 
-  -- src/parser.rt:714:1
   returns-12 : lts.Need-returns-12 (calls t) (at t) shape.Post
   unfolding shapeAt
   returns-12 c = as-shape _ _ struct 32 _ _ _ _ _ _ _ (shapes-of .11) (c .before .before .before .before .match .keys12) (c .before .before .parse-struct .ensures)
 
-  -- src/parser.rt:714:1
   same-length-13 : lts.Need-same-length-13 (calls t) (at t) shape.Post
   same-length-13 c = search needs
 
-  -- src/parser.rt:714:1
   returns-13 : lts.Need-returns-13 (calls t) (at t) shape.Post
   unfolding shapeAt
   returns-13 c = as-shape _ _ union 33 _ _ _ _ _ _ _ (shapes-of .12) (c .before .before .before .before .match .keys13) (c .before .before .parse-union .ensures)
 
-  -- src/parser.rt:714:1
   same-length-14 : lts.Need-same-length-14 (calls t) (at t) shape.Post
   same-length-14 c = search needs
 
-  -- src/parser.rt:714:1
   returns-14 : lts.Need-returns-14 (calls t) (at t) shape.Post
   unfolding shapeAt
   returns-14 c = as-shape _ _ dictionary 34 _ _ _ _ _ _ _ (shapes-of .13) (c .before .before .before .before .match .keys14) (c .before .before .parse-dictionary .ensures)
 
-  -- src/parser.rt:714:1
   same-length-15 : lts.Need-same-length-15 (calls t) (at t) shape.Post
   same-length-15 c = search needs
 
-  -- src/parser.rt:714:1
   returns-15 : lts.Need-returns-15 (calls t) (at t) shape.Post
   unfolding shapeAt
   returns-15 c = as-childless _ _ decimal 35 _ _ _ _ _ _ _ (shapes-of .14) (c .before .before .before .before .match .keys15) (c .before .before .parse-decimal .ensures)
 
-  -- src/parser.rt:714:1
   same-length-16 : lts.Need-same-length-16 (calls t) (at t) shape.Post
   same-length-16 c = search needs
 
-  -- src/parser.rt:714:1
   returns-16 : lts.Need-returns-16 (calls t) (at t) shape.Post
   unfolding shapeAt
   returns-16 c = as-childless _ _ decimal 36 _ _ _ _ _ _ _ (shapes-of .15) (c .before .before .before .before .match .keys16) (c .before .before .parse-decimal2 .ensures)
 
-  -- src/parser.rt:714:1
   same-length-17 : lts.Need-same-length-17 (calls t) (at t) shape.Post
   same-length-17 c = search needs
 
-  -- src/parser.rt:714:1
   returns-17 : lts.Need-returns-17 (calls t) (at t) shape.Post
   unfolding shapeAt
   returns-17 c = as-childless _ _ decimal 37 _ _ _ _ _ _ _ (shapes-of .16) (c .before .before .before .before .match .keys17) (c .before .before .parse-decimal3 .ensures)
 
-  -- src/parser.rt:714:1
   same-length-18 : lts.Need-same-length-18 (calls t) (at t) shape.Post
   same-length-18 c = search needs
 
-  -- src/parser.rt:714:1
   returns-18 : lts.Need-returns-18 (calls t) (at t) shape.Post
   unfolding shapeAt
   returns-18 c = as-childless _ _ decimal 38 _ _ _ _ _ _ _ (shapes-of .17) (c .before .before .before .before .match .keys18) (c .before .before .parse-decimal4 .ensures)
 
-  -- src/parser.rt:714:1
   same-length-19 : lts.Need-same-length-19 (calls t) (at t) shape.Post
   same-length-19 c = search needs
 
-  -- src/parser.rt:714:1
   returns-19 : lts.Need-returns-19 (calls t) (at t) shape.Post
   unfolding shapeAt
   returns-19 c = as-shape _ _ mapping 39 _ _ _ _ _ _ _ (shapes-of .18) (c .before .before .before .before .match .keys19) (c .before .before .parse-map .ensures)
 
-  -- src/parser.rt:714:1
   same-length-20 : lts.Need-same-length-20 (calls t) (at t) shape.Post
   same-length-20 c = search needs
 
-  -- src/parser.rt:714:1
   returns-20 : lts.Need-returns-20 (calls t) (at t) shape.Post
   unfolding shapeAt
   returns-20 c = as-shape _ _ runEnds 40 _ _ _ _ _ _ _ (shapes-of .19) (c .before .before .before .before .match .keys20) (c .before .before .parse-run-end-encoded .ensures)
 
-  -- src/parser.rt:714:1
   same-length-21 : lts.Need-same-length-21 (calls t) (at t) shape.Post
   same-length-21 c = search needs
 
-  -- src/parser.rt:714:1
   returns-21 : lts.Need-returns-21 (calls t) (at t) shape.Post
   unfolding shapeAt
   returns-21 c = leaf-done _ _ _ _ _ _ _ _ (leaf-kind _ (c .before .before .before .before .before .before .before .pre .1 .1) (c .before .before .before .before .match .rest)) (c .before .before .put-row .ensures)
