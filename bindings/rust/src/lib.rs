@@ -44,3 +44,8 @@ pub const MAX_ROWS: usize = 1_024;
 
 /// The most bytes that a text has, read or printed.
 pub const MAX_TEXT: usize = 16_384;
+
+/// The worked example of the README runs with the documentation's.
+#[cfg(doctest)]
+#[doc = include_str!("../../README.md")]
+struct Readme;
