@@ -9,6 +9,8 @@ mod oracle;
 mod prints;
 mod sample;
 #[cfg(feature = "subject")]
+mod service;
+#[cfg(feature = "subject")]
 mod speed;
 mod subject;
 #[cfg(test)]
@@ -31,6 +33,8 @@ compare tables FILE [seed=N]
     writes damaged tables with their answers, for the same
 compare prints FILE [seed=N]
     writes trees with what they print, for the same
+compare service [seed=N] [texts=N]
+    compares the crate that services use with the Rust (with the feature subject)
 compare show
     reads one text from standard input and shows what model and Rust say
 compare speed
@@ -65,6 +69,8 @@ fn command(arguments: &[String]) -> Result<ExitCode, String> {
             }
         }
         "show" => show(),
+        #[cfg(feature = "subject")]
+        "service" => Ok(service::run(&settings(rest, &["seed", "texts"])?)),
         #[cfg(feature = "subject")]
         "speed" => Ok(speed::run()),
         other => Err(format!("unknown command {other}")),

@@ -1,0 +1,143 @@
+/* Calls every function of the header and checks what it answers and what it leaves as it was. The last line says how
+ * many checks there were; the status is 1 if one failed. */
+
+#include "arrow_types.h"
+
+#include <stdio.h>
+#include <string.h>
+
+#define WORDS (ARROW_TYPES_MAX_ROWS * ARROW_TYPES_ROW_WORDS)
+
+static unsigned checks, failures;
+
+static void check(int holds, const char *what, int line)
+{
+    checks++;
+    if (!holds) {
+        failures++;
+        printf("line %d: %s\n", line, what);
+    }
+}
+
+#define CHECK(condition) check((condition) != 0, #condition, __LINE__)
+
+/* A tree: a text, the name list and the rows filled. */
+struct tree {
+    const uint8_t *text;
+    size_t length;
+    uint32_t rows[WORDS];
+    size_t words;
+};
+
+/* A tree as the first arguments of a call. */
+#define NAMES (const uint8_t *)ARROW_TYPES_NAMES, (size_t)ARROW_TYPES_NAMES_LENGTH
+#define TREE(tree) (tree)->text, (tree)->length, NAMES, (tree)->rows, (tree)->words
+
+static uint32_t read_text(struct tree *tree, const char *text)
+{
+    size_t count = 99;
+    tree->text = (const uint8_t *)text;
+    tree->length = strlen(text);
+    uint32_t status = arrow_types_read(tree->text, tree->length, tree->rows, WORDS, &count);
+    tree->words = count * ARROW_TYPES_ROW_WORDS;
+    return status;
+}
+
+/* Whether so many words from a place on have a value. */
+static int all(const uint32_t *words, size_t count, uint32_t value)
+{
+    for (size_t i = 0; i < count; i++)
+        if (words[i] != value)
+            return 0;
+    return 1;
+}
+
+static void fill(uint32_t *words, uint32_t value)
+{
+    for (size_t i = 0; i < WORDS; i++)
+        words[i] = value;
+}
+
+static struct tree a, b;
+
+static void reading(void)
+{
+    fill(a.rows, 7);
+    CHECK(read_text(&a, "List(Timestamp(ms, \"CET\"))") == 0);
+    CHECK(a.words == 22);
+    static const uint32_t expected[22] = {27, 2, 0, 0, 0, 0, 0, 0, 0, 0, 0, 13, 1, 1, 0, 1, 0, 2, 0, 4, 20, 3};
+    CHECK(memcmp(a.rows, expected, sizeof expected) == 0);
+    CHECK(all(a.rows + 22, WORDS - 22, 7));
+
+    CHECK(read_text(&a, "Time32(us)") == ARROW_TYPES_WRONG_TIME_UNIT);
+    CHECK(a.words == 0);
+    CHECK(all(a.rows, WORDS, 0));
+
+    size_t count = 99;
+    CHECK(arrow_types_read((const uint8_t *)"Int8", 4, a.rows, 10, &count) == ARROW_TYPES_TOO_MANY_ROWS);
+    CHECK(arrow_types_read((const uint8_t *)"", 0, a.rows, WORDS, &count) == ARROW_TYPES_TEXT_ENDS);
+    CHECK(arrow_types_read((const uint8_t *)"\xff", 1, a.rows, WORDS, &count) == ARROW_TYPES_NOT_UTF8);
+    CHECK(arrow_types_read((const uint8_t *)"Int8", 4, a.rows, 0, &count) == ARROW_TYPES_TOO_MANY_ROWS);
+    CHECK(count == 0);
+}
+
+static void printing(void)
+{
+    uint8_t out[40];
+    size_t length = 99;
+    memset(out, 'x', sizeof out);
+    CHECK(read_text(&a, "FixedSizeList(4, Int32)") == 0);
+    CHECK(arrow_types_print(TREE(&a), out, sizeof out, &length) == 0);
+    CHECK(length == 24);
+    CHECK(memcmp(out, "FixedSizeList(4 x Int32)xxxxxxxxxxxxxxxx", sizeof out) == 0);
+
+    memset(out, 'x', sizeof out);
+    CHECK(arrow_types_print(TREE(&a), out, 23, &length) == ARROW_TYPES_PRINT_TOO_LONG);
+    CHECK(length == 0);
+    CHECK(out[0] == 'x');
+    CHECK(arrow_types_print(TREE(&a), out, 24, &length) == 0);
+
+    CHECK(read_text(&a, "Struct(\"\xc3\xbc\": Int8)") == 0);
+    CHECK(arrow_types_print(TREE(&a), out, sizeof out, &length) == ARROW_TYPES_NOT_ASCII);
+}
+
+static void judging(void)
+{
+    size_t depth = 99, row = 99;
+    uint32_t yes = 99;
+    CHECK(read_text(&a, "Dictionary(Utf8, List(Int8))") == 0);
+    CHECK(arrow_types_is_sound(TREE(&a)) == 1);
+    CHECK(arrow_types_depth(TREE(&a), &depth) == 0);
+    CHECK(depth == 3);
+    CHECK(arrow_types_verdict(TREE(&a), &yes, &row) == 0);
+    CHECK(yes == 0 && row == 1);
+    a.rows[ARROW_TYPES_ROW_WORDS + ARROW_TYPES_WORD_KIND] = ARROW_TYPES_KIND_INT16;
+    CHECK(arrow_types_verdict(TREE(&a), &yes, &row) == 0);
+    CHECK(yes == 1 && row == 0);
+
+    a.rows[ARROW_TYPES_WORD_ROWS] = 3;
+    CHECK(arrow_types_is_sound(TREE(&a)) == 0);
+    CHECK(arrow_types_depth(TREE(&a), &depth) == ARROW_TYPES_NOT_SOUND);
+    CHECK(depth == 0);
+    CHECK(arrow_types_verdict(TREE(&a), &yes, &row) == ARROW_TYPES_NOT_SOUND);
+    CHECK(yes == 0 && row == 0);
+}
+
+static void comparing(void)
+{
+    CHECK(read_text(&a, "Timestamp(s, \"CET\")") == 0);
+    CHECK(read_text(&b, "Timestamp(Second, Some(\"CET\"))") == 0);
+    CHECK(arrow_types_equal(TREE(&a), TREE(&b)) == 1);
+    CHECK(read_text(&b, "Timestamp(s, \"EET\")") == 0);
+    CHECK(arrow_types_equal(TREE(&a), TREE(&b)) == 0);
+}
+
+int main(void)
+{
+    reading();
+    printing();
+    judging();
+    comparing();
+    printf("%u checks, %u failed\n", checks, failures);
+    return failures != 0;
+}

@@ -1,0 +1,229 @@
+//! The library's functions, made safe: all `unsafe` of this crate is here. `bindings/c/arrow_types.h` says what each
+//! answers and what a caller owes. Slices are never null, and a borrow that is written is no part of one that is read;
+//! that is all of it.
+
+use crate::Error;
+
+/// The three names that stand in no text, end to end: document 01's name list.
+pub const NAME_LIST: &str = "itemrun_endsvalues";
+
+unsafe extern "C" {
+    fn arrow_types_read(
+        text: *const u8,
+        text_length: usize,
+        rows: *mut u32,
+        rows_length: usize,
+        count: *mut usize,
+    ) -> u32;
+
+    fn arrow_types_print(
+        text: *const u8,
+        text_length: usize,
+        names: *const u8,
+        names_length: usize,
+        rows: *const u32,
+        rows_length: usize,
+        out: *mut u8,
+        out_length: usize,
+        length: *mut usize,
+    ) -> u32;
+
+    fn arrow_types_is_sound(
+        text: *const u8,
+        text_length: usize,
+        names: *const u8,
+        names_length: usize,
+        rows: *const u32,
+        rows_length: usize,
+    ) -> u32;
+
+    fn arrow_types_depth(
+        text: *const u8,
+        text_length: usize,
+        names: *const u8,
+        names_length: usize,
+        rows: *const u32,
+        rows_length: usize,
+        depth: *mut usize,
+    ) -> u32;
+
+    fn arrow_types_equal(
+        text: *const u8,
+        text_length: usize,
+        names: *const u8,
+        names_length: usize,
+        rows: *const u32,
+        rows_length: usize,
+        text2: *const u8,
+        text2_length: usize,
+        names2: *const u8,
+        names2_length: usize,
+        rows2: *const u32,
+        rows2_length: usize,
+    ) -> u32;
+
+    fn arrow_types_verdict(
+        text: *const u8,
+        text_length: usize,
+        names: *const u8,
+        names_length: usize,
+        rows: *const u32,
+        rows_length: usize,
+        yes: *mut u32,
+        row: *mut usize,
+    ) -> u32;
+}
+
+/// A tree as the library takes it: its text and its row words. The name list is always the same.
+#[derive(Clone, Copy)]
+pub struct Tree<'a> {
+    pub text: &'a [u8],
+    pub rows: &'a [u32],
+}
+
+/// Reads a text into lent rows: how many are filled.
+pub fn read(text: &[u8], rows: &mut [u32]) -> Result<usize, Error> {
+    let mut count = 0;
+    // SAFETY: the pointers are those of slices and of a local, with the slices' lengths; all outlive the call. What is
+    // written, `rows` and `count`, is borrowed mutably, so it is no part of `text`.
+    let status = unsafe {
+        arrow_types_read(
+            text.as_ptr(),
+            text.len(),
+            rows.as_mut_ptr(),
+            rows.len(),
+            &mut count,
+        )
+    };
+    answer(status, count)
+}
+
+/// Prints a tree into a lent buffer: how many bytes are filled.
+pub fn print(tree: Tree, out: &mut [u8]) -> Result<usize, Error> {
+    let mut length = 0;
+    // SAFETY: as in `read`; `out` and `length` are written, and are no part of the tree or the name list.
+    let status = unsafe {
+        arrow_types_print(
+            tree.text.as_ptr(),
+            tree.text.len(),
+            NAME_LIST.as_ptr(),
+            NAME_LIST.len(),
+            tree.rows.as_ptr(),
+            tree.rows.len(),
+            out.as_mut_ptr(),
+            out.len(),
+            &mut length,
+        )
+    };
+    answer(status, length)
+}
+
+/// Whether a tree is sound.
+pub fn is_sound(tree: Tree) -> bool {
+    // SAFETY: the pointers are those of slices, with their lengths, that outlive the call. Nothing is written.
+    let sound = unsafe {
+        arrow_types_is_sound(
+            tree.text.as_ptr(),
+            tree.text.len(),
+            NAME_LIST.as_ptr(),
+            NAME_LIST.len(),
+            tree.rows.as_ptr(),
+            tree.rows.len(),
+        )
+    };
+    sound == 1
+}
+
+/// The depth of a tree, the root being at level 1.
+pub fn depth(tree: Tree) -> Result<usize, Error> {
+    let mut depth = 0;
+    // SAFETY: as in `is_sound`; the local `depth` is written.
+    let status = unsafe {
+        arrow_types_depth(
+            tree.text.as_ptr(),
+            tree.text.len(),
+            NAME_LIST.as_ptr(),
+            NAME_LIST.len(),
+            tree.rows.as_ptr(),
+            tree.rows.len(),
+            &mut depth,
+        )
+    };
+    answer(status, depth)
+}
+
+/// Whether two trees are equal.
+pub fn equal(tree: Tree, other: Tree) -> bool {
+    // SAFETY: as in `is_sound`.
+    let equal = unsafe {
+        arrow_types_equal(
+            tree.text.as_ptr(),
+            tree.text.len(),
+            NAME_LIST.as_ptr(),
+            NAME_LIST.len(),
+            tree.rows.as_ptr(),
+            tree.rows.len(),
+            other.text.as_ptr(),
+            other.text.len(),
+            NAME_LIST.as_ptr(),
+            NAME_LIST.len(),
+            other.rows.as_ptr(),
+            other.rows.len(),
+        )
+    };
+    equal == 1
+}
+
+/// The layout verdict of a tree: none for yes, else the first row that breaks a rule.
+pub fn verdict(tree: Tree) -> Result<Option<usize>, Error> {
+    let mut yes = 0;
+    let mut row = 0;
+    // SAFETY: as in `is_sound`; the locals `yes` and `row` are written.
+    let status = unsafe {
+        arrow_types_verdict(
+            tree.text.as_ptr(),
+            tree.text.len(),
+            NAME_LIST.as_ptr(),
+            NAME_LIST.len(),
+            tree.rows.as_ptr(),
+            tree.rows.len(),
+            &mut yes,
+            &mut row,
+        )
+    };
+    answer(status, (yes == 0).then_some(row))
+}
+
+/// A field's name, a part of the text or of the name list: empty where its words do not fit.
+pub fn name(text: &[u8], home: u32, start: u32, size: u32) -> &[u8] {
+    let (home, start, length) = locate(text.len(), NAME_LIST.len(), home, start, size);
+    match home {
+        1 => &text[start..start + length],
+        2 => &NAME_LIST.as_bytes()[start..start + length],
+        _ => &[],
+    }
+}
+
+/// Stands in for `arrow_types_name` until the library has it: the name's home, start and length; 0, 0 and 0 where the
+/// words do not fit.
+fn locate(text: usize, names: usize, home: u32, start: u32, size: u32) -> (u32, usize, usize) {
+    let room = match home {
+        1 => text,
+        2 => names,
+        _ => return (0, 0, 0),
+    };
+    let (start, size) = (start as usize, size as usize);
+    match start.checked_add(size) {
+        Some(end) if end <= room => (home, start, size),
+        _ => (0, 0, 0),
+    }
+}
+
+/// A status is 0 or the number of a refusal, which comes with no value.
+fn answer<T>(status: u32, value: T) -> Result<T, Error> {
+    match status {
+        0 => Ok(value),
+        number => Err(Error::from_number(number)
+            .unwrap_or_else(|| panic!("the library refuses with {number}, which is no refusal"))),
+    }
+}
