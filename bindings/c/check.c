@@ -132,12 +132,34 @@ static void comparing(void)
     CHECK(arrow_types_equal(TREE(&a), TREE(&b)) == 0);
 }
 
+/* A name's place, or 0, 0 and 0. */
+static int is_name(uint32_t home, uint32_t start, uint32_t size, uint32_t in, size_t at, size_t length)
+{
+    size_t name_start = 99, name_length = 99;
+    uint32_t answer = arrow_types_name((const uint8_t *)"abc", 3, NAMES, home, start, size, &name_start, &name_length);
+    return answer == in && name_start == at && name_length == length;
+}
+
+static void naming(void)
+{
+    CHECK(is_name(1, 0, 3, 1, 0, 3));
+    CHECK(is_name(1, 1, 1, 1, 1, 1));
+    CHECK(is_name(2, 4, 8, 2, 4, 8));
+    CHECK(is_name(0, 0, 3, 0, 0, 0));
+    CHECK(is_name(3, 0, 3, 0, 0, 0));
+    CHECK(is_name(1, 1, 3, 0, 0, 0));
+    CHECK(is_name(2, 12, 7, 0, 0, 0));
+    CHECK(is_name(1, UINT32_MAX, UINT32_MAX, 0, 0, 0));
+    CHECK(is_name(1, 1, 0, 0, 0, 0));
+}
+
 int main(void)
 {
     reading();
     printing();
     judging();
     comparing();
+    naming();
     printf("%u checks, %u failed\n", checks, failures);
     return failures != 0;
 }

@@ -72,6 +72,18 @@ unsafe extern "C" {
         yes: *mut u32,
         row: *mut usize,
     ) -> u32;
+
+    fn arrow_types_name(
+        text: *const u8,
+        text_length: usize,
+        names: *const u8,
+        names_length: usize,
+        home: u32,
+        start: u32,
+        size: u32,
+        name_start: *mut usize,
+        name_length: *mut usize,
+    ) -> u32;
 }
 
 /// A tree as the library takes it: its text and its row words. The name list is always the same.
@@ -196,26 +208,26 @@ pub fn verdict(tree: Tree) -> Result<Option<usize>, Error> {
 
 /// A field's name, a part of the text or of the name list: empty where its words do not fit.
 pub fn name(text: &[u8], home: u32, start: u32, size: u32) -> &[u8] {
-    let (home, start, length) = locate(text.len(), NAME_LIST.len(), home, start, size);
-    match home {
-        1 => &text[start..start + length],
-        2 => &NAME_LIST.as_bytes()[start..start + length],
-        _ => &[],
-    }
-}
-
-/// Stands in for `arrow_types_name` until the library has it: the name's home, start and length; 0, 0 and 0 where the
-/// words do not fit.
-fn locate(text: usize, names: usize, home: u32, start: u32, size: u32) -> (u32, usize, usize) {
-    let room = match home {
-        1 => text,
-        2 => names,
-        _ => return (0, 0, 0),
+    let mut name_start = 0;
+    let mut name_length = 0;
+    // SAFETY: as in `is_sound`; the locals `name_start` and `name_length` are written.
+    let home = unsafe {
+        arrow_types_name(
+            text.as_ptr(),
+            text.len(),
+            NAME_LIST.as_ptr(),
+            NAME_LIST.len(),
+            home,
+            start,
+            size,
+            &mut name_start,
+            &mut name_length,
+        )
     };
-    let (start, size) = (start as usize, size as usize);
-    match start.checked_add(size) {
-        Some(end) if end <= room => (home, start, size),
-        _ => (0, 0, 0),
+    match home {
+        1 => &text[name_start..name_start + name_length],
+        2 => &NAME_LIST.as_bytes()[name_start..name_start + name_length],
+        _ => &[],
     }
 }
 

@@ -1,5 +1,6 @@
 -- Answers as two numbers: the status, 0 or the refusal's number, and the value, 0 where it was refused.
 use mathlib.Core.Bool.{Bool, true, false}
+use mathlib.Core.List.{List, [], _∷_}
 use mathlib.Core.Option.{Option, some, none}
 use Prim.Native.Nat.{ℕ}
 use Rattle.tokenizer.specs.Answer.{Out, refused, done}
@@ -27,3 +28,8 @@ unfoldable pub rowOf : Out (Option ℕ) → ℕ
 rowOf (refused r) = 0
 rowOf (done none) = 0
 rowOf (done (some i)) = i
+
+-- A number of a name's place, 0 where the name is empty.
+unfoldable pub ifNamed : List ℕ → ℕ → ℕ
+ifNamed [] n = 0
+ifNamed (c ∷ name) n = n

@@ -1,6 +1,8 @@
 // The functions that services call from Rust or C: on numbers and slices, each with a status, 0 or document 01's number.
 ghost use mathlib.Core.Path.{_≡_};
-ghost use Rattle.arrow_types.specs.Status.{statusOf, valueOf, flag, yesOf, rowOf};
+ghost use lib.ListN.{length};
+ghost use Rattle.arrow_types.specs.Status.{statusOf, valueOf, flag, yesOf, rowOf, ifNamed};
+ghost use Rattle.datatype.specs.Tree.{nameOf};
 ghost use Rattle.datatype.specs.Sound.{isSound, depthOf};
 ghost use Rattle.datatype.specs.Equal.{equalTrees};
 ghost use Rattle.datatype.specs.Layout.{verdictOf};
@@ -53,6 +55,33 @@ pub extern "C" fn arrow_types_print<'a>(
             n
         }
     }
+}
+
+// Where a field's name stands, by words 6, 7 and 8 of its row: the home, 1 the text or 2 the name list, with start and
+// count of its bytes there. The three are 0 where the name is empty, as it is where the words do not fit.
+#[no_mangle]
+pub extern "C" fn arrow_types_name<'a>(
+    text: &'a [u8],
+    names: &'a [u8],
+    home: u32,
+    start: u32,
+    size: u32,
+    from: &mut usize,
+    count: &mut usize,
+) -> u32
+    ensures home { λ r. ⌜ r ≡ ifNamed (nameOf (now (text .entry)) (now (names .entry)) home start size) home ⌝ }
+    ensures start { λ r. ⌜ now (from .exit) ≡ ifNamed (nameOf (now (text .entry)) (now (names .entry)) home start size) start ⌝ }
+    ensures count { λ r. ⌜ now (count .exit) ≡ length (nameOf (now (text .entry)) (now (names .entry)) home start size) ⌝ }
+    ensures bytes { λ r. ⌜ nameOf (now (text .entry)) (now (names .entry)) r (now (from .exit)) (now (count .exit)) ≡ nameOf (now (text .entry)) (now (names .entry)) home start size ⌝ }
+{
+    let found = datatype::name(text, names, home, start, size);
+    *count = found.len();
+    if found.len() == 0 {
+        *from = 0;
+        return 0;
+    }
+    *from = start as usize;
+    home
 }
 
 // Whether text, name list and row words are a sound tree: 1 or 0.

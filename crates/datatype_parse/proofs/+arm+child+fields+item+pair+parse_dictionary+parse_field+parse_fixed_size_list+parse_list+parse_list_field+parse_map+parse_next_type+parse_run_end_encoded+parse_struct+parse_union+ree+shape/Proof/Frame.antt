@@ -74,10 +74,6 @@ use Rattle.datatype_parse.proofs.tokens.parse_number.Reads as parse-num
 use Rattle.datatype_parse.proofs.tokens.parse_opt_nullable.Reads as parse-opt-nullable-reads
 use Rattle.datatype_parse.proofs.tokens.parse_type_word.Reads as parse-type-word-reads
 use Rattle.datatype_parse.proofs.tokens.parse_union_mode.Reads as parse-union-mode-reads
-use Rattle.datatype_parse.proofs.tokens.parse_unsigned.Reads as parse-unsigned-reads
-use Rattle.datatype_parse.proofs.tokens.peek_double_quoted.Reads as peek-double-quoted-reads
-use Rattle.datatype_parse.proofs.+arm+child+fields+item+pair+parse_dictionary+parse_field+parse_fixed_size_list+parse_list+parse_list_field+parse_map+parse_next_type+parse_run_end_encoded+parse_struct+parse_union+ree+shape.{statement}
-use Rattle.datatype_parse.proofs.+arm+child+fields+item+pair+parse_dictionary+parse_field+parse_fixed_size_list+parse_list+parse_list_field+parse_map+parse_next_type+parse_run_end_encoded+parse_struct+parse_union+ree+shape.Tie.{close}
 
 abbrev pub μ-child : Measures 2 child-kinds.ps ℕ
 μ-child κs a = 8 * a .1 .1 .1 .1 .1 .0 + 2
