@@ -193,7 +193,7 @@ uint32_t arrow_types_verdict(const uint8_t *text, size_t text_length,
  *
  * 1: in the text, *name_length bytes from *name_start.
  * 2: in the name list, likewise.
- * 0: the words do not fit, so the name is empty; *name_start and *name_length are 0.
+ * 0: the name is empty, as it is where the words do not fit; *name_start and *name_length are 0.
  */
 uint32_t arrow_types_name(const uint8_t *text, size_t text_length,
                           const uint8_t *names, size_t names_length,
