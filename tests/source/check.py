@@ -63,9 +63,32 @@ def check_documents():
                 faults.append(f"{path.relative_to(ROOT)}: `{crate}/{name}` is not declared")
 
 
+def check_edits():
+    """docs/STATEMENTS.md names each must-fail edit, and two or more of them beside each public function."""
+    present = {path.stem for path in ROOT.glob("crates/*/must-fail/*.edit")}
+    text = (ROOT / "docs/STATEMENTS.md").read_text(encoding="utf8")
+    for name in sorted(present - set(re.findall(r"[`/](\w+)`", text))):
+        faults.append(f"docs/STATEMENTS.md: the edit {name} is not named")
+    table = text.split("## Public functions")[1].split("##")[0]
+    for line in table.splitlines():
+        cells = [cell.strip() for cell in line.split(" | ")]
+        if len(cells) == 3 and cells[0].startswith("| `"):
+            edits = re.findall(r"`(\w+)`", cells[2])
+            for name in sorted(set(edits) - present):
+                faults.append(f"docs/STATEMENTS.md: there is no edit {name}")
+            if len(edits) < 2:
+                faults.append(f"docs/STATEMENTS.md: {cells[0][2:]} has fewer than two edits")
+
+
+def pages():
+    """Every page of the repository but those below target folders."""
+    paths = [path for path in ROOT.rglob("*.md") if "target" not in path.relative_to(ROOT).parts]
+    return sorted(paths)
+
+
 def check_links():
     """Files named by a relative link exist."""
-    for path in [ROOT / "README.md", *sorted((ROOT / "docs").glob("*.md"))]:
+    for path in pages():
         for target in re.findall(r"\]\(([^)#:]+)\)", path.read_text(encoding="utf8")):
             if not (path.parent / target).exists():
                 faults.append(f"{path.relative_to(ROOT)}: no file {target}")
@@ -78,7 +101,7 @@ def check_layout():
 
 
 def main():
-    checks = [check_crates, check_contracts, check_documents, check_links, check_layout]
+    checks = [check_crates, check_contracts, check_documents, check_edits, check_links, check_layout]
     failed = 0
     for check in checks:
         before = len(faults)
