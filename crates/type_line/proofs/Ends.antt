@@ -66,7 +66,7 @@ module _ (input : List ℕ) (from : ℕ) where
 -- ---- the lines of an input
 
 -- the first line, and the lines behind its newline
-abbrev Split : List ℕ → Type 0
+abbrev pub Split : List ℕ → Type 0
 Split s = linesOf s ≡ take (beforeNewline s) s ∷ linesOf (drop (suc (beforeNewline s)) s)
 
 lines-first : (c : ℕ) (s : List ℕ) → Split (c ∷ s)
@@ -83,7 +83,7 @@ lines-first c (d ∷ s) = go (eqb c 10) (lines-first d s)
     go true h = refl
     go false h = ap (longer c) h
 
-lines-some : (s : List ℕ) → 0 < length s → Split s
+pub lines-some : (s : List ℕ) → 0 < length s → Split s
 lines-some [] h = absurd (omega arith)
 lines-some (c ∷ s) h = lines-first c s
 

@@ -4,8 +4,8 @@ use mathlib.Core.Bool.{Bool, true, false, _&&_}
 use mathlib.Core.List.{List, [], _∷_, _++_, append-assoc}
 use Prim.Native.Nat.{ℕ, _+_, _*_, _/_, min, _≤_, _<_}
 use native.Mathlib.Omega.{arith}
-use lib.ListN.{length, take, drop}
-use lib.Seq.{length-take-le}
+use lib.ListN.{length, take, drop, length-append, length-drop}
+use lib.Seq.{length-take-le, take-append-seam}
 use lib.Dec.{leb}
 use borrow.Author.Tests.{le-leb, lt-leb}
 use Rattle.tokenizer.specs.Text.{bytes, if_then_else_}
@@ -17,8 +17,6 @@ use Rattle.datatype.proofs.LevelLaws.{depth-labels}
 use Rattle.datatype_parse.specs.Parse.{parse, rowCount, filled, parseAnswer, parseRows, parsedMeans}
 use Rattle.datatype_parse.specs.declared.Parsed.{Parsed}
 use Rattle.datatype_parse.specs.declared.Parsed.the-variants as parsed
-use Rattle.datatype_parse.proofs.MoreRows.{filled-rows}
-use Rattle.datatype_parse.proofs.ReadSound.{lent-sound}
 use Rattle.datatype_display.specs.Display.{digits}
 use Rattle.datatype_display.specs.Print.{print}
 use Rattle.type_line.specs.Line.{noLine, okLine, lineAnswer, lineAnswered, lineRows, lineOut, answeredMeans}
@@ -96,14 +94,20 @@ module _ (line rows out : List ℕ) where
           let o : parse line 1024 ≡ refuse n = ap (parse line) (sym (all-lent (length rows) words)) ∙ no-tree n (parse line (rowsLent (length rows))) (sym e ∙ ap parsedMeans h) in
           with-room r rows′ out′ p (rw o a)
 
-      -- the rows that were filled are lent
-      pub line-words : q ≡ parsed.Rows n → rowWords * n ≤ length rows
-      unfolding parsedMeans
-      line-words h = lent-sound line rows n (sym e ∙ ap parsedMeans h) .lent
-
       module _ (h : q ≡ parsed.Rows n) (k : length rows′ ≡ length rows) where
+        -- the rows that were filled are lent
         pub line-fits : rowWords * n ≤ length rows′
-        line-fits = let l = line-words h in omega arith
+        unfolding parsedMeans parseAnswer parseRows
+        line-fits = go (some-tree n (parse line (rowsLent (length rows))) (sym e ∙ ap parsedMeans h))
+          where
+            go : (f : Forest Row) × (parse line (rowsLent (length rows)) ≡ done f) × (count f ≡ n) → rowWords * n ≤ length rows′
+            go w =
+                let t : List ℕ = tableOf (w .0) in
+                let l = ap (λ (r : List ℕ). length r) (p ∙ ap (filled rows) (w .1)) ∙ length-append t (drop (length t) rows) in
+                let m = length-drop (length t) rows in
+                let c = length-table (w .0) in
+                let d = w .2 in
+                omega arith
 
         pub line-counted : rowWords * n ≡ length (take (rowWords * n) rows′)
         line-counted = sym (length-take-le (rowWords * n) rows′ line-fits)
@@ -113,7 +117,11 @@ module _ (line rows out : List ℕ) where
       unfolding lineAnswer parseRows
       read-answers f o c r out′ a =
           let g : parse line 1024 ≡ done f = ap (parse line) (sym (all-lent (length rows) words)) ∙ o in
-          let t : take (rowWords * n) rows′ ≡ tableOf f = ap (take (rowWords * n)) (p ∙ ap (filled rows) o) ∙ filled-rows n rows f c in
+          let l : rowWords * n ≡ length (tableOf f) = let m = length-table f in omega arith in
+          let t : take (rowWords * n) rows′ ≡ tableOf f =
+          ap (take (rowWords * n)) (p ∙ ap (filled rows) o)
+          ∙ ap (λ (k : ℕ). take k (tableOf f ++ drop (length (tableOf f)) rows)) l
+          ∙ take-append-seam (tableOf f) (drop (length (tableOf f)) rows) in
           rw g (subst (λ (l : List ℕ). Answers l out r out′) (ap (tableLine line) t ∙ table-line line f) a)
 
       pub line-read : q ≡ parsed.Rows n → (r : ℕ) (out′ : List ℕ) → Answers (tableLine line (take (rowWords * n) rows′)) out r out′ → Answering (Bytes r) rows′ out′

@@ -1,4 +1,4 @@
-use Rattle.type_line.proofs.Whole.{few-words, few-bytes, line-refused, line-words, line-fits, line-counted, line-read}
+use Rattle.type_line.proofs.Whole.{few-words, few-bytes, line-refused, line-fits, line-counted, line-read}
 use native.Mathlib.Omega.{arith}
 use borrow.Author.Needs.{needs}
 use Rattle.type_line.proofs.answer_line.Statement.{statement}
@@ -35,7 +35,7 @@ enum-known-n-2 c = search needs
 
 -- src/lib.rt:55:25
 mul-words : tie.Need-mul-words
-mul-words c = record { fits = omega (arith, line-words _ _ (c .before .before .before .before .before .before .before .before .before .before .before .before .args .out .now) (c .before .before .before .before .before .before .before .before .if1 .left) (c .before .before .before .before .before .before .before .if2 .left) _ _ (c .before .before .before .before .before .parse-data-type .ensures .0) (c .before .before .before .before .before .parse-data-type .ensures .1) _ (c .before .n2 .given .1)) }
+mul-words c = record { fits = omega (arith, line-fits _ _ (c .before .before .before .before .before .before .before .before .before .before .before .before .args .out .now) (c .before .before .before .before .before .before .before .before .if1 .left) (c .before .before .before .before .before .before .before .if2 .left) _ _ (c .before .before .before .before .before .parse-data-type .ensures .0) (c .before .before .before .before .before .parse-data-type .ensures .1) _ (c .before .n2 .given .1) (c .before .before .before .before .before .parse-data-type .kept .1 .0), c .before .before .before .before .before .parse-data-type .kept .1 .0) }
 
 -- src/lib.rt:56:53
 slice-reshare-prefix-answer-tree : tie.Need-slice-reshare-prefix-answer-tree
