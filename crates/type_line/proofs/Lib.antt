@@ -1,0 +1,4 @@
+pub mod Ends
+pub mod Writing
+pub mod Trees
+pub mod Whole

@@ -1,0 +1,39 @@
+// The answer to a text that was read: its tree's rows, depth and printed text, or the refusal of the printer.
+ghost use mathlib.Core.Path.{_≡_};
+ghost use Prim.Native.Nat.{_≤_, _/_};
+ghost use lib.ListN.{length};
+ghost use Rattle.datatype.specs.Tree.{nameList};
+ghost use Rattle.datatype.specs.Table.{rowWords};
+ghost use Rattle.datatype_display.specs.Print.{print};
+ghost use Rattle.type_line.specs.Steps.{Answers, treeLine, tableLine};
+use crate::write;
+use datatype::Depth;
+use datatype::rows::ROW_WORDS;
+use datatype_display::Printed;
+
+const NAME_LIST: [u8; 18] = *b"itemrun_endsvalues";
+
+// The answer with the tree's depth at hand. What is printed stands where it belongs before the head is written, so that
+// a refused print has written nothing.
+fn print_tree(text: &[u8], rows: &[u32], levels: usize, out: &mut [u8]) -> usize
+    requires { ⌜ (16396 ≤ length (now out)) × (length (now rows) / rowWords ≤ 1024) × (levels ≤ 64) ⌝ }
+    ensures { λ r. ⌜ Answers (treeLine (length (now (rows .entry)) / rowWords) levels (print (now (text .entry)) nameList (now (rows .entry)) 16384)) (now (out .entry)) r (now (out .exit)) ⌝ }
+{
+    let count = rows.len() / ROW_WORDS;
+    let head = write::head_length(count, levels);
+    match datatype_display::print_data_type(text, &NAME_LIST, rows, &mut out[head..]) {
+        Printed::Refused(n) => write::put_no(out, n),
+        Printed::Length(n) => write::put_frame(out, count, levels, n),
+    }
+}
+
+// The answer to a text that was read into these rows.
+pub(crate) fn answer_tree(text: &[u8], rows: &[u32], out: &mut [u8]) -> usize
+    requires { ⌜ 16396 ≤ length (now out) ⌝ }
+    ensures { λ r. ⌜ Answers (tableLine (now (text .entry)) (now (rows .entry))) (now (out .entry)) r (now (out .exit)) ⌝ }
+{
+    match datatype::levels::depth(text, &NAME_LIST, rows) {
+        Depth::Refused(n) => write::put_no(out, n),
+        Depth::Levels(levels) => print_tree(text, rows, levels, out),
+    }
+}

@@ -1,0 +1,90 @@
+-- What the program's own functions promise: whatever follows in the input, what is printed at last stays the same.
+use mathlib.Core.Path.{_≡_}
+use mathlib.Core.Bool.{Bool, true, false}
+use mathlib.Core.List.{List, _++_}
+use Prim.Native.Nat.{ℕ, suc, _+_, _-_, _≤_, _<_}
+use lib.ListN.{length, take, drop}
+use Rattle.type_line.specs.Line.{lineAnswer, output, beforeNewline}
+use Rattle.type_lines.specs.declared.Place.{Place}
+use Rattle.type_lines.specs.declared.Turn.{Turn}
+use Rattle.type_lines.specs.declared.Turn.the-variants.{More, End}
+
+-- ---- what is printed
+
+-- What is printed for what comes next in the input. The rest of a line that is answered already is skipped.
+unfoldable pub outputFrom : Bool → List ℕ → List ℕ
+outputFrom false s = output s
+outputFrom true s = output (drop (suc (beforeNewline s)) s)
+
+-- What is printed at last: the answers in the output, then those for the input from the place on and for what follows.
+unfoldable pub printedAt : List ℕ → Place → List ℕ → List ℕ → List ℕ
+printedAt input p out rest = take (p .wrote) out ++ outputFrom (p .skip) (drop (p .from) input ++ rest)
+
+-- A place where a line begins.
+abbrev pub lineAt : ℕ → ℕ → Place
+lineAt from wrote = record { from = from; wrote = wrote; skip = false }
+
+-- ---- the buffers
+
+-- They hold the rows and an answer.
+pub record Room (rows out : List ℕ) : Type 0 where
+  pub words : 11264 ≤ length rows
+  pub bytes : 16396 ≤ length out
+
+-- A place lies in the input and in the output.
+pub record Inside (input : List ℕ) (p : Place) (out : List ℕ) : Type 0 where
+  pub read : p .from ≤ length input
+  pub answers : p .wrote ≤ length out
+
+-- ---- answering
+
+-- The answer to a line stands behind the answers that were in the output.
+pub record Wrote (line out : List ℕ) (wrote next : ℕ) (out′ : List ℕ) : Type 0 where
+  pub fits : next ≤ length out′
+  pub answers : take next out′ ≡ take wrote out ++ lineAnswer line
+
+-- From one place to another: whatever follows in the input, what is printed at last stays the same.
+pub record Goes (input : List ℕ) (p : Place) (out : List ℕ) (q : Place) (out′ : List ℕ) : Type 0 where
+  pub inside : Inside input q out′
+  pub same : (rest : List ℕ) → printedAt input p out rest ≡ printedAt input q out′ rest
+
+-- What is left is part of one line, and not too long for a text.
+pub record Unfinished (s : List ℕ) : Type 0 where
+  pub partial : beforeNewline s ≡ length s
+  pub short : length s ≤ 16384
+
+-- The output is short of room for an answer, or only an unfinished line is left.
+pub record Halts (input : List ℕ) (p : Place) (out : List ℕ) : Type 0 where
+  pub left : p .wrote + 16396 ≤ length out → Unfinished (drop (p .from) input)
+
+-- Where the input ends, the output holds all that is still to be printed.
+pub record Ends (line : List ℕ) (wrote : ℕ) (skip : Bool) (out : List ℕ) (next : ℕ) (out′ : List ℕ) : Type 0 where
+  pub fits : next ≤ length out′
+  pub answers : take next out′ ≡ take wrote out ++ outputFrom skip line
+
+-- ---- reading on
+
+-- A part of a buffer stands at its front.
+pub record Moved (before : List ℕ) (from to size : ℕ) (after : List ℕ) : Type 0 where
+  pub counted : size ≡ to - from
+  pub is : take size after ≡ drop from (take to before)
+
+-- So many bytes at the front of the input are an unfinished line, and there is room to read more and to answer.
+pub record Left (input : List ℕ) (left wrote : ℕ) (rows out : List ℕ) : Type 0 where
+  pub large : 16384 < length input
+  pub room : Room rows out
+  pub line : Unfinished (take left input)
+  pub fits : left < length input
+  pub next : wrote + 16396 ≤ length out
+
+-- The program may take another turn, with so many bytes of the input in the buffer.
+pub record Running (input : List ℕ) (filled : ℕ) (p : Place) (rows out : List ℕ) : Type 0 where
+  pub large : 16384 < length input
+  pub room : Room rows out
+  pub fits : filled ≤ length input
+  pub read : p .from ≤ filled
+  pub answers : p .wrote ≤ length out
+
+unfoldable pub GoesOn : Turn → List ℕ → List ℕ → List ℕ → Type 0
+GoesOn End input rows out = Unit
+GoesOn (More filled p) input rows out = Running input filled p rows out
