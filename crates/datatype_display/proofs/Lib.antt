@@ -2,6 +2,7 @@ pub mod Writes
 pub mod Digits
 pub mod Escapes
 pub mod WordLaws
+pub mod KindWords
 pub mod Rows
 pub mod AsciiLaws
 pub mod Walked

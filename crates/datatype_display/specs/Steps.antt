@@ -3,11 +3,12 @@
 use mathlib.Core.Path.{_≡_}
 use mathlib.Core.Bool.{Bool, true, false, not, _&&_, _||_}
 use mathlib.Core.List.{List, [], _∷_, _++_}
-use Prim.Native.Nat.{ℕ, zero, suc, _+_, _-_, _*_, _≤_, _<_}
-use lib.ListN.{length}
+use Prim.Native.Nat.{ℕ, zero, suc, _+_, _-_, _*_, _/_, _%_, _≤_, _<_}
+use lib.ListN.{length, take, drop}
 use lib.Seq.{sets}
 use lib.Dec.{leb, ltb, eqb}
 use Rattle.tokenizer.specs.Text.{bytes, if_then_else_}
+use Rattle.tokenizer.specs.Keys.{packed}
 use Rattle.datatype.specs.Kind.{Shape, leaf, timestamp, time, interval, fixed, list, fixedList, struct, union, dictionary, decimal, mapping, runEnds, kinds, shapeOf}
 use Rattle.datatype.specs.Tree.{Forest, ∅, node, roots, depth, Label, labelOf, labels}
 use Rattle.datatype.specs.Run.{rowAt, sizeAt, forestAt, Nests}
@@ -34,6 +35,30 @@ pub record Put (before : List ℕ) (at : ℕ) (s : List ℕ) (next : ℕ) (after
   pub place : Moved at (length s) next
   pub kept : length after ≡ length before
   pub stored : at + length s ≤ length before → at + length s ≤ 16384 → after ≡ sets before at s
+
+-- ---- numbers that hold bytes, the highest first
+
+-- The four lowest bytes of a number, and its eight bytes.
+unfoldable pub four : ℕ → List ℕ
+four v = (v / 16777216 % 256) ∷ (v / 65536 % 256) ∷ (v / 256 % 256) ∷ (v % 256) ∷ []
+
+unfoldable pub eight : ℕ → List ℕ
+eight v = four (v / 4294967296) ++ four v
+
+-- The last n bytes of a word.
+abbrev pub lastOf : ℕ → List ℕ → List ℕ
+lastOf n w = drop (length w - n) w
+
+-- A kind's word of four to eight bytes is its first four and its last four bytes, which may overlap; here as one number.
+unfoldable pub shortWord : ℕ → ℕ
+shortWord k = let w = kindWord k in if leb 4 (length w) && leb (length w) 8 then packed 0 (take 4 w ++ lastOf 4 w) else 0
+
+-- A longer word is its first eight and its last eight bytes.
+unfoldable pub longHead : ℕ → ℕ
+longHead k = let w = kindWord k in if leb 9 (length w) then packed 0 (take 8 w) else 0
+
+unfoldable pub longTail : ℕ → ℕ
+longTail k = let w = kindWord k in if leb 9 (length w) then packed 0 (lastOf 8 w) else 0
 
 -- ---- strings
 
