@@ -2,7 +2,7 @@
 use mathlib.Core.Path.{_≡_, refl, sym, ap, _∙_}
 use mathlib.Core.Bool.{Bool, _&&_, _||_}
 use mathlib.Core.List.{List, [], _∷_, _++_}
-use Prim.Native.Nat.{ℕ, suc, _+_, _-_, _*_, _/_, _%_, _^_, _≤_, _<_}
+use Prim.Native.Nat.{ℕ, zero, suc, _+_, _-_, _*_, _/_, _%_, _^_, _≤_, _<_}
 use native.Mathlib.Omega.{arith}
 use lib.ListN.{length, set, take, drop}
 use lib.Seq.{sets, set-set, set-comm}
@@ -18,7 +18,7 @@ use Rattle.datatype.proofs.KindLaws.{allBelow, below-at}
 use Rattle.datatype.proofs.ShapeLaws.{none-has}
 use Rattle.datatype.proofs.Sets.{sets-append}
 use Rattle.datatype_display.specs.Display.{kindWord}
-use Rattle.datatype_display.specs.Steps.{Wrote, Moved, Put, four, eight, shortWord, longHead, longTail, kindText}
+use Rattle.datatype_display.specs.Steps.{Wrote, Moved, Put, four, eight, kindSizes, shortWord, longHead, longTail, kindText}
 use Rattle.datatype_display.proofs.Writes.{moved-by, put-as, put-past, put-wrote}
 use Rattle.datatype_display.proofs.WordLaws.{kind-text}
 
@@ -96,7 +96,7 @@ module _ (before between after : List ℕ) (at : ℕ) where
 
 -- ---- the words
 
-shorts : T (allBelow kinds (λ k. ltb (length (kindWord k)) 4 || ltb 8 (length (kindWord k)) || joins 4 (four (shortWord k / 4294967296)) (four (shortWord k)) (kindWord k)))
+shorts : T (allBelow kinds (λ k. ltb (length (kindWord k)) 4 || ltb 8 (length (kindWord k)) || joins 4 (four (shortWord k / 2 ^ (8 * (length (kindWord k) - 4)))) (four (shortWord k)) (kindWord k)))
 unfolding words kindWord packed four shortWord
 shorts = tt
 
@@ -110,10 +110,10 @@ unfolding words kindWord
 threes = tt
 
 module _ (k n : ℕ) (h : k < kinds) (is : n ≡ length (kindWord k)) where
-  short-joins : 4 ≤ n → n ≤ 8 → T (joins 4 (four (shortWord k / 4294967296)) (four (shortWord k)) (kindWord k))
+  short-joins : 4 ≤ n → n ≤ 8 → T (joins 4 (four (shortWord k / 2 ^ (8 * (length (kindWord k) - 4)))) (four (shortWord k)) (kindWord k))
   short-joins l m =
       rw (le-ltb (length (kindWord k)) 4 (omega arith), le-ltb 8 (length (kindWord k)) (omega arith))
-      at (below-at kinds (λ k. ltb (length (kindWord k)) 4 || ltb 8 (length (kindWord k)) || joins 4 (four (shortWord k / 4294967296)) (four (shortWord k)) (kindWord k)) shorts k h)
+      at (below-at kinds (λ k. ltb (length (kindWord k)) 4 || ltb 8 (length (kindWord k)) || joins 4 (four (shortWord k / 2 ^ (8 * (length (kindWord k) - 4)))) (four (shortWord k)) (kindWord k)) shorts k h)
 
   long-joins : 8 < n → T (joins 8 (eight (longHead k)) (eight (longTail k)) (kindWord k))
   long-joins l =
@@ -129,8 +129,8 @@ module _ (k n : ℕ) (h : k < kinds) (is : n ≡ length (kindWord k)) where
   map-room room at r l = let e = ap (λ (w : List ℕ). length w) (map-word l) in omega arith
 
   module _ (before between after : List ℕ) (at : ℕ) where
-    pub short-wrote : 4 ≤ n → n ≤ 8 → (v : ℕ) → v ≡ shortWord k → Wrote before at (four (v / 4294967296)) between → Wrote between (at + (n - 4)) (four v) after → Wrote before at (kindWord k) after
-    short-wrote l m v e f g = joined before between after at 4 _ _ (kindWord k) (short-joins l m) (rw e at f) (rw (e, is) at g)
+    pub short-wrote : 4 ≤ n → n ≤ 8 → (v : ℕ) → v ≡ shortWord k → Wrote before at (four (v / 2 ^ (8 * (n - 4)))) between → Wrote between (at + (n - 4)) (four v) after → Wrote before at (kindWord k) after
+    short-wrote l m v e f g = joined before between after at 4 _ _ (kindWord k) (short-joins l m) (rw (e, is) at f) (rw (e, is) at g)
 
     pub long-wrote : 8 < n → (v w : ℕ) → v ≡ longHead k → w ≡ longTail k → Wrote before at (eight v) between → Wrote between (at + (n - 8)) (eight w) after → Wrote before at (kindWord k) after
     long-wrote l v w e j f g = joined before between after at 8 _ _ (kindWord k) (long-joins l) (rw e at f) (rw (j, is) at g)
@@ -144,34 +144,29 @@ module _ (k n : ℕ) (h : k < kinds) (is : n ≡ length (kindWord k)) where
 
 -- ---- the numbers
 
--- The lengths of n words from the kind lo on are the digits of v in base 16.
-abbrev sizes : ℕ → ℕ → ℕ → Bool
-sizes v lo n = allBelow n (λ i. eqb (v / 2 ^ (4 * i) % 16) (length (kindWord (lo + i))))
+sizes : T (allBelow kinds (λ k. eqb (kindSizes (k / 16) / 2 ^ (4 * (k % 16)) % 16) (length (kindWord k))))
+unfolding words kindWord kindSizes
+sizes = tt
 
-sized : (v lo n : ℕ) → T (sizes v lo n) → (k : ℕ) → lo ≤ k → k < lo + n → v / 2 ^ (4 * (k - lo)) % 16 ≡ length (kindWord k)
-sized v lo n t k l m =
-    let e : lo + (k - lo) ≡ k = omega arith in
-    rw e at (eqb→eq (v / 2 ^ (4 * (k - lo)) % 16) (length (kindWord (lo + (k - lo)))) (below-at n (λ i. eqb (v / 2 ^ (4 * i) % 16) (length (kindWord (lo + i)))) t (k - lo) (omega arith)))
+pub sized : (k v : ℕ) → k < kinds → v ≡ kindSizes (k / 16) → v / 2 ^ (4 * (k % 16)) % 16 ≡ length (kindWord k)
+sized k v h e =
+    rw e
+    (eqb→eq (kindSizes (k / 16) / 2 ^ (4 * (k % 16)) % 16) (length (kindWord k))
+    (below-at kinds (λ k. eqb (kindSizes (k / 16) / 2 ^ (4 * (k % 16)) % 16) (length (kindWord k))) sizes k h))
 
-pub sizes-1 : (k : ℕ) → k < 16 → 7392508595022419060 / 2 ^ (4 * k) % 16 ≡ length (kindWord k)
-unfolding words kindWord
-sizes-1 k h = eqb→eq _ _ (below-at 16 (λ i. eqb (7392508595022419060 / 2 ^ (4 * i) % 16) (length (kindWord i))) tt k h)
-
-pub sizes-2 : (k : ℕ) → 16 ≤ k → k < 32 → 15697376304577284198 / 2 ^ (4 * (k - 16)) % 16 ≡ length (kindWord k)
-unfolding words kindWord
-sizes-2 = sized 15697376304577284198 16 16 tt
-
-pub sizes-3 : (k : ℕ) → 32 ≤ k → k < 41 → 56818768470 / 2 ^ (4 * (k - 32)) % 16 ≡ length (kindWord k)
-unfolding words kindWord
-sizes-3 = sized 56818768470 32 9 tt
+pub sizes-rest : (g : ℕ) → NoneOf g (Unit {0}) (0 ∷ 1 ∷ []) → kindSizes 2 ≡ kindSizes g
+unfolding kindSizes
+sizes-rest zero n = absurd (n .0 .1 refl)
+sizes-rest (suc zero) n = absurd (n .1 refl)
+sizes-rest (suc (suc g)) n = refl
 
 -- The kinds that a number is zero for.
 zero-else : (f : ℕ → ℕ) (xs : List ℕ) → T (allBelow kinds (λ k. has k xs || eqb (f k) 0)) → (k : ℕ) → k < kinds → NoneOf k (Unit {0}) xs → 0 ≡ f k
 zero-else f xs t k h n = sym (eqb→eq (f k) 0 (rw (none-has k (Unit {0}) xs n .1) at (below-at kinds (λ k. has k xs || eqb (f k) 0) t k h)))
 
-pub short-rest : (k : ℕ) → k < kinds → NoneOf k (Unit {0}) (0 ∷ 1 ∷ 2 ∷ 3 ∷ 4 ∷ 5 ∷ 6 ∷ 7 ∷ 8 ∷ 9 ∷ 10 ∷ 11 ∷ 12 ∷ 14 ∷ 15 ∷ 16 ∷ 17 ∷ 18 ∷ 19 ∷ 20 ∷ 24 ∷ 26 ∷ 27 ∷ 28 ∷ 32 ∷ 33 ∷ []) → 0 ≡ shortWord k
+pub short-rest : (k : ℕ) → k < kinds → NoneOf k (Unit {0}) (0 ∷ 1 ∷ 2 ∷ 3 ∷ 4 ∷ 5 ∷ 6 ∷ 7 ∷ 8 ∷ 9 ∷ 10 ∷ 11 ∷ 12 ∷ 14 ∷ 15 ∷ 16 ∷ 17 ∷ 18 ∷ 19 ∷ 20 ∷ 24 ∷ 26 ∷ 27 ∷ 28 ∷ 32 ∷ 33 ∷ 39 ∷ []) → 0 ≡ shortWord k
 unfolding words kindWord packed shortWord
-short-rest = zero-else shortWord (0 ∷ 1 ∷ 2 ∷ 3 ∷ 4 ∷ 5 ∷ 6 ∷ 7 ∷ 8 ∷ 9 ∷ 10 ∷ 11 ∷ 12 ∷ 14 ∷ 15 ∷ 16 ∷ 17 ∷ 18 ∷ 19 ∷ 20 ∷ 24 ∷ 26 ∷ 27 ∷ 28 ∷ 32 ∷ 33 ∷ []) tt
+short-rest = zero-else shortWord (0 ∷ 1 ∷ 2 ∷ 3 ∷ 4 ∷ 5 ∷ 6 ∷ 7 ∷ 8 ∷ 9 ∷ 10 ∷ 11 ∷ 12 ∷ 14 ∷ 15 ∷ 16 ∷ 17 ∷ 18 ∷ 19 ∷ 20 ∷ 24 ∷ 26 ∷ 27 ∷ 28 ∷ 32 ∷ 33 ∷ 39 ∷ []) tt
 
 pub head-rest : (k : ℕ) → k < kinds → NoneOf k (Unit {0}) (13 ∷ 21 ∷ 22 ∷ 23 ∷ 25 ∷ 29 ∷ 30 ∷ 31 ∷ 34 ∷ 35 ∷ 36 ∷ 37 ∷ 38 ∷ 40 ∷ []) → 0 ≡ longHead k
 unfolding words kindWord packed longHead

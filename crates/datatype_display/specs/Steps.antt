@@ -49,9 +49,16 @@ eight v = four (v / 4294967296) ++ four v
 abbrev pub lastOf : ℕ → List ℕ → List ℕ
 lastOf n w = drop (length w - n) w
 
--- A kind's word of four to eight bytes is its first four and its last four bytes, which may overlap; here as one number.
+-- The lengths of 16 kinds' words, the digits of one number in base 16, from the lowest.
+unfoldable pub kindSizes : ℕ → ℕ
+kindSizes zero = 7392508595022419060
+kindSizes (suc zero) = 15697376304577284198
+kindSizes (suc (suc group)) = 56818768470
+
+-- A kind's word of up to eight bytes, as one number. From four bytes on it is its first four and its last four, which
+-- may overlap.
 unfoldable pub shortWord : ℕ → ℕ
-shortWord k = let w = kindWord k in if leb 4 (length w) && leb (length w) 8 then packed 0 (take 4 w ++ lastOf 4 w) else 0
+shortWord k = let w = kindWord k in if leb (length w) 8 then packed 0 w else 0
 
 -- A longer word is its first eight and its last eight bytes.
 unfoldable pub longHead : ℕ → ℕ

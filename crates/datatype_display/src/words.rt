@@ -4,7 +4,7 @@ ghost use Prim.Native.Nat.{_+_, _*_, _/_, _%_, _^_, _≤_, _<_};
 ghost use lib.ListN.{length};
 ghost use Rattle.datatype.specs.Kind.{kinds};
 ghost use Rattle.datatype_display.specs.Display.{kindWord, unitText, intervalText, modeText, sortedText, scaleText};
-ghost use Rattle.datatype_display.specs.Steps.{Wrote, Put, shortWord, longHead, longTail, kindText};
+ghost use Rattle.datatype_display.specs.Steps.{Wrote, Put, kindSizes, shortWord, longHead, longTail, kindText};
 use crate::write::advance;
 use crate::write::copy;
 use crate::write::copy_eight;
@@ -21,52 +21,58 @@ fn digit(v: u64, k: u32) -> usize
     ((v >> (4 * k)) % 16) as usize
 }
 
-// The length of a kind's word, of which the numbers have four bits each.
+// The lengths of 16 kinds' words, the digits of one number in base 16.
+fn kind_sizes(group: u32) -> u64
+    ensures { λ r. ⌜ r ≡ kindSizes group ⌝ }
+{
+    match group {
+        0 => 0x6697776665555474,
+        1 => 0xD9D84894ABF68866,
+        _ => 0xD3AA99A56,
+    }
+}
+
+// The length of a kind's word.
 fn kind_size(kind: u32) -> usize
     requires { ⌜ kind < kinds ⌝ }
     ensures { λ r. ⌜ r ≡ length (kindWord kind) ⌝ }
 {
-    if kind < 16 {
-        return digit(0x6697776665555474, kind);
-    }
-    if kind < 32 {
-        return digit(0xD9D84894ABF68866, kind - 16);
-    }
-    digit(0xD3AA99A56, kind - 32)
+    digit(kind_sizes(kind / 16), kind % 16)
 }
 
-// The first four and the last four bytes of a kind's word of four to eight bytes, as one number.
+// A kind's word of up to eight bytes, as one number.
 fn short_word(kind: u32) -> u64
     requires { ⌜ kind < kinds ⌝ }
     ensures { λ r. ⌜ r ≡ shortWord kind ⌝ }
 {
     match kind {
-        0 => 0x4E756C6C4E756C6C, // Null
-        1 => 0x426F6F6C6C65616E, // Boolean
-        2 => 0x496E7438496E7438, // Int8
-        3 => 0x496E74316E743136, // Int16
-        4 => 0x496E74336E743332, // Int32
-        5 => 0x496E74366E743634, // Int64
-        6 => 0x55496E74496E7438, // UInt8
-        7 => 0x55496E746E743136, // UInt16
-        8 => 0x55496E746E743332, // UInt32
-        9 => 0x55496E746E743634, // UInt64
-        10 => 0x466C6F6161743136, // Float16
-        11 => 0x466C6F6161743332, // Float32
-        12 => 0x466C6F6161743634, // Float64
-        14 => 0x4461746574653332, // Date32
-        15 => 0x4461746574653634, // Date64
-        16 => 0x54696D656D653332, // Time32
-        17 => 0x54696D656D653634, // Time64
+        0 => 0x4E756C6C, // Null
+        1 => 0x426F6F6C65616E, // Boolean
+        2 => 0x496E7438, // Int8
+        3 => 0x496E743136, // Int16
+        4 => 0x496E743332, // Int32
+        5 => 0x496E743634, // Int64
+        6 => 0x55496E7438, // UInt8
+        7 => 0x55496E743136, // UInt16
+        8 => 0x55496E743332, // UInt32
+        9 => 0x55496E743634, // UInt64
+        10 => 0x466C6F61743136, // Float16
+        11 => 0x466C6F61743332, // Float32
+        12 => 0x466C6F61743634, // Float64
+        14 => 0x446174653332, // Date32
+        15 => 0x446174653634, // Date64
+        16 => 0x54696D653332, // Time32
+        17 => 0x54696D653634, // Time64
         18 => 0x4475726174696F6E, // Duration
         19 => 0x496E74657276616C, // Interval
-        20 => 0x42696E616E617279, // Binary
-        24 => 0x5574663855746638, // Utf8
+        20 => 0x42696E617279, // Binary
+        24 => 0x55746638, // Utf8
         26 => 0x5574663856696577, // Utf8View
-        27 => 0x4C6973744C697374, // List
+        27 => 0x4C697374, // List
         28 => 0x4C69737456696577, // ListView
-        32 => 0x5374727572756374, // Struct
-        33 => 0x556E696F6E696F6E, // Union
+        32 => 0x537472756374, // Struct
+        33 => 0x556E696F6E, // Union
+        39 => 0x4D6170, // Map
         _ => 0,
     }
 }
@@ -124,9 +130,9 @@ fn copy_short(out: &mut [u8], at: usize, n: usize, kind: u32)
     requires { ⌜ (kind < kinds) × (n ≡ length (kindWord kind)) × (4 ≤ n) × (n ≤ 8) × (at + n ≤ length (now out)) ⌝ }
     ensures { λ r. ⌜ Wrote (now (out .entry)) at (kindWord kind) (now (out .exit)) ⌝ }
 {
-    let ends = short_word(kind);
-    copy_four(out, at, ends / 4294967296);
-    copy_four(out, at + (n - 4), ends);
+    let v = short_word(kind);
+    copy_four(out, at, v >> (8 * (n - 4)));
+    copy_four(out, at + (n - 4), v);
 }
 
 // Copies a kind's word of n bytes, more than eight, to a place that has room for it: its first eight and its last eight.
