@@ -4,6 +4,7 @@ pub mod Escapes
 pub mod WordLaws
 pub mod KindWords
 pub mod Rows
+pub mod ShapeTexts
 pub mod AsciiLaws
 pub mod Walked
 pub mod Printing

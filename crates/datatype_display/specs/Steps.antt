@@ -115,6 +115,10 @@ openText decimal param scale zone = bytes "(" ++ (digits param ++ (bytes ", " ++
 openText mapping param scale zone = bytes "("
 openText runEnds param scale zone = bytes "("
 
+-- The same behind the opening parenthesis.
+unfoldable pub paramsText : Shape → ℕ → ℕ → List ℕ → List ℕ
+paramsText s param scale zone = drop 1 (openText s param scale zone)
+
 -- What stands behind the last child.
 unfoldable pub closeText : Shape → ℕ → List ℕ
 closeText leaf param = []

@@ -7,7 +7,6 @@ ghost use Rattle.datatype.specs.Sound.{isSound};
 ghost use Rattle.datatype_display.specs.Display.{display};
 ghost use Rattle.datatype_display.specs.Steps.{Moved, Put, Subtree, textAt};
 use crate::ascii::quotes_names;
-use crate::row::name_at;
 use crate::row::put_close;
 use crate::row::put_head;
 use crate::row::put_lead;
@@ -41,7 +40,7 @@ fn put_type<'a>(
         let first = j == i + 1;
         let led = put_lead(text, names, rows, shape, quotes, first, j, out, next);
         let typed = put_type(text, names, rows, level - 1, j, out, led);
-        next = put_trail(shape, name_at(text, names, rows, j), out, typed);
+        next = put_trail(text, names, rows, shape, j, out, typed);
         j = j + subtree(rows, j);
     }
     put_close(shape, word(rows, i, PARAM), out, next)

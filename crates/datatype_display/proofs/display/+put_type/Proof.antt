@@ -10,7 +10,6 @@ use Rattle.datatype_display.proofs.display.put_type.Reads as put-type
 use Rattle.datatype_display.proofs.display.put_type.Kinds as put-type-kinds
 use Rattle.datatype_display.proofs.display.+put_type.Lts-put_type as put-type-lts
 use Rattle.datatype_display.proofs.ascii.quotes_names.Reads as quotes-names-reads
-use Rattle.datatype_display.proofs.row.name_at.Reads as name-at-reads
 use Rattle.datatype_display.proofs.row.put_close.Reads as put-close-reads
 use Rattle.datatype_display.proofs.row.put_head.Reads as put-head-reads
 use Rattle.datatype_display.proofs.row.put_lead.Reads as put-lead-reads
@@ -38,7 +37,7 @@ abbrev μ-loop : put-type-lts.MeasureT-loop
 
 -- what is known of the callees, of this function at levels below
 abbrev calls : ℕ → put-type-lts.Claims
-calls t = (word-reads.Asked, word-reads.Learnt, shape-of-reads.Asked, shape-of-reads.Learnt, subtree-reads.Asked, subtree-reads.Learnt, quotes-names-reads.Asked, quotes-names-reads.Learnt, put-head-reads.Asked, put-head-reads.Learnt, put-lead-reads.Asked, put-lead-reads.Learnt, put-type-below t, put-type.Post, name-at-reads.Asked, name-at-reads.Learnt, put-trail-reads.Asked, put-trail-reads.Learnt, put-close-reads.Asked, put-close-reads.Learnt)
+calls t = (word-reads.Asked, word-reads.Learnt, shape-of-reads.Asked, shape-of-reads.Learnt, subtree-reads.Asked, subtree-reads.Learnt, quotes-names-reads.Asked, quotes-names-reads.Learnt, put-head-reads.Asked, put-head-reads.Learnt, put-lead-reads.Asked, put-lead-reads.Learnt, put-type-below t, put-type.Post, put-trail-reads.Asked, put-trail-reads.Learnt, put-close-reads.Asked, put-close-reads.Learnt)
 
 module _ (t : ℕ) where
   word-requires : put-type-lts.Need-word-requires (calls t) (put-type-at t) put-type.Post Inv-loop μ-loop
@@ -80,23 +79,20 @@ module _ (t : ℕ) where
   put-type-requires : put-type-lts.Need-put-type-requires (calls t) (put-type-at t) put-type.Post Inv-loop μ-loop
   put-type-requires c κs = (omega (arith, printing-call _ _ _ _ _ _ _ _ _ _ _ _ _ (c .before .before .before .before .before .before .loop .inv) (c .before .before .before .before .before .loop-test .taken) .0), printing-call _ _ _ _ _ _ _ _ _ _ _ _ _ (c .before .before .before .before .before .before .loop .inv) (c .before .before .before .before .before .loop-test .taken) .1)
 
-  name-at-requires : put-type-lts.Need-name-at-requires (calls t) (put-type-at t) put-type.Post Inv-loop μ-loop
-  name-at-requires c κs = printing-room _ _ _ _ _ _ _ _ _ _ _ _ _ (c .before .before .before .before .before .before .before .before .before .loop .inv) (c .before .before .before .before .before .before .before .before .loop-test .taken)
-
   put-trail-requires : put-type-lts.Need-put-trail-requires (calls t) (put-type-at t) put-type.Post Inv-loop μ-loop
-  put-trail-requires c κs = search needs
+  put-trail-requires c κs = printing-room _ _ _ _ _ _ _ _ _ _ _ _ _ (c .before .before .before .before .before .before .before .before .before .before .loop .inv) (c .before .before .before .before .before .before .before .before .before .loop-test .taken)
 
   subtree-requires-2 : put-type-lts.Need-subtree-requires-2 (calls t) (put-type-at t) put-type.Post Inv-loop μ-loop
-  subtree-requires-2 c κs = printing-room _ _ _ _ _ _ _ _ _ _ _ _ _ (c .before .before .before .before .before .before .before .before .before .before .before .before .before .before .loop .inv) (c .before .before .before .before .before .before .before .before .before .before .before .before .before .loop-test .taken)
+  subtree-requires-2 c κs = printing-room _ _ _ _ _ _ _ _ _ _ _ _ _ (c .before .before .before .before .before .before .before .before .before .before .before .before .before .loop .inv) (c .before .before .before .before .before .before .before .before .before .before .before .before .loop-test .taken)
 
   add-j-2 : put-type-lts.Need-add-j-2 (calls t) (put-type-at t) put-type.Post Inv-loop μ-loop
-  add-j-2 c = omega (arith, printing-size _ _ _ _ _ _ _ _ _ _ _ _ _ (c .before .before .before .before .before .before .before .before .before .before .before .before .before .before .before .loop .inv) (c .before .before .before .before .before .before .before .before .before .before .before .before .before .before .loop-test .taken) _ (c .subtree2 .ensures))
+  add-j-2 c = omega (arith, printing-size _ _ _ _ _ _ _ _ _ _ _ _ _ (c .before .before .before .before .before .before .before .before .before .before .before .before .before .before .loop .inv) (c .before .before .before .before .before .before .before .before .before .before .before .before .before .loop-test .taken) _ (c .subtree2 .ensures))
 
   loop-less : put-type-lts.Need-loop-less (calls t) (put-type-at t) put-type.Post Inv-loop μ-loop
-  loop-less c = omega (arith, printing-turn _ _ _ _ _ _ _ _ _ _ _ _ _ (c .before .before .before .before .before .before .before .before .before .before .before .before .before .before .before .loop .inv) (c .before .before .before .before .before .before .before .before .before .before .before .before .before .before .loop-test .taken) .some-rows, printing-turn _ _ _ _ _ _ _ _ _ _ _ _ _ (c .before .before .before .before .before .before .before .before .before .before .before .before .before .before .before .loop .inv) (c .before .before .before .before .before .before .before .before .before .before .before .before .before .before .loop-test .taken) .within, c .subtree2 .ensures)
+  loop-less c = omega (arith, printing-turn _ _ _ _ _ _ _ _ _ _ _ _ _ (c .before .before .before .before .before .before .before .before .before .before .before .before .before .before .loop .inv) (c .before .before .before .before .before .before .before .before .before .before .before .before .before .loop-test .taken) .some-rows, printing-turn _ _ _ _ _ _ _ _ _ _ _ _ _ (c .before .before .before .before .before .before .before .before .before .before .before .before .before .before .loop .inv) (c .before .before .before .before .before .before .before .before .before .before .before .before .before .loop-test .taken) .within, c .subtree2 .ensures)
 
   loop-again : put-type-lts.Need-loop-again (calls t) (put-type-at t) put-type.Post Inv-loop μ-loop
-  loop-again c = printing-again _ _ _ _ _ _ _ _ _ _ _ _ _ (c .before .before .before .before .before .before .before .before .before .before .before .before .before .before .before .loop .inv) (c .before .before .before .before .before .before .before .before .before .before .before .before .before .before .loop-test .taken) _ (c .subtree2 .ensures) _ refl _ (c .before .before .before .before .before .name-at .ensures) _ _ _ _ _ _ (c .before .before .before .before .before .before .before .before .before .before .before .before .put-lead .ensures) (c .before .before .before .before .before .before .before .before .put-type .ensures) (c .before .before .before .put-trail .ensures)
+  loop-again c = printing-again _ _ _ _ _ _ _ _ _ _ _ _ _ (c .before .before .before .before .before .before .before .before .before .before .before .before .before .before .loop .inv) (c .before .before .before .before .before .before .before .before .before .before .before .before .before .loop-test .taken) _ (c .subtree2 .ensures) _ refl _ _ _ _ _ _ (c .before .before .before .before .before .before .before .before .before .before .before .put-lead .ensures) (c .before .before .before .before .before .before .before .put-type .ensures) (c .before .before .before .put-trail .ensures)
 
   word-requires-2 : put-type-lts.Need-word-requires-2 (calls t) (put-type-at t) put-type.Post Inv-loop μ-loop
   word-requires-2 c κs = (subtree-room _ _ _ (c .before .before .before .before .before .before .before .before .before .before .before .before .before .before .pre .1), omega arith)
@@ -133,7 +129,6 @@ pub +put-type-spec : {M : Type 1} → statement M
     (put-lead-requires t)
     (sub-put-type t)
     (put-type-requires t)
-    (name-at-requires t)
     (put-trail-requires t)
     (subtree-requires-2 t)
     (add-j-2 t)
