@@ -153,6 +153,17 @@ module _ (text names table : List ℕ) where
       (rw (quotes, is, k, p, e))
       (put-then before at _ _ m1 next b1 after a (put-then b1 m1 _ _ m2 next b2 after b c))
 
+  -- a row with nothing below it
+  pub printed-leaf : (i end at : ℕ) (before : List ℕ) → end ≡ i + sizeAt table i → end ≡ i + 1 → (s : Shape) (kind param : ℕ) → kind ≡ getD table (rowWords * i + 0) 0 → s ≡ shapeOf kind
+      → param ≡ getD table (rowWords * i + 4) 0 → (m1 next : ℕ) (b1 after : List ℕ) → Put before at (headText (labelAt text [] table i)) m1 b1
+      → Put b1 m1 (closeText s param) next after → Put before at (textAt text names table i) next after
+  unfolding childrenText walked labels
+  printed-leaf i end at before e one s kind param k is p m1 next b1 after a c =
+      let q = quotesNames s (roots (labels text names (forestAt table (i + 1) (end - (i + 1))))) in
+      let z : end - (i + 1) ≡ 0 = omega arith in
+      let none : [] ≡ childrenText s q true (run (i + 1) end) = rw (z, forest-none table (i + 1)) in
+      printed-row i end at before e s kind param k is p q refl m1 m1 next b1 b1 after a (put-as b1 m1 _ _ m1 b1 none (put-none b1 m1)) c
+
 -- ---- the whole tree
 
 -- the first tree of a run

@@ -33,8 +33,11 @@ fn put_type<'a>(
 {
     let shape = shape_of(word(rows, i, KIND));
     let end = i + subtree(rows, i);
-    let quotes = quotes_names(text, names, rows, shape, i + 1, end);
     let mut next = put_head(text, rows, i, out, at);
+    if end == i + 1 {
+        return put_close(shape, word(rows, i, PARAM), out, next);
+    }
+    let quotes = quotes_names(text, names, rows, shape, i + 1, end);
     let mut j = i + 1;
     while j < end {
         let first = j == i + 1;
