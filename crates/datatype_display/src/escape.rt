@@ -64,20 +64,20 @@ fn put_escape(out: &mut [u8], at: usize, c: u8) -> usize
     put_byte(out, at, c)
 }
 
-// Whether a byte is written as it is.
+// Whether a byte is written as it is: letters, most of all bytes, are told by the fewest tests.
 fn is_itself(c: u8) -> bool
     ensures { λ r. ⌜ r ≡ isItself c ⌝ }
 {
+    if 92 < c {
+        return c != 127;
+    }
+    if 34 < c {
+        return c != 92;
+    }
     if c < 32 {
         return false;
     }
-    if c == 34 {
-        return false;
-    }
-    if c == 92 {
-        return false;
-    }
-    c != 127
+    c != 34
 }
 
 // Whether all bytes are written as they are.
