@@ -24,22 +24,28 @@ hex-high n h = rw (le-ltb n 10 h)
 
 -- ---- bytes that are written as they are
 
+and-held : (b : Bool) → b ≡ (b && true)
+and-held true = refl
+and-held false = refl
+
 module _ (c : ℕ) where
   pub itself-low : c < 32 → false ≡ isItself c
   unfolding isItself
   itself-low h = rw (lt-leb 32 c h)
 
-  pub itself-34 : c ≡ 34 → false ≡ isItself c
+  pub itself-first : 32 ≤ c → c ≤ 34 → not (eqb c 34) ≡ isItself c
   unfolding isItself
-  itself-34 e = rw e
+  itself-first h k =
+      rw (le-leb 32 c h, ne-eqb c 92 (λ e. omega arith), ne-eqb c 127 (λ e. omega arith))
+      (and-held (not (eqb c 34)) ∙ and-held (not (eqb c 34) && true))
 
-  pub itself-92 : c ≡ 92 → false ≡ isItself c
+  pub itself-middle : 34 < c → c ≤ 92 → not (eqb c 92) ≡ isItself c
   unfolding isItself
-  itself-92 e = rw e
+  itself-middle h k = rw (le-leb 32 c (omega arith), ne-eqb c 34 (λ e. omega arith), ne-eqb c 127 (λ e. omega arith)) (and-held (not (eqb c 92)))
 
-  pub itself-rest : 32 ≤ c → (c ≡ 34 → ⊥) → (c ≡ 92 → ⊥) → not (eqb c 127) ≡ isItself c
+  pub itself-high : 92 < c → not (eqb c 127) ≡ isItself c
   unfolding isItself
-  itself-rest h p q = rw (le-leb 32 c h, ne-eqb c 34 p, ne-eqb c 92 q)
+  itself-high h = rw (le-leb 32 c (omega arith), ne-eqb c 34 (λ e. omega arith), ne-eqb c 92 (λ e. omega arith))
 
 -- a list whose every number passes a test, looked at up to a place
 pub record All (test : ℕ → Bool) (s : List ℕ) (i : ℕ) : Type 0 where

@@ -2,7 +2,9 @@ pub mod Writes
 pub mod Digits
 pub mod Escapes
 pub mod WordLaws
+pub mod KindWords
 pub mod Rows
+pub mod ShapeTexts
 pub mod AsciiLaws
 pub mod Walked
 pub mod Printing

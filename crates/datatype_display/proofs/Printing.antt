@@ -111,11 +111,10 @@ module _ (text names table : List ℕ) where
             let k = v .few in
             (omega arith, record { some-rows = t .some-rows; room = omega arith; nests = t .kids; few = omega arith; flat = omega arith })
 
-        pub printing-again : (size : ℕ) → size ≡ sizeAt table j → (f : Bool) → f ≡ eqb j (i + 1) → (name : List ℕ) → name ≡ (labelAt text names table j) .name
-            → (led typed after : ℕ) (b1 b2 b3 : List ℕ)
-            → Put out next (leadText s q f (labelAt text names table j)) led b1 → Put b1 led (textAt text names table j) typed b2 → Put b2 typed (trailText s name) after b3
+        pub printing-again : (size : ℕ) → size ≡ sizeAt table j → (f : Bool) → f ≡ eqb j (i + 1) → (led typed after : ℕ) (b1 b2 b3 : List ℕ)
+            → Put out next (leadText s q f (labelAt text names table j)) led b1 → Put b1 led (textAt text names table j) typed b2 → Put b2 typed (trailText s ((labelAt text names table j) .name)) after b3
             → Printing (j + size) after b3
-        printing-again size is f first name named led typed after b1 b2 b3 p1 p2 p3 =
+        printing-again size is f first led typed after b1 b2 b3 p1 p2 p3 =
             let t = printing-turn in
             let d = levels-here t in
             let fl = v .flat in
@@ -124,10 +123,10 @@ module _ (text names table : List ℕ) where
             let b = v .behind in
             let lead = leadText s q f (labelAt text names table j) in
             let own = textAt text names table j in
-            let trail = trailText s name in
+            let trail = trailText s ((labelAt text names table j) .name) in
             let rest = childrenText s q false (run (j + size) end) in
             let later : eqb (j + size) (i + 1) ≡ false = ne-eqb (j + size) (i + 1) (λ z. omega arith) in
-            let here : childrenText s q (eqb j (i + 1)) (run j end) ≡ lead ++ (own ++ (trail ++ rest)) = rw (named, is, ← first) (run-turn s q f j end t) in
+            let here : childrenText s q (eqb j (i + 1)) (run j end) ≡ lead ++ (own ++ (trail ++ rest)) = rw (is, ← first) (run-turn s q f j end t) in
             record {
               upto = rw is w;
               few = v .few;
@@ -153,6 +152,17 @@ module _ (text names table : List ℕ) where
       put-as before at _ _ next after
       (rw (quotes, is, k, p, e))
       (put-then before at _ _ m1 next b1 after a (put-then b1 m1 _ _ m2 next b2 after b c))
+
+  -- a row with nothing below it
+  pub printed-leaf : (i end at : ℕ) (before : List ℕ) → end ≡ i + sizeAt table i → end ≡ i + 1 → (s : Shape) (kind param : ℕ) → kind ≡ getD table (rowWords * i + 0) 0 → s ≡ shapeOf kind
+      → param ≡ getD table (rowWords * i + 4) 0 → (m1 next : ℕ) (b1 after : List ℕ) → Put before at (headText (labelAt text [] table i)) m1 b1
+      → Put b1 m1 (closeText s param) next after → Put before at (textAt text names table i) next after
+  unfolding childrenText walked labels
+  printed-leaf i end at before e one s kind param k is p m1 next b1 after a c =
+      let q = quotesNames s (roots (labels text names (forestAt table (i + 1) (end - (i + 1))))) in
+      let z : end - (i + 1) ≡ 0 = omega arith in
+      let none : [] ≡ childrenText s q true (run (i + 1) end) = rw (z, forest-none table (i + 1)) in
+      printed-row i end at before e s kind param k is p q refl m1 m1 next b1 b1 after a (put-as b1 m1 _ _ m1 b1 none (put-none b1 m1)) c
 
 -- ---- the whole tree
 

@@ -1,13 +1,13 @@
 -- Writing into the output buffer: bytes behind bytes, and the loop that copies.
 use mathlib.Core.Path.{_≡_, refl, sym, ap, _∙_, subst}
 use mathlib.Core.List.{List, [], _∷_, _++_}
-use Prim.Native.Nat.{ℕ, suc, _+_, _-_, _≤_, _<_}
+use Prim.Native.Nat.{ℕ, suc, _+_, _-_, _/_, _%_, _≤_, _<_}
 use native.Mathlib.Decide.{decLt}
 use native.Mathlib.Omega.{arith}
 use lib.ListN.{length, getD, set, take, length-append, length-set}
 use lib.Seq.{sets, length-sets, take-suc, take-all, length-take-le}
 use Rattle.datatype.proofs.Sets.{sets-append}
-use Rattle.datatype_display.specs.Steps.{Wrote, Moved, Put}
+use Rattle.datatype_display.specs.Steps.{Wrote, Moved, Put, four}
 
 -- ---- the place behind what was written
 
@@ -97,3 +97,16 @@ module _ (before s : List ℕ) (at : ℕ) where
 -- One byte.
 pub put-set : (before : List ℕ) (at c next : ℕ) → Moved at 1 next → Put before at (c ∷ []) next (set before at c)
 put-set before at c next m = record { place = m; kept = length-set before at c; stored = λ h k. refl }
+
+-- Four bytes of a number.
+pub four-wrote : (before : List ℕ) (at v : ℕ)
+    → Wrote before at (four v) (set (set (set (set before at (v / 16777216 % 256)) (at + 1) (v / 65536 % 256)) (at + 2) (v / 256 % 256)) (at + 3) (v % 256))
+unfolding four
+four-wrote before at v =
+    let one : at + 1 ≡ suc at = omega arith in
+    let two : at + 2 ≡ suc (suc at) = omega arith in
+    let three : at + 3 ≡ suc (suc (suc at)) = omega arith in
+    record { stored = rw (one, two, three) refl }
+
+pub wrote-as : (before : List ℕ) (at : ℕ) (s t after : List ℕ) → s ≡ t → Wrote before at s after → Wrote before at t after
+wrote-as before at s t after e w = subst (λ (b : List ℕ). Wrote before at b after) e w

@@ -3,11 +3,12 @@
 use mathlib.Core.Path.{_≡_}
 use mathlib.Core.Bool.{Bool, true, false, not, _&&_, _||_}
 use mathlib.Core.List.{List, [], _∷_, _++_}
-use Prim.Native.Nat.{ℕ, zero, suc, _+_, _-_, _*_, _≤_, _<_}
-use lib.ListN.{length}
+use Prim.Native.Nat.{ℕ, zero, suc, _+_, _-_, _*_, _/_, _%_, _≤_, _<_}
+use lib.ListN.{length, take, drop}
 use lib.Seq.{sets}
 use lib.Dec.{leb, ltb, eqb}
 use Rattle.tokenizer.specs.Text.{bytes, if_then_else_}
+use Rattle.tokenizer.specs.Keys.{packed}
 use Rattle.datatype.specs.Kind.{Shape, leaf, timestamp, time, interval, fixed, list, fixedList, struct, union, dictionary, decimal, mapping, runEnds, kinds, shapeOf}
 use Rattle.datatype.specs.Tree.{Forest, ∅, node, roots, depth, Label, labelOf, labels}
 use Rattle.datatype.specs.Run.{rowAt, sizeAt, forestAt, Nests}
@@ -34,6 +35,37 @@ pub record Put (before : List ℕ) (at : ℕ) (s : List ℕ) (next : ℕ) (after
   pub place : Moved at (length s) next
   pub kept : length after ≡ length before
   pub stored : at + length s ≤ length before → at + length s ≤ 16384 → after ≡ sets before at s
+
+-- ---- numbers that hold bytes, the highest first
+
+-- The four lowest bytes of a number, and its eight bytes.
+unfoldable pub four : ℕ → List ℕ
+four v = (v / 16777216 % 256) ∷ (v / 65536 % 256) ∷ (v / 256 % 256) ∷ (v % 256) ∷ []
+
+unfoldable pub eight : ℕ → List ℕ
+eight v = four (v / 4294967296) ++ four v
+
+-- The last n bytes of a word.
+abbrev pub lastOf : ℕ → List ℕ → List ℕ
+lastOf n w = drop (length w - n) w
+
+-- The lengths of 16 kinds' words, the digits of one number in base 16, from the lowest.
+unfoldable pub kindSizes : ℕ → ℕ
+kindSizes zero = 7392508595022419060
+kindSizes (suc zero) = 15697376304577284198
+kindSizes (suc (suc group)) = 56818768470
+
+-- A kind's word of up to eight bytes, as one number. From four bytes on it is its first four and its last four, which
+-- may overlap.
+unfoldable pub shortWord : ℕ → ℕ
+shortWord k = let w = kindWord k in if leb (length w) 8 then packed 0 w else 0
+
+-- A longer word is its first eight and its last eight bytes.
+unfoldable pub longHead : ℕ → ℕ
+longHead k = let w = kindWord k in if leb 9 (length w) then packed 0 (take 8 w) else 0
+
+unfoldable pub longTail : ℕ → ℕ
+longTail k = let w = kindWord k in if leb 9 (length w) then packed 0 (lastOf 8 w) else 0
 
 -- ---- strings
 
@@ -82,6 +114,10 @@ openText dictionary param scale zone = bytes "("
 openText decimal param scale zone = bytes "(" ++ (digits param ++ (bytes ", " ++ (scaleText scale ++ bytes ")")))
 openText mapping param scale zone = bytes "("
 openText runEnds param scale zone = bytes "("
+
+-- The same behind the opening parenthesis.
+unfoldable pub paramsText : Shape → ℕ → ℕ → List ℕ → List ℕ
+paramsText s param scale zone = drop 1 (openText s param scale zone)
 
 -- What stands behind the last child.
 unfoldable pub closeText : Shape → ℕ → List ℕ

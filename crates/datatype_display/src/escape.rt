@@ -33,6 +33,14 @@ fn put_unicode(out: &mut [u8], at: usize, c: u8) -> usize
     put_byte(out, last, b'}')
 }
 
+// Writes a backslash and a byte behind it.
+fn put_backslash(out: &mut [u8], at: usize, c: u8) -> usize
+    ensures { λ r. ⌜ Put (now (out .entry)) at (92 ∷ c ∷ []) r (now (out .exit)) ⌝ }
+{
+    let next = put_byte(out, at, 92);
+    put_byte(out, next, c)
+}
+
 // Writes one byte between the marks.
 fn put_escape(out: &mut [u8], at: usize, c: u8) -> usize
     ensures { λ r. ⌜ Put (now (out .entry)) at (escape c) r (now (out .exit)) ⌝ }
@@ -41,19 +49,19 @@ fn put_escape(out: &mut [u8], at: usize, c: u8) -> usize
         return put(out, at, b"\\\"");
     }
     if c == 92 {
-        return put(out, at, b"\\\\");
+        return put_backslash(out, at, b'\\');
     }
     if c == 0 {
-        return put(out, at, b"\\0");
+        return put_backslash(out, at, b'0');
     }
     if c == 9 {
-        return put(out, at, b"\\t");
+        return put_backslash(out, at, b't');
     }
     if c == 13 {
-        return put(out, at, b"\\r");
+        return put_backslash(out, at, b'r');
     }
     if c == 10 {
-        return put(out, at, b"\\n");
+        return put_backslash(out, at, b'n');
     }
     if c < 32 {
         return put_unicode(out, at, c);
@@ -64,20 +72,20 @@ fn put_escape(out: &mut [u8], at: usize, c: u8) -> usize
     put_byte(out, at, c)
 }
 
-// Whether a byte is written as it is.
+// Whether a byte is written as it is: letters, most of all bytes, are told by the fewest tests.
 fn is_itself(c: u8) -> bool
     ensures { λ r. ⌜ r ≡ isItself c ⌝ }
 {
+    if 92 < c {
+        return c != 127;
+    }
+    if 34 < c {
+        return c != 92;
+    }
     if c < 32 {
         return false;
     }
-    if c == 34 {
-        return false;
-    }
-    if c == 92 {
-        return false;
-    }
-    c != 127
+    c != 34
 }
 
 // Whether all bytes are written as they are.

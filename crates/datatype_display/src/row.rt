@@ -8,7 +8,7 @@ ghost use Rattle.datatype.specs.Tree.{nameOf, zoneOf};
 ghost use Rattle.datatype.specs.Table.{rowWords};
 ghost use Rattle.datatype.specs.Run.{sizeAt};
 ghost use Rattle.datatype_display.specs.Display.{listNameText, zoneText};
-ghost use Rattle.datatype_display.specs.Steps.{Put, shapeMeans, comma, openText, closeText, separator, nullability, nameText, leadText, trailText, headText, labelAt};
+ghost use Rattle.datatype_display.specs.Steps.{Put, shapeMeans, comma, paramsText, openText, closeText, separator, nullability, nameText, leadText, trailText, headText, labelAt};
 use crate::escape::put_quoted;
 use crate::shape::Shape;
 use crate::shape::shape_of;
@@ -66,25 +66,60 @@ fn put_zone(text: &[u8], start: u32, size: u32, out: &mut [u8], at: usize) -> us
     put_quoted(out, next, z)
 }
 
-// Writes a time unit in parentheses, with a zone where there is one.
+// Writes a time unit, with a zone where there is one, and closes the parenthesis.
 fn put_timestamp(text: &[u8], unit: u32, start: u32, size: u32, out: &mut [u8], at: usize) -> usize
-    ensures { λ r. ⌜ Put (now (out .entry)) at (openText timestamp unit 0 (zoneOf (now (text .entry)) start size)) r (now (out .exit)) ⌝ }
+    ensures { λ r. ⌜ Put (now (out .entry)) at (paramsText timestamp unit 0 (zoneOf (now (text .entry)) start size)) r (now (out .exit)) ⌝ }
 {
-    let opened = put_byte(out, at, 40);
-    let next = put_unit(out, opened, unit);
+    let next = put_unit(out, at, unit);
     let last = put_zone(text, start, size, out, next);
     put_byte(out, last, 41)
 }
 
-// Writes precision and scale in parentheses.
+// Writes precision and scale, and closes the parenthesis.
 fn put_decimal(precision: u32, scale: u32, out: &mut [u8], at: usize) -> usize
-    ensures { λ r. ⌜ Put (now (out .entry)) at (openText decimal precision scale []) r (now (out .exit)) ⌝ }
+    ensures { λ r. ⌜ Put (now (out .entry)) at (paramsText decimal precision scale []) r (now (out .exit)) ⌝ }
 {
-    let opened = put_byte(out, at, 40);
-    let next = put_digits(out, opened, precision);
+    let next = put_digits(out, at, precision);
     let more = put(out, next, b", ");
     let last = put_scale(out, more, scale);
     put_byte(out, last, 41)
+}
+
+// Writes what stands behind the opening parenthesis and before the first child.
+fn put_params(
+    text: &[u8],
+    shape: Shape,
+    param: u32,
+    scale: u32,
+    start: u32,
+    size: u32,
+    out: &mut [u8],
+    at: usize,
+) -> usize
+    ensures { λ r. ⌜ Put (now (out .entry)) at (paramsText (shapeMeans shape) param scale (zoneOf (now (text .entry)) start size)) r (now (out .exit)) ⌝ }
+{
+    match shape {
+        Shape::Timestamp => put_timestamp(text, param, start, size, out, at),
+        Shape::Time => {
+            let next = put_unit(out, at, param);
+            put_byte(out, next, 41)
+        }
+        Shape::Interval => {
+            let next = put_interval(out, at, param);
+            put_byte(out, next, 41)
+        }
+        Shape::Fixed => {
+            let next = put_digits(out, at, param);
+            put_byte(out, next, 41)
+        }
+        Shape::FixedList => {
+            let next = put_digits(out, at, param);
+            put(out, next, b" x ")
+        }
+        Shape::Union => put_mode(out, at, param),
+        Shape::Decimal => put_decimal(param, scale, out, at),
+        _ => at,
+    }
 }
 
 // Writes what stands behind a kind's word and before the first child.
@@ -102,37 +137,10 @@ fn put_open(
 {
     match shape {
         Shape::Leaf => at,
-        Shape::Timestamp => put_timestamp(text, param, start, size, out, at),
-        Shape::Time => {
+        _ => {
             let opened = put_byte(out, at, 40);
-            let next = put_unit(out, opened, param);
-            put_byte(out, next, 41)
+            put_params(text, shape, param, scale, start, size, out, opened)
         }
-        Shape::Interval => {
-            let opened = put_byte(out, at, 40);
-            let next = put_interval(out, opened, param);
-            put_byte(out, next, 41)
-        }
-        Shape::Fixed => {
-            let opened = put_byte(out, at, 40);
-            let next = put_digits(out, opened, param);
-            put_byte(out, next, 41)
-        }
-        Shape::FixedList => {
-            let opened = put_byte(out, at, 40);
-            let next = put_digits(out, opened, param);
-            put(out, next, b" x ")
-        }
-        Shape::Union => {
-            let opened = put_byte(out, at, 40);
-            put_mode(out, opened, param)
-        }
-        Shape::Decimal => put_decimal(param, scale, out, at),
-        Shape::List => put_byte(out, at, 40),
-        Shape::Struct => put_byte(out, at, 40),
-        Shape::Dictionary => put_byte(out, at, 40),
-        Shape::Map => put_byte(out, at, 40),
-        Shape::RunEnds => put_byte(out, at, 40),
     }
 }
 
@@ -155,23 +163,18 @@ pub(crate) fn put_close(shape: Shape, param: u32, out: &mut [u8], at: usize) -> 
     ensures { λ r. ⌜ Put (now (out .entry)) at (closeText (shapeMeans shape) param) r (now (out .exit)) ⌝ }
 {
     match shape {
-        Shape::List => put_byte(out, at, 41),
-        Shape::FixedList => put_byte(out, at, 41),
-        Shape::Struct => put_byte(out, at, 41),
-        Shape::Union => put_byte(out, at, 41),
-        Shape::Dictionary => put_byte(out, at, 41),
-        Shape::Map => {
-            let next = put(out, at, b", ");
-            let last = put_sorted(out, next, param);
-            put_byte(out, last, 41)
-        }
-        Shape::RunEnds => put_byte(out, at, 41),
         Shape::Leaf => at,
         Shape::Timestamp => at,
         Shape::Time => at,
         Shape::Interval => at,
         Shape::Fixed => at,
         Shape::Decimal => at,
+        Shape::Map => {
+            let next = put(out, at, b", ");
+            let last = put_sorted(out, next, param);
+            put_byte(out, last, 41)
+        }
+        _ => put_byte(out, at, 41),
     }
 }
 
@@ -277,23 +280,22 @@ fn put_list_name(s: &[u8], out: &mut [u8], at: usize) -> usize
     put_byte(out, last, 39)
 }
 
-// Writes what stands behind a child's type.
-pub(crate) fn put_trail(shape: Shape, s: &[u8], out: &mut [u8], at: usize) -> usize
-    ensures { λ r. ⌜ Put (now (out .entry)) at (trailText (shapeMeans shape) (now (s .entry))) r (now (out .exit)) ⌝ }
+// Writes what stands behind the type of child i.
+pub(crate) fn put_trail<'a>(
+    text: &'a [u8],
+    names: &'a [u8],
+    rows: &[u32],
+    shape: Shape,
+    i: usize,
+    out: &mut [u8],
+    at: usize,
+) -> usize
+    requires { ⌜ rowWords * (i + 1) ≤ length (now rows) ⌝ }
+    ensures { λ r. ⌜ Put (now (out .entry)) at (trailText (shapeMeans shape) ((labelAt (now (text .entry)) (now (names .entry)) (now (rows .entry)) i) .name)) r (now (out .exit)) ⌝ }
 {
     match shape {
-        Shape::List => put_list_name(s, out, at),
-        Shape::FixedList => put_list_name(s, out, at),
+        Shape::List | Shape::FixedList => put_list_name(name_at(text, names, rows, i), out, at),
         Shape::Union => put_byte(out, at, 41),
-        Shape::Leaf => at,
-        Shape::Timestamp => at,
-        Shape::Time => at,
-        Shape::Interval => at,
-        Shape::Fixed => at,
-        Shape::Struct => at,
-        Shape::Dictionary => at,
-        Shape::Decimal => at,
-        Shape::Map => at,
-        Shape::RunEnds => at,
+        _ => at,
     }
 }

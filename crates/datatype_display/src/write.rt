@@ -6,11 +6,11 @@ ghost use mathlib.Core.List.{[], _∷_};
 ghost use Prim.Native.Nat.{_+_, _≤_, _<_};
 ghost use lib.ListN.{length};
 ghost use Rattle.datatype_display.specs.Display.{digits};
-ghost use Rattle.datatype_display.specs.Steps.{Wrote, Moved, Put};
+ghost use Rattle.datatype_display.specs.Steps.{Wrote, Moved, Put, four, eight};
 use datatype::rows::MAX_TEXT;
 
 // The place n bytes behind another, or the first place past the limit.
-fn advance(at: usize, n: usize) -> usize
+pub(crate) fn advance(at: usize, n: usize) -> usize
     ensures { λ r. ⌜ Moved at n r ⌝ }
 {
     if MAX_TEXT < at {
@@ -23,7 +23,7 @@ fn advance(at: usize, n: usize) -> usize
 }
 
 // Copies bytes to a place that has room for them.
-fn copy(out: &mut [u8], at: usize, s: &[u8])
+pub(crate) fn copy(out: &mut [u8], at: usize, s: &[u8])
     requires { ⌜ at + length (now s) ≤ length (now out) ⌝ }
     ensures { λ r. ⌜ Wrote (now (out .entry)) at (now (s .entry)) (now (out .exit)) ⌝ }
 {
@@ -32,6 +32,26 @@ fn copy(out: &mut [u8], at: usize, s: &[u8])
         out[at + i] = s[i];
         i += 1;
     }
+}
+
+// Copies the four lowest bytes of a number, the highest of them first, to a place that has room for them.
+pub(crate) fn copy_four(out: &mut [u8], at: usize, v: u64)
+    requires { ⌜ at + 4 ≤ length (now out) ⌝ }
+    ensures { λ r. ⌜ Wrote (now (out .entry)) at (four v) (now (out .exit)) ⌝ }
+{
+    out[at] = (v / 16777216 % 256) as u8;
+    out[at + 1] = (v / 65536 % 256) as u8;
+    out[at + 2] = (v / 256 % 256) as u8;
+    out[at + 3] = (v % 256) as u8;
+}
+
+// Copies the eight bytes of a number, the highest first, to a place that has room for them.
+pub(crate) fn copy_eight(out: &mut [u8], at: usize, v: u64)
+    requires { ⌜ at + 8 ≤ length (now out) ⌝ }
+    ensures { λ r. ⌜ Wrote (now (out .entry)) at (eight v) (now (out .exit)) ⌝ }
+{
+    copy_four(out, at, v / 4294967296);
+    copy_four(out, at + 4, v);
 }
 
 // Writes bytes.

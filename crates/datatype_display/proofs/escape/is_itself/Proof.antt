@@ -1,4 +1,4 @@
-use Rattle.datatype_display.proofs.Escapes.{itself-low, itself-34, itself-92, itself-rest}
+use Rattle.datatype_display.proofs.Escapes.{itself-low, itself-first, itself-middle, itself-high}
 use borrow.Author.Needs.{needs}
 use native.Mathlib.Omega.{arith}
 use Rattle.datatype_display.proofs.escape.is_itself.Statement.{statement}
@@ -8,19 +8,19 @@ use Rattle.datatype_display.proofs.escape.is_itself.Lts as lts
 
 -- src/escape.rt:72:9
 returns : tie.Need-returns
-returns c = itself-low _ (c .if1 .taken)
+returns c = itself-high _ (c .if1 .taken)
 
 -- src/escape.rt:75:9
 returns-2 : tie.Need-returns-2
-returns-2 c = itself-34 _ (c .if2 .taken)
+returns-2 c = itself-middle _ (c .if2 .taken) (c .before .if1 .left)
 
 -- src/escape.rt:78:9
 returns-3 : tie.Need-returns-3
-returns-3 c = itself-92 _ (c .if3 .taken)
+returns-3 c = itself-low _ (c .if3 .taken)
 
 -- src/escape.rt:68:1
 returns-4 : tie.Need-returns-4
-returns-4 c = itself-rest _ (c .before .before .if1 .left) (c .before .if2 .left) (c .if3 .left)
+returns-4 c = itself-first _ (c .if3 .left) (c .before .if2 .left)
 
 pub is-itself-spec : {M : Type 1} → statement M
 is-itself-spec = tie.close (tie.spec returns returns-2 returns-3 returns-4)

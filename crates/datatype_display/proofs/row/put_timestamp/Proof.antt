@@ -1,4 +1,4 @@
-use Rattle.datatype_display.specs.Steps.{openText}
+use Rattle.datatype_display.specs.Steps.{paramsText, openText}
 use Rattle.datatype_display.proofs.Writes.{put-then}
 use native.Mathlib.Omega.{arith}
 use borrow.Author.Needs.{needs}
@@ -11,20 +11,16 @@ use Rattle.datatype_display.proofs.words.put_unit.Reads as put-unit-rea
 use Rattle.datatype_display.proofs.write.put_byte.Reads as put-byte-reads
 
 -- src/row.rt:73:9
-put-byte-requires : tie.Need-put-byte-requires
-put-byte-requires c κs = search needs
-
--- src/row.rt:74:9
 put-unit-requires : tie.Need-put-unit-requires
 put-unit-requires c κs = search needs
 
--- src/row.rt:75:9
+-- src/row.rt:74:9
 put-zone-requires : tie.Need-put-zone-requires
 put-zone-requires c κs = search needs
 
--- src/row.rt:76:5
-put-byte-requires-2 : tie.Need-put-byte-requires-2
-put-byte-requires-2 c κs = search needs
+-- src/row.rt:75:5
+put-byte-requires : tie.Need-put-byte-requires
+put-byte-requires c κs = search needs
 
 -- src/row.rt:70:1
 same-length : tie.Need-same-length
@@ -32,16 +28,9 @@ same-length c = search needs
 
 -- src/row.rt:70:1
 returns : tie.Need-returns
-unfolding openText
-returns c = put-then _ _ _ _ _ _ _ _ (c .before .before .before .before .before .before .before .before .before .before .before .before .before .before .put-byte .ensures) (put-then _ _ _ _ _ _ _ _ (c .before .before .before .before .before .before .before .before .before .before .put-unit .ensures) (put-then _ _ _ _ _ _ _ _ (c .before .before .before .before .before .before .put-zone .ensures) (c .before .before .put-byte2 .ensures)))
+unfolding paramsText openText
+returns c = put-then _ _ _ _ _ _ _ _ (c .before .before .before .before .before .before .before .before .before .before .put-unit .ensures) (put-then _ _ _ _ _ _ _ _ (c .before .before .before .before .before .before .put-zone .ensures) (c .before .before .put-byte .ensures))
 
 pub put-timestamp-spec : {M : Type 1} → statement M
 put-timestamp-spec =
-    tie.close
-    (tie.spec
-    put-byte-requires
-    put-unit-requires
-    put-zone-requires
-    put-byte-requires-2
-    same-length
-    returns)
+    tie.close (tie.spec put-unit-requires put-zone-requires put-byte-requires same-length returns)

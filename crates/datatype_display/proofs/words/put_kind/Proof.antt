@@ -1,66 +1,72 @@
 use Rattle.datatype_display.proofs.Writes.{put-as, put-none}
-use Rattle.datatype_display.proofs.WordLaws.{kind-text, no-kind}
+use Rattle.datatype_display.proofs.WordLaws.{no-kind}
+use Rattle.datatype_display.proofs.KindWords.{kind-past, kind-wrote}
 use native.Mathlib.Omega.{arith}
 use borrow.Author.Needs.{needs}
 use Rattle.datatype_display.proofs.words.put_kind.Statement.{statement}
 use Rattle.datatype_display.proofs.words.put_kind.Tie as tie
 use Rattle.datatype_display.proofs.words.put_kind.Reads as reads
 use Rattle.datatype_display.proofs.words.put_kind.Lts as lts
-use Rattle.datatype_display.proofs.words.put_nested_kind.Reads as put-nested-kind-reads
-use Rattle.datatype_display.proofs.words.put_number_kind.Reads as put-number-kind-reads
-use Rattle.datatype_display.proofs.words.put_scalar_kind.Reads as put-scalar-kind-reads
+use Rattle.datatype_display.proofs.words.copy_kind.Reads as copy-kind-reads
+use Rattle.datatype_display.proofs.words.kind_size.Reads as kind-size-reads
+use Rattle.datatype_display.proofs.write.advance.Reads as advance-reads
 
--- src/words.rt:83:9
-put-number-kind-requires : tie.Need-put-number-kind-requires
-put-number-kind-requires c κs = search needs
+-- src/words.rt:162:9
+returns : tie.Need-returns
+returns c = put-as _ _ _ _ _ _ (no-kind _ (c .if1 .taken)) (put-none _ _)
 
--- src/words.rt:83:9
+-- src/words.rt:164:9
+kind-size-requires : tie.Need-kind-size-requires
+kind-size-requires c κs = search needs
+
+-- src/words.rt:166:9
+advance-requires : tie.Need-advance-requires
+advance-requires c κs = search needs
+
+-- src/words.rt:166:9
+returns-2 : tie.Need-returns-2
+returns-2 c = kind-past _ _ (omega (arith, c .before .before .before .if1 .left)) (c .before .before .kind-size .ensures) _ _ _ (c .advance .ensures) (omega (arith, c .before .if2 .taken))
+
+-- src/words.rt:168:8
+sub-if3 : tie.Need-sub-if3
+sub-if3 c = search needs
+
+-- src/words.rt:169:9
+advance-requires-2 : tie.Need-advance-requires-2
+advance-requires-2 c κs = search needs
+
+-- src/words.rt:169:9
+returns-3 : tie.Need-returns-3
+returns-3 c = kind-past _ _ (omega (arith, c .before .before .before .before .if1 .left)) (c .before .before .before .kind-size .ensures) _ _ _ (c .advance2 .ensures) (omega (arith, c .before .if3 .taken, c .before .before .if2 .left))
+
+-- src/words.rt:171:5
+copy-kind-requires : tie.Need-copy-kind-requires
+copy-kind-requires c κs = search needs
+
+-- src/words.rt:172:5
+add-result : tie.Need-add-result
+add-result c = search needs
+
+-- src/words.rt:158:1
 same-length : tie.Need-same-length
 same-length c = search needs
 
--- src/words.rt:83:9
-returns : tie.Need-returns
-returns c = put-as _ _ _ _ _ _ (kind-text _ (omega (arith, c .before .before .before .before .if1 .taken))) (c .before .before .put-number-kind .ensures)
-
--- src/words.rt:86:9
-put-scalar-kind-requires : tie.Need-put-scalar-kind-requires
-put-scalar-kind-requires c κs = search needs
-
--- src/words.rt:86:9
-same-length-2 : tie.Need-same-length-2
-same-length-2 c = search needs
-
--- src/words.rt:86:9
-returns-2 : tie.Need-returns-2
-returns-2 c = put-as _ _ _ _ _ _ (kind-text _ (omega (arith, c .before .before .before .before .if2 .taken))) (c .before .before .put-scalar-kind .ensures)
-
--- src/words.rt:89:9
-put-nested-kind-requires : tie.Need-put-nested-kind-requires
-put-nested-kind-requires c κs = search needs
-
--- src/words.rt:89:9
-same-length-3 : tie.Need-same-length-3
-same-length-3 c = search needs
-
--- src/words.rt:89:9
-returns-3 : tie.Need-returns-3
-returns-3 c = put-as _ _ _ _ _ _ (kind-text _ (c .before .before .before .before .if3 .taken)) (c .before .before .put-nested-kind .ensures)
-
--- src/words.rt:79:1
+-- src/words.rt:158:1
 returns-4 : tie.Need-returns-4
-returns-4 c = put-as _ _ _ _ _ _ (no-kind _ (c .if3 .left)) (put-none _ _)
+returns-4 c = kind-wrote _ _ (omega (arith, c .before .before .before .before .before .before .before .if1 .left)) (c .before .before .before .before .before .before .kind-size .ensures) _ _ _ (c .before .before .copy-kind .ensures)
 
 pub put-kind-spec : {M : Type 1} → statement M
 put-kind-spec =
     tie.close
     (tie.spec
-    put-number-kind-requires
-    same-length
     returns
-    put-scalar-kind-requires
-    same-length-2
+    kind-size-requires
+    advance-requires
     returns-2
-    put-nested-kind-requires
-    same-length-3
+    sub-if3
+    advance-requires-2
     returns-3
+    copy-kind-requires
+    add-result
+    same-length
     returns-4)
