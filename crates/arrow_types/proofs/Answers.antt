@@ -4,12 +4,12 @@ use mathlib.Core.Bool.{Bool, true, false}
 use mathlib.Core.Option.{Option, some, none}
 use Prim.Native.Nat.{ℕ}
 use Rattle.tokenizer.specs.Answer.{Out, done, refuse}
-use Rattle.datatype.specs.Sound.{depthMeans}
-use Rattle.datatype.specs.declared.Depth.{Depth}
-use Rattle.datatype.specs.declared.Depth.the-variants as D
-use Rattle.datatype.specs.Layout.{verdictMeans}
-use Rattle.datatype.specs.declared.Verdict.{Verdict}
-use Rattle.datatype.specs.declared.Verdict.the-variants as Y
+use Rattle.row_table.specs.Sound.{depthMeans}
+use Rattle.row_table.specs.declared.Depth.{Depth}
+use Rattle.row_table.specs.declared.Depth.the-variants as D
+use Rattle.row_table.specs.Layout.{verdictMeans}
+use Rattle.row_table.specs.declared.Verdict.{Verdict}
+use Rattle.row_table.specs.declared.Verdict.the-variants as Y
 use Rattle.datatype_parse.specs.Parse.{parsedMeans}
 use Rattle.datatype_parse.specs.declared.Parsed.{Parsed}
 use Rattle.datatype_parse.specs.declared.Parsed.the-variants as R

@@ -3,15 +3,15 @@ ghost use mathlib.Core.Path.{_≡_};
 ghost use lib.ListN.{length};
 ghost use Rattle.arrow_types.specs.Status.{statusOf, valueOf, flag, yesOf, rowOf, ifNamed};
 ghost use Rattle.datatype.specs.Tree.{nameOf};
-ghost use Rattle.datatype.specs.Sound.{isSound, depthOf};
-ghost use Rattle.datatype.specs.Equal.{equalTrees};
-ghost use Rattle.datatype.specs.Layout.{verdictOf};
+ghost use Rattle.row_table.specs.Sound.{isSound, depthOf};
+ghost use Rattle.row_table.specs.Equal.{equalTrees};
+ghost use Rattle.row_table.specs.Layout.{verdictOf};
 ghost use Rattle.datatype_parse.specs.Parse.{parseAnswer, parseRows};
 ghost use Rattle.datatype_display.specs.Print.{printAnswer, printBytes};
-use datatype::Depth;
-use datatype::Verdict;
 use datatype_display::Printed;
 use datatype_parse::Parsed;
+use row_table::Depth;
+use row_table::Verdict;
 
 // Reads a type text into lent rows.
 #[no_mangle]
@@ -89,7 +89,7 @@ pub extern "C" fn arrow_types_name<'a>(
 pub extern "C" fn arrow_types_is_sound(text: &[u8], names: &[u8], rows: &[u32]) -> u32
     ensures { λ r. ⌜ r ≡ flag (isSound (now (text .entry)) (now (names .entry)) (now (rows .entry))) ⌝ }
 {
-    if datatype::is_sound(text, names, rows) {
+    if row_table::is_sound(text, names, rows) {
         return 1;
     }
     0
@@ -106,7 +106,7 @@ pub extern "C" fn arrow_types_depth(
     ensures status { λ r. ⌜ r ≡ statusOf (depthOf (now (text .entry)) (now (names .entry)) (now (rows .entry))) ⌝ }
     ensures value { λ r. ⌜ now (depth .exit) ≡ valueOf (depthOf (now (text .entry)) (now (names .entry)) (now (rows .entry))) ⌝ }
 {
-    match datatype::levels::depth(text, names, rows) {
+    match row_table::levels::depth(text, names, rows) {
         Depth::Levels(n) => {
             *depth = n;
             0
@@ -130,7 +130,7 @@ pub extern "C" fn arrow_types_equal<'a, 'b>(
 ) -> u32
     ensures { λ r. ⌜ r ≡ flag (equalTrees (now (text .entry)) (now (names .entry)) (now (text2 .entry)) (now (names2 .entry)) (now (rows .entry)) (now (rows2 .entry))) ⌝ }
 {
-    if datatype::equal_trees(text, names, rows, text2, names2, rows2) {
+    if row_table::equal_trees(text, names, rows, text2, names2, rows2) {
         return 1;
     }
     0
@@ -151,7 +151,7 @@ pub extern "C" fn arrow_types_verdict(
 {
     *yes = 0;
     *row = 0;
-    match datatype::layout::verdict(text, names, rows) {
+    match row_table::layout::verdict(text, names, rows) {
         Verdict::Yes => {
             *yes = 1;
             0

@@ -9,7 +9,8 @@ use lib.Dec.{T}
 use borrow.Author.Tests.{ne-eqb}
 use Rattle.tokenizer.proofs.Listed.{NoneOf}
 use Rattle.datatype.specs.Kind.{Shape, leaf, timestamp, time, interval, fixed, list, fixedList, struct, union, dictionary, decimal, mapping, runEnds, kinds, shapeOf, has}
-use Rattle.datatype.proofs.KindLaws.{allBelow, below-at, past-kinds}
+use Rattle.datatype.proofs.Tests.{allBelow, below-at}
+use Rattle.datatype.proofs.KindLaws.{past-kinds}
 
 -- the shapes that are not leaves, in the order of the kinds
 pub shapes-of : (shapeOf 13 ≡ timestamp) × (shapeOf 16 ≡ time) × (shapeOf 17 ≡ time) × (shapeOf 18 ≡ time) × (shapeOf 19 ≡ interval) × (shapeOf 21 ≡ fixed)

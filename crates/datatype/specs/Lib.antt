@@ -1,12 +1,4 @@
 pub mod Kind
 pub mod Tree
 pub mod Table
-pub mod Run
-pub mod Sound
-pub mod Check
-pub mod Ids
-pub mod UnionFields
-pub mod Equal
-pub mod Layout
-pub mod Scan
 pub mod Computed

@@ -12,14 +12,14 @@ use Rattle.tokenizer.proofs.Basics.{and-l, and-r, both, is-true, of-true}
 use Rattle.datatype.specs.Kind.{Shape, runEnds, shapeOf}
 use Rattle.datatype.specs.Tree.{Forest, ∅, node, count, roots, depth, Row, Label, part, nameOf, zoneOf, labelOf, labels}
 use Rattle.datatype.specs.Table.{rowWords, treeOf}
-use Rattle.datatype.specs.Sound.{isSound}
-use Rattle.datatype.specs.Run.{sizeAt, rowAt, forestAt, Nests}
-use Rattle.datatype.proofs.Clauses.{iff-eq}
-use Rattle.datatype.proofs.ChildLaws.{child-turn}
-use Rattle.datatype.proofs.Runs.{Turn, turn, forest-none}
-use Rattle.datatype.proofs.SoundTree.{SoundTree, sound-tree, sound-count, sound-forest, sound-labels}
-use Rattle.datatype.proofs.LevelLaws.{LevelsSo, levels-start, levels-call, levels-again}
-use Rattle.datatype.proofs.Walks.{labels-turn, kind-word, zone-words}
+use Rattle.row_table.specs.Sound.{isSound}
+use Rattle.row_table.specs.Run.{sizeAt, rowAt, forestAt, Nests}
+use Rattle.datatype.proofs.Tests.{iff-eq}
+use Rattle.row_table.proofs.ChildLaws.{child-turn}
+use Rattle.row_table.proofs.Runs.{Turn, turn, forest-none}
+use Rattle.row_table.proofs.SoundTree.{SoundTree, sound-tree, sound-count, sound-forest, sound-labels}
+use Rattle.row_table.proofs.LevelLaws.{LevelsSo, levels-start, levels-call, levels-again}
+use Rattle.row_table.proofs.Walks.{labels-turn, kind-word, zone-words}
 use Rattle.datatype_display.specs.Display.{defaultNames}
 use Rattle.datatype_display.specs.Print.{quotesNames, isAscii, namesAscii, quotedAscii}
 use Rattle.datatype_display.specs.Steps.{shapeMeans, labelAt, rowAscii}

@@ -14,7 +14,7 @@ use Rattle.tokenizer.specs.Keys.{packed}
 use Rattle.tokenizer.proofs.Basics.{and-l, and-r}
 use Rattle.tokenizer.proofs.Listed.{NoneOf, same-path}
 use Rattle.datatype.specs.Kind.{has, kinds}
-use Rattle.datatype.proofs.KindLaws.{allBelow, below-at}
+use Rattle.datatype.proofs.Tests.{allBelow, below-at}
 use Rattle.datatype.proofs.ShapeLaws.{none-has}
 use Rattle.datatype.proofs.Sets.{sets-append}
 use Rattle.datatype_display.specs.Display.{kindWord}

@@ -10,7 +10,7 @@ use Rattle.tokenizer.specs.Text.{bytes, if_then_else_}
 use Rattle.tokenizer.proofs.Basics.{and-l, and-r}
 use Rattle.datatype.specs.Kind.{Shape, leaf, timestamp, time, interval, fixed, list, fixedList, struct, union, dictionary, decimal, mapping, runEnds, shapeOf}
 use Rattle.datatype.specs.Tree.{Forest, ∅, node, roots, Label}
-use Rattle.datatype.specs.Sound.{Place, arityFits, rulesOf, rowFits, rowsFit}
+use Rattle.row_table.specs.Sound.{Place, arityFits, rulesOf, rowFits, rowsFit}
 use Rattle.datatype_display.specs.Display.{Shown, untyped, fieldText, listFieldText, structText, unionText, defaultNames, runEndText, shapeText, typeText, shown, display, ownLength, displayLength, nullityText}
 
 ruleset split = (and-l, and-r)

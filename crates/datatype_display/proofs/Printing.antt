@@ -10,11 +10,11 @@ use borrow.Author.Tests.{eq-eqb, ne-eqb}
 use Rattle.datatype.specs.Kind.{Shape, shapeOf}
 use Rattle.datatype.specs.Tree.{Forest, ∅, node, count, roots, depth, Row, Label, labelOf, labels}
 use Rattle.datatype.specs.Table.{rowWords, treeOf}
-use Rattle.datatype.specs.Run.{sizeAt, rowAt, forestAt, Nests}
-use Rattle.datatype.specs.Sound.{bare, isSound}
-use Rattle.datatype.proofs.Runs.{Turn, turn, forest-none}
-use Rattle.datatype.proofs.SoundTree.{SoundTree, sound-tree, sound-count, sound-nests, sound-forest, sound-labels}
-use Rattle.datatype.proofs.Walks.{labels-turn}
+use Rattle.row_table.specs.Run.{sizeAt, rowAt, forestAt, Nests}
+use Rattle.row_table.specs.Sound.{bare, isSound}
+use Rattle.row_table.proofs.Runs.{Turn, turn, forest-none}
+use Rattle.row_table.proofs.SoundTree.{SoundTree, sound-tree, sound-count, sound-nests, sound-forest, sound-labels}
+use Rattle.row_table.proofs.Walks.{labels-turn}
 use Rattle.datatype_display.specs.Display.{Shown, display}
 use Rattle.datatype_display.specs.Print.{quotesNames}
 use Rattle.datatype_display.specs.Steps.{Put, closeText, leadText, trailText, childrenText, headText, rowText, walked, Subtree, labelAt, kidsAt, textAt}

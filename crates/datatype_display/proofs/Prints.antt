@@ -10,7 +10,7 @@ use lib.Seq.{sets, sets-eq}
 use lib.Dec.{leb}
 use borrow.Author.Tests.{le-leb, lt-leb}
 use Rattle.datatype.specs.Table.{treeOf}
-use Rattle.datatype.specs.Sound.{isSound}
+use Rattle.row_table.specs.Sound.{isSound}
 use Rattle.datatype_display.specs.Display.{display}
 use Rattle.datatype_display.specs.Print.{quotedAscii, print, printAnswer, printBytes, printedMeans}
 use Rattle.datatype_display.specs.Steps.{Moved, Put}

@@ -11,7 +11,7 @@ use Rattle.tokenizer.specs.Text.{bytes, same}
 use Rattle.datatype.specs.Kind.{Shape, shapeOf}
 use Rattle.datatype.specs.Tree.{nameOf, zoneOf}
 use Rattle.datatype.specs.Table.{rowWords}
-use Rattle.datatype.proofs.Walks.{kind-word, role-word, id-word, param-word, scale-word, name-words, zone-words}
+use Rattle.row_table.proofs.Walks.{kind-word, role-word, id-word, param-word, scale-word, name-words, zone-words}
 use Rattle.datatype_display.specs.Display.{quoted, listNameText, zoneText}
 use Rattle.datatype_display.specs.Steps.{Put, shapeMeans, kindText, openText, separator, nameText, nullability, leadText, headText, labelAt}
 use Rattle.datatype_display.specs.declared.shape.Shape.{Shape as CodeShape}

@@ -13,8 +13,8 @@ use Rattle.tokenizer.specs.Text.{bytes, if_then_else_}
 use Rattle.tokenizer.proofs.Basics.{and-l, and-r, both}
 use Rattle.datatype.specs.Kind.{Shape, leaf, timestamp, time, interval, fixed, list, fixedList, struct, union, dictionary, decimal, mapping, runEnds, kinds, shapeOf}
 use Rattle.datatype.specs.Tree.{Forest, ∅, node, roots, Label}
-use Rattle.datatype.specs.Sound.{Place, bare, arityFits, roleFits, rulesOf, rowsFit}
-use Rattle.datatype.proofs.SoundTree.{RowFits, rows-fit}
+use Rattle.row_table.specs.Sound.{Place, bare, arityFits, roleFits, rulesOf, rowsFit}
+use Rattle.row_table.proofs.SoundTree.{RowFits, rows-fit}
 use Rattle.datatype_display.specs.Display.{kindWord, digits, modeText, sortedText, quoted, listNameText, Shown, nullityText, fieldText, listFieldText, structText, unionText, defaultNames, runEndText, shapeText, typeText, shown, firstText, display}
 use Rattle.datatype_display.specs.Print.{quotesNames}
 use Rattle.datatype_display.specs.Steps.{kindText, openText, closeText, separator, nameText, nullability, leadText, trailText, childrenText, headText, rowText, walked}

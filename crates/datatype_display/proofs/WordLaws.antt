@@ -10,7 +10,7 @@ use Rattle.tokenizer.specs.Text.{bytes}
 use Rattle.tokenizer.specs.Words.{words}
 use Rattle.tokenizer.proofs.Listed.{NoneOf}
 use Rattle.datatype.specs.Kind.{has, kinds}
-use Rattle.datatype.proofs.KindLaws.{allBelow, below-at}
+use Rattle.datatype.proofs.Tests.{allBelow, below-at}
 use Rattle.datatype.proofs.ShapeLaws.{none-has}
 use Rattle.datatype_display.specs.Display.{kindWord, digits, unitText, intervalText, modeText, sortedText, scaleText}
 use Rattle.datatype_display.specs.Steps.{Put, kindText}

@@ -9,7 +9,7 @@ use Rattle.tokenizer.specs.Answer.{Out, refused, done, refuse}
 use Rattle.datatype.specs.Kind.{Shape, leaf, timestamp, time, interval, fixed, list, fixedList, struct, union, dictionary, decimal, mapping, runEnds, shapeOf}
 use Rattle.datatype.specs.Tree.{Forest, ∅, node, roots, Label}
 use Rattle.datatype.specs.Table.{treeOf}
-use Rattle.datatype.specs.Sound.{isSound}
+use Rattle.row_table.specs.Sound.{isSound}
 use Rattle.datatype_display.specs.Display.{defaultNames, display}
 use Rattle.datatype_display.specs.declared.Printed.{Printed}
 use Rattle.datatype_display.specs.declared.Printed.the-variants.{Length, Refused}

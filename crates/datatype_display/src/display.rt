@@ -3,7 +3,7 @@ ghost use mathlib.Core.Path.{_≡_};
 ghost use lib.ListN.{length};
 ghost use lib.Dec.{T};
 ghost use Rattle.datatype.specs.Table.{treeOf};
-ghost use Rattle.datatype.specs.Sound.{isSound};
+ghost use Rattle.row_table.specs.Sound.{isSound};
 ghost use Rattle.datatype_display.specs.Display.{display};
 ghost use Rattle.datatype_display.specs.Steps.{Moved, Put, Subtree, textAt};
 use crate::ascii::quotes_names;

@@ -1,8 +1,8 @@
 // The printer: a sound tree becomes its text, as the Rust's `Display` writes it.
 ghost use mathlib.Core.Path.{_≡_};
 ghost use Rattle.datatype_display.specs.Print.{printAnswer, printBytes, printedMeans};
-use datatype::is_sound;
 use datatype::rows::MAX_TEXT;
+use row_table::is_sound;
 
 mod ascii;
 mod display;

@@ -6,7 +6,7 @@ ghost use lib.ListN.{length, getD};
 ghost use Rattle.datatype.specs.Kind.{timestamp, decimal};
 ghost use Rattle.datatype.specs.Tree.{nameOf, zoneOf};
 ghost use Rattle.datatype.specs.Table.{rowWords};
-ghost use Rattle.datatype.specs.Run.{sizeAt};
+ghost use Rattle.row_table.specs.Run.{sizeAt};
 ghost use Rattle.datatype_display.specs.Display.{listNameText, zoneText};
 ghost use Rattle.datatype_display.specs.Steps.{Put, shapeMeans, comma, paramsText, openText, closeText, separator, nullability, nameText, leadText, trailText, headText, labelAt};
 use crate::escape::put_quoted;

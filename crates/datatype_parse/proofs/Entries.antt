@@ -12,11 +12,11 @@ use Rattle.tokenizer.specs.Text.{if_then_else_}
 use Rattle.datatype.specs.Kind.{keyRefusal, entriesRefusal, idsFit}
 use Rattle.datatype.specs.Tree.{Forest, ∅, node, count, roots, Row}
 use Rattle.datatype.specs.Table.{rowWords, tableOf}
-use Rattle.datatype.specs.Run.{sizeAt, rowAt, forestAt, Nests}
-use Rattle.datatype.specs.UnionFields.{typeIdsFit}
+use Rattle.row_table.specs.Run.{sizeAt, rowAt, forestAt, Nests}
+use Rattle.row_table.specs.UnionFields.{typeIdsFit}
 use Rattle.datatype.proofs.Table.{length-table}
-use Rattle.datatype.proofs.UnionLaws.{type-ids-fit}
-use Rattle.datatype.proofs.Runs.{Turn, turn, forest-none, Is, nests-is, forest-is}
+use Rattle.row_table.proofs.UnionLaws.{type-ids-fit}
+use Rattle.row_table.proofs.Runs.{Turn, turn, forest-none, Is, nests-is, forest-is}
 use Rattle.tokenizer.specs.Answer.{Out}
 use Rattle.datatype_parse.specs.Parse.{Tree, Fields}
 use Rattle.datatype_parse.specs.Steps.{Room, Stored, entriesOf, roleOf}

@@ -14,10 +14,10 @@ use Rattle.tokenizer.specs.declared.Token.{Token}
 use Rattle.datatype.specs.Kind.{Shape, leaf, timestamp, time, interval, fixed, list, fixedList, struct, union, dictionary, decimal, mapping, runEnds, kinds, shapeOf, idsFit}
 use Rattle.datatype.specs.Tree.{Forest, ∅, node, count, Row, nameList}
 use Rattle.datatype.specs.Table.{rowWords, tableOf, rowsLent}
-use Rattle.datatype.specs.Sound.{bare, field, unionField, arityFits, rulesOf, isSound}
-use Rattle.datatype.specs.Check.{zoneOk}
+use Rattle.row_table.specs.Sound.{bare, field, unionField, arityFits, rulesOf, isSound}
+use Rattle.row_table.specs.Check.{zoneOk}
 use Rattle.datatype.proofs.Table.{view-table}
-use Rattle.datatype.proofs.SoundTree.{SoundTree, tree-sound}
+use Rattle.row_table.proofs.SoundTree.{SoundTree, tree-sound}
 use Rattle.datatype_parse.specs.Parse.{bareRow, Tree, rowsIn, single, pair, itemsBy, need, lengthAt, listField, structItem, unionItem, runEndFields, entriesAt, fixedListField, listAt, fixedSizeListAt, structAt, unionAt, dictionaryAt, mapAt, runEndEncodedAt, shapeAt, typeWith, typeAt, textOver, wholeText, parse, rowCount, parseAnswer, filled, parseRows}
 use Rattle.datatype_parse.proofs.Holds.{Holds, holds-bind, holds-then, holds-if}
 use Rattle.datatype_parse.proofs.TokenFacts.{holds-when, need-value, Limited, number-limited, limit-most}

@@ -10,9 +10,9 @@ use lib.Dec.{T, ltb, eqb, lt→ltb}
 use Rattle.tokenizer.proofs.Basics.{and-l, and-r, both}
 use Rattle.datatype.specs.Kind.{Shape, kinds, shapeOf, has, idsFit}
 use Rattle.datatype.specs.Tree.{Forest, ∅, node, count, roots, Row, labels}
-use Rattle.datatype.specs.Sound.{Place, bare, field, unionField, arityFits, idFits, rulesOf, rowsFit, isListed, placed}
-use Rattle.datatype.specs.Check.{belowOf, partFits, nameOk, zoneOk, ownShape, numbersFit, ownFits, overKids, childrenFit}
-use Rattle.datatype.proofs.Clauses.{Run, own-of, run-in, run-out}
+use Rattle.row_table.specs.Sound.{Place, bare, field, unionField, arityFits, idFits, rulesOf, rowsFit, isListed, placed}
+use Rattle.row_table.specs.Check.{belowOf, partFits, nameOk, zoneOk, ownShape, numbersFit, ownFits, overKids, childrenFit}
+use Rattle.row_table.proofs.Clauses.{Run, own-of, run-in, run-out}
 use Rattle.datatype_parse.specs.Parse.{Name, Tree, bareRow, fieldRow, single}
 
 -- ---- places

@@ -392,7 +392,7 @@ fn parse_union(
             match fields(text, rows, UNION, behind, row + 1, left, level) {
                 Read::Refused(n) => Read::Refused(n),
                 Read::Tree(next, used) => {
-                    if !datatype::try_new(rows, row + 1, row + 1 + used) {
+                    if !row_table::try_new(rows, row + 1, row + 1 + used) {
                         return Read::Refused(15);
                     }
                     put_row(rows, row, kind, (used + 1) as u32, mode, 0, 0, 0);

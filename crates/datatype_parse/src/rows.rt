@@ -5,7 +5,7 @@ ghost use mathlib.Core.List.{List, [], _∷_};
 ghost use lib.ListN.{length, getD};
 ghost use lib.Seq.{sets};
 ghost use Rattle.datatype.specs.Table.{rowWords, wordsOf};
-ghost use Rattle.datatype.specs.Run.{Nests, forestAt};
+ghost use Rattle.row_table.specs.Run.{Nests, forestAt};
 ghost use Rattle.datatype_parse.specs.Parse.{bareRow};
 ghost use Rattle.datatype_parse.specs.Steps.{entriesOf, roleOf};
 

@@ -11,8 +11,8 @@ use crate::stored::least;
 use crate::stored::number_at;
 use crate::stored::part_at;
 use crate::stored::words_at;
-use datatype::Depth;
-use datatype::Verdict;
+use row_table::Depth;
+use row_table::Verdict;
 
 // A table, whose words go to a buffer.
 fn table_at(sample: &[u8], at: usize, words: &mut [u32]) -> Table
@@ -120,14 +120,14 @@ fn is_verdict(verdict: Verdict, status: u32, value: u32) -> bool {
 
 // Whether a table is sound or not, and has the depth and the verdict, as a case says.
 fn tree_alike(text: &[u8], list: &[u8], words: &[u32], case: TableCase) -> bool {
-    if !is_answer(datatype::is_sound(text, list, words), case.sound) {
+    if !is_answer(row_table::is_sound(text, list, words), case.sound) {
         return false;
     }
-    let depth = datatype::levels::depth(text, list, words);
+    let depth = row_table::levels::depth(text, list, words);
     if !is_depth(depth, case.depth_status, case.depth) {
         return false;
     }
-    let verdict = datatype::layout::verdict(text, list, words);
+    let verdict = row_table::layout::verdict(text, list, words);
     is_verdict(verdict, case.verdict_status, case.verdict)
 }
 
@@ -171,7 +171,7 @@ fn alike(
     }
     let text2 = part_at(sample, other.text, other.text_size);
     let list2 = part_at(sample, other.list, other.list_size);
-    let equal = datatype::equal_trees(text, list, words, text2, list2, others);
+    let equal = row_table::equal_trees(text, list, words, text2, list2, others);
     is_answer(equal, case.equal)
 }
 

@@ -9,8 +9,8 @@ use lib.Dec.{T}
 use Rattle.tokenizer.specs.Answer.{done}
 use Rattle.datatype.specs.Tree.{Forest, count, Row}
 use Rattle.datatype.specs.Table.{rowWords, tableOf, treeOf, rowsLent}
-use Rattle.datatype.specs.Sound.{isSound}
-use Rattle.datatype.specs.Equal.{equalTrees}
+use Rattle.row_table.specs.Sound.{isSound}
+use Rattle.row_table.specs.Equal.{equalTrees}
 use Rattle.datatype.proofs.Table.{length-table}
 use Rattle.datatype_parse.specs.Parse.{parse, filled, parseAnswer, parseRows}
 use Rattle.datatype_display.specs.Print.{printAnswer, printBytes}

@@ -12,8 +12,8 @@ use Rattle.tokenizer.specs.Token.{isSeparator, isDigit, tokenAt, sortOf, double
 use Rattle.tokenizer.specs.declared.Token.{Token}
 use Rattle.tokenizer.proofs.Basics.{skip, of-true}
 use Rattle.datatype.specs.Tree.{Forest, count, Label, nameList, nameOf, part}
-use Rattle.datatype.specs.Sound.{isName}
-use Rattle.datatype.proofs.SoundTree.{same-eq}
+use Rattle.row_table.specs.Sound.{isName}
+use Rattle.datatype.proofs.Same.{same-eq}
 use Rattle.datatype_parse.specs.Parse.{Name, Tree, item, textName, fieldRow, roleAt, afterRole, listNameAt, fieldAt, defaultField, listField}
 use Rattle.datatype_display.specs.Display.{Shown, quoted, nullityText, fieldText, listNameText, listFieldText, typeText, shown}
 use Rattle.round_trip.specs.Plain.{isPlain}

@@ -12,7 +12,7 @@ use Rattle.tokenizer.specs.Token.{token, isSeparator, tokenAt, sortOf, doubleQu
 use Rattle.tokenizer.specs.declared.TokenKind.the-variants.{RParen}
 use Rattle.tokenizer.proofs.Basics.{skip}
 use Rattle.datatype.specs.Tree.{Forest, ∅, node, count, roots, Label, labels}
-use Rattle.datatype.specs.Sound.{field, unionField}
+use Rattle.row_table.specs.Sound.{field, unionField}
 use Rattle.datatype_parse.specs.Parse as P
 use Rattle.datatype_parse.specs.Parse.{Tree, Item, end, last, more, single, idOf, stands, itemsBy, fieldAt, structItem, unionItem}
 use Rattle.datatype_parse.proofs.TokenLaws.{here}

@@ -18,7 +18,7 @@ use Rattle.tokenizer.specs.declared.TokenKind.{TokenKind}
 use Rattle.tokenizer.specs.declared.TokenKind.the-variants.{LParen, RParen, Comma, Colon, Integer, DoubleQuotedString, SingleQuotedString}
 use Rattle.tokenizer.proofs.Basics.{skip, skip-word}
 use Rattle.datatype.specs.Tree.{Forest, Row, part}
-use Rattle.datatype.specs.Sound.{isName}
+use Rattle.row_table.specs.Sound.{isName}
 use Rattle.datatype_parse.specs.Parse.{need, stands, numberIn, closeAt}
 use Rattle.datatype_parse.proofs.TokenLaws.{here}
 use Rattle.datatype_display.specs.Display.{digits, quoted}

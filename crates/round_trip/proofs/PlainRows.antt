@@ -9,8 +9,8 @@ use Rattle.tokenizer.specs.Text.{all, isEmpty}
 use Rattle.tokenizer.proofs.Basics.{and-l, and-r}
 use Rattle.datatype.specs.Kind.{Shape, kinds, shapeOf}
 use Rattle.datatype.specs.Tree.{Forest, ∅, node, roots, Label}
-use Rattle.datatype.specs.Sound.{Place, bare, field, unionField, arityFits, roleFits, idFits, isName, nameFits, rulesOf, zoneFits, shapeFits, rowsFit}
-use Rattle.datatype.proofs.SoundTree.{RowFits, rulesAt, rows-fit}
+use Rattle.row_table.specs.Sound.{Place, bare, field, unionField, arityFits, roleFits, idFits, isName, nameFits, rulesOf, zoneFits, shapeFits, rowsFit}
+use Rattle.row_table.proofs.SoundTree.{RowFits, rulesAt, rows-fit}
 use Rattle.round_trip.specs.Plain.{isPlain, allPlain}
 
 -- one row that stands in a place, over its children

@@ -14,9 +14,9 @@ use Rattle.tokenizer.proofs.Magnitude.{digit-most}
 use Rattle.tokenizer.proofs.Utf8Laws.{utf8-append, state-utf8, step-ascii}
 use Rattle.datatype.specs.Kind.{Shape, leaf, timestamp, time, interval, fixed, list, fixedList, struct, union, dictionary, decimal, mapping, runEnds, kinds, shapeOf}
 use Rattle.datatype.specs.Tree.{Forest, ∅, node, roots, Label}
-use Rattle.datatype.specs.Sound.{Place}
-use Rattle.datatype.proofs.KindLaws.{below-at}
-use Rattle.datatype.proofs.SoundTree.{rulesAt}
+use Rattle.row_table.specs.Sound.{Place}
+use Rattle.datatype.proofs.Tests.{below-at}
+use Rattle.row_table.proofs.SoundTree.{rulesAt}
 use Rattle.datatype_display.specs.Display.{Shown, kindWord, digits, unitText, intervalText, modeText, sortedText, scaleText, quoted, nullityText, fieldText, listNameText, listFieldText, structText, unionText, zoneText, defaultNames, runEndText, shapeText, typeText, shown, display}
 use Rattle.datatype_display.specs.Print.{quotesNames, isAscii, namesAscii, quotedAscii}
 use Rattle.round_trip.specs.Plain.{isPlain, allPlain}

@@ -10,8 +10,8 @@ use Rattle.tokenizer.specs.Token.{token, tokenAt, tokenFrom, noToken, typeWord}
 use Rattle.tokenizer.specs.declared.TokenKind.the-variants.{Refused}
 use Rattle.datatype.specs.Kind.{Shape, leaf, timestamp, time, interval, fixed, list, fixedList, struct, union, dictionary, decimal, mapping, runEnds, shapeOf}
 use Rattle.datatype.specs.Tree.{Forest, ∅, node, count, depth, Row, Label, nameList, labels}
-use Rattle.datatype.specs.Sound.{Place, bare}
-use Rattle.datatype.proofs.SoundTree.{rulesAt}
+use Rattle.row_table.specs.Sound.{Place, bare}
+use Rattle.row_table.proofs.SoundTree.{rulesAt}
 use Rattle.datatype_parse.specs.Parse.{Tree, single, shapeAt, typeWith, typeAt, textOver, wholeText}
 use Rattle.datatype_display.specs.Display.{shapeText, typeText, shown, display}
 use Rattle.round_trip.proofs.PlainRows.{PlainRow, PlainRows, ShapeRow, shape-row, bareLabel, bare-is}

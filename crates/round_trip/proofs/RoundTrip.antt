@@ -18,13 +18,13 @@ use Rattle.tokenizer.specs.Utf8.{isUtf8}
 use Rattle.tokenizer.proofs.Basics.{and-l, and-r, both, is-true}
 use Rattle.datatype.specs.Tree.{Forest, ∅, node, count, depth, Row, Label, nameList, labelOf, labels}
 use Rattle.datatype.specs.Table.{tableOf, treeOf}
-use Rattle.datatype.specs.Sound.{bare, isSound}
-use Rattle.datatype.specs.Equal.{equalTrees}
-use Rattle.datatype.proofs.SoundTree.{SoundTree, sound-tree, sound-labels}
+use Rattle.row_table.specs.Sound.{bare, isSound}
+use Rattle.row_table.specs.Equal.{equalTrees}
 use Rattle.datatype.proofs.Table.{table-view}
-use Rattle.datatype.proofs.RowList.{count-labels}
-use Rattle.datatype.proofs.LevelLaws.{depth-labels}
-use Rattle.datatype.proofs.Equivalence.{labels-equal}
+use Rattle.row_table.proofs.SoundTree.{SoundTree, sound-tree, sound-labels}
+use Rattle.row_table.proofs.RowList.{count-labels}
+use Rattle.row_table.proofs.LevelLaws.{depth-labels}
+use Rattle.row_table.proofs.Equivalence.{labels-equal}
 use Rattle.datatype_parse.specs.Parse.{wholeText, parse}
 use Rattle.datatype_parse.proofs.MoreRows.{more-rows}
 use Rattle.datatype_parse.proofs.ReadSound.{read-sound}

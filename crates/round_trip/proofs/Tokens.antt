@@ -17,7 +17,7 @@ use Rattle.tokenizer.proofs.Basics.{and-l, and-r, both, is-true, is-false, of-f
 use Rattle.tokenizer.proofs.Magnitude.{digit-least, digit-most}
 use Rattle.tokenizer.proofs.Marks.{not-separator}
 use Rattle.datatype.specs.Kind.{kinds}
-use Rattle.datatype.proofs.KindLaws.{below-at}
+use Rattle.datatype.proofs.Tests.{below-at}
 use Rattle.datatype_display.specs.Display.{kindWord, digits, escape, escaped}
 use Rattle.round_trip.specs.Plain.{isPlain}
 use Rattle.round_trip.proofs.Decimals.{Spelled, digits-spell}

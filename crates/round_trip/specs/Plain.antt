@@ -8,7 +8,7 @@ use lib.Dec.{leb, eqb}
 use Rattle.tokenizer.specs.Text.{all}
 use Rattle.datatype.specs.Tree.{Forest, ∅, node, Label}
 use Rattle.datatype.specs.Table.{treeOf}
-use Rattle.datatype.specs.Sound.{isSound}
+use Rattle.row_table.specs.Sound.{isSound}
 use Rattle.datatype_display.specs.Display.{display}
 
 -- Printable ASCII is bytes 32 to 126; quote marks are 34 and 39, the backslash 92.

@@ -13,11 +13,11 @@ use Rattle.tokenizer.specs.Answer.{Out, refused, done, refuse}
 use Rattle.tokenizer.proofs.Basics.{of-true}
 use Rattle.datatype.specs.Tree.{∅, node, depth, nameList}
 use Rattle.datatype.specs.Table.{rowWords, treeOf}
-use Rattle.datatype.specs.Sound.{isSound, depthOf, depthMeans}
-use Rattle.datatype.specs.declared.Depth.{Depth}
-use Rattle.datatype.specs.declared.Depth.the-variants as levels
-use Rattle.datatype.proofs.SoundTree.{SoundTree, sound-tree, sound-count, sound-labels}
-use Rattle.datatype.proofs.LevelLaws.{depth-labels}
+use Rattle.row_table.specs.Sound.{isSound, depthOf, depthMeans}
+use Rattle.row_table.specs.declared.Depth.{Depth}
+use Rattle.row_table.specs.declared.Depth.the-variants as levels
+use Rattle.row_table.proofs.SoundTree.{SoundTree, sound-tree, sound-count, sound-labels}
+use Rattle.row_table.proofs.LevelLaws.{depth-labels}
 use Rattle.datatype_display.specs.Display.{display}
 use Rattle.datatype_display.specs.Print.{quotedAscii, print, lengthOf, printAnswer, written, printBytes, printedMeans}
 use Rattle.datatype_display.specs.declared.Printed.{Printed}

@@ -13,7 +13,7 @@ use Rattle.tokenizer.specs.Answer.{Out, refused, done, refuse}
 use Rattle.datatype.specs.Tree.{Forest, count, depth, Row, nameList}
 use Rattle.datatype.specs.Table.{rowWords, tableOf, treeOf, rowsLent}
 use Rattle.datatype.proofs.Table.{length-table, view-table}
-use Rattle.datatype.proofs.LevelLaws.{depth-labels}
+use Rattle.row_table.proofs.LevelLaws.{depth-labels}
 use Rattle.datatype_parse.specs.Parse.{parse, rowCount, filled, parseAnswer, parseRows, parsedMeans}
 use Rattle.datatype_parse.specs.declared.Parsed.{Parsed}
 use Rattle.datatype_parse.specs.declared.Parsed.the-variants as parsed

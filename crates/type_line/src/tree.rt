@@ -7,9 +7,9 @@ ghost use Rattle.datatype.specs.Table.{rowWords};
 ghost use Rattle.datatype_display.specs.Print.{print};
 ghost use Rattle.type_line.specs.Steps.{Answers, treeLine, tableLine};
 use crate::write;
-use datatype::Depth;
 use datatype::rows::ROW_WORDS;
 use datatype_display::Printed;
+use row_table::Depth;
 
 const NAME_LIST: [u8; 18] = *b"itemrun_endsvalues";
 
@@ -32,7 +32,7 @@ pub(crate) fn answer_tree(text: &[u8], rows: &[u32], out: &mut [u8]) -> usize
     requires { ⌜ 16396 ≤ length (now out) ⌝ }
     ensures { λ r. ⌜ Answers (tableLine (now (text .entry)) (now (rows .entry))) (now (out .entry)) r (now (out .exit)) ⌝ }
 {
-    match datatype::levels::depth(text, &NAME_LIST, rows) {
+    match row_table::levels::depth(text, &NAME_LIST, rows) {
         Depth::Refused(n) => write::put_no(out, n),
         Depth::Levels(levels) => print_tree(text, rows, levels, out),
     }

@@ -5,25 +5,20 @@ use Rattle.arrow_types.proofs.arrow_types_depth.Statement.{statement}
 use Rattle.arrow_types.proofs.arrow_types_depth.Tie as tie
 use Rattle.arrow_types.proofs.arrow_types_depth.Reads as reads
 use Rattle.arrow_types.proofs.arrow_types_depth.Lts as lts
-use Rattle.datatype.proofs.levels.depth.Reads as depth-reads
+use Rattle.row_table.proofs.levels.depth.Reads as depth-reads
 
--- src/lib.rt:73:11
 depth-requires : tie.Need-depth-requires
 depth-requires c κs = search needs
 
--- src/lib.rt:74:23
 enum-known-n : tie.Need-enum-known-n
 enum-known-n c = search needs
 
--- src/lib.rt:78:24
 enum-known-n-2 : tie.Need-enum-known-n-2
 enum-known-n-2 c = search needs
 
--- src/lib.rt:68:1
 returns : tie.Need-returns
 returns c = (done-status _ _ (levels-done _ _ _ (c .before .before .before .depth .ensures) (c .before .n .given .1)), done-value _ _ (levels-done _ _ _ (c .before .before .before .depth .ensures) (c .before .n .given .1)))
 
--- src/lib.rt:68:1
 returns-2 : tie.Need-returns-2
 returns-2 c = (refused-status _ _ (levels-refused _ _ _ (c .before .before .before .depth .ensures) (c .before .n2 .given .1)), refused-value _ _ (levels-refused _ _ _ (c .before .before .before .depth .ensures) (c .before .n2 .given .1)))
 

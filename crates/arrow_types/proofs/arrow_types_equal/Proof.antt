@@ -5,17 +5,14 @@ use Rattle.arrow_types.proofs.arrow_types_equal.Statement.{statement}
 use Rattle.arrow_types.proofs.arrow_types_equal.Tie as tie
 use Rattle.arrow_types.proofs.arrow_types_equal.Reads as reads
 use Rattle.arrow_types.proofs.arrow_types_equal.Lts as lts
-use Rattle.datatype.proofs.equal_trees.Reads as equal-trees-reads
+use Rattle.row_table.proofs.equal_trees.Reads as equal-trees-reads
 
--- src/lib.rt:97:8
 equal-trees-requires : tie.Need-equal-trees-requires
 equal-trees-requires c κs = search needs
 
--- src/lib.rt:98:9
 returns : tie.Need-returns
 returns c = yes-flag _ _ (c .before .equal-trees .ensures) (c .if1 .taken)
 
--- src/lib.rt:86:1
 returns-2 : tie.Need-returns-2
 returns-2 c = no-flag _ _ (c .before .equal-trees .ensures) (c .if1 .left)
 

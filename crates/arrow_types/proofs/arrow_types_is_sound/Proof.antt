@@ -5,17 +5,14 @@ use Rattle.arrow_types.proofs.arrow_types_is_sound.Statement.{statement
 use Rattle.arrow_types.proofs.arrow_types_is_sound.Tie as tie
 use Rattle.arrow_types.proofs.arrow_types_is_sound.Reads as reads
 use Rattle.arrow_types.proofs.arrow_types_is_sound.Lts as lts
-use Rattle.datatype.proofs.is_sound.Reads as is-sound-reads
+use Rattle.row_table.proofs.is_sound.Reads as is-sound-reads
 
--- src/lib.rt:61:8
 is-sound-requires : tie.Need-is-sound-requires
 is-sound-requires c κs = search needs
 
--- src/lib.rt:62:9
 returns : tie.Need-returns
 returns c = yes-flag _ _ (c .before .is-sound .ensures) (c .if1 .taken)
 
--- src/lib.rt:57:1
 returns-2 : tie.Need-returns-2
 returns-2 c = no-flag _ _ (c .before .is-sound .ensures) (c .if1 .left)
 

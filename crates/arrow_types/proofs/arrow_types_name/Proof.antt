@@ -7,15 +7,12 @@ use Rattle.arrow_types.proofs.arrow_types_name.Reads as reads
 use Rattle.arrow_types.proofs.arrow_types_name.Lts as lts
 use Rattle.datatype.proofs.name.Reads as name-reads
 
--- src/lib.rt:77:9
 name-requires : tie.Need-name-requires
 name-requires c κs = search needs
 
--- src/lib.rt:81:9
 returns : tie.Need-returns
 returns c = not-named _ _ _ _ _ _ (c .before .name .ensures) (c .if1 .taken)
 
--- src/lib.rt:62:1
 returns-2 : tie.Need-returns-2
 returns-2 c = is-named _ _ _ _ _ _ (c .before .name .ensures) (c .if1 .left)
 

@@ -5,33 +5,26 @@ use Rattle.arrow_types.proofs.arrow_types_verdict.Statement.{statement}
 use Rattle.arrow_types.proofs.arrow_types_verdict.Tie as tie
 use Rattle.arrow_types.proofs.arrow_types_verdict.Reads as reads
 use Rattle.arrow_types.proofs.arrow_types_verdict.Lts as lts
-use Rattle.datatype.proofs.layout.verdict.Reads as verdict-reads
+use Rattle.row_table.proofs.layout.verdict.Reads as verdict-reads
 
--- src/lib.rt:120:11
 verdict-requires : tie.Need-verdict-requires
 verdict-requires c κs = search needs
 
--- src/lib.rt:122:13
 enum-told : tie.Need-enum-told
 enum-told c = search needs
 
--- src/lib.rt:125:22
 enum-known-i : tie.Need-enum-known-i
 enum-known-i c = search needs
 
--- src/lib.rt:129:26
 enum-known-n : tie.Need-enum-known-n
 enum-known-n c = search needs
 
--- src/lib.rt:106:1
 returns : tie.Need-returns
 returns c = verdict-yes _ _ (c .before .before .verdict .ensures) (c .enum-told .given .1)
 
--- src/lib.rt:106:1
 returns-2 : tie.Need-returns-2
 returns-2 c = verdict-row _ _ (c .before .before .before .verdict .ensures) _ (c .before .i .given .1)
 
--- src/lib.rt:106:1
 returns-3 : tie.Need-returns-3
 returns-3 c = verdict-refused _ _ (c .before .before .before .verdict .ensures) _ (c .before .n .given .1)
 

@@ -8,48 +8,38 @@ use Rattle.datatype_display.proofs.print_data_type.Statement.{statement
 use Rattle.datatype_display.proofs.print_data_type.Tie as tie
 use Rattle.datatype_display.proofs.print_data_type.Reads as reads
 use Rattle.datatype_display.proofs.print_data_type.Lts as lts
-use Rattle.datatype.proofs.is_sound.Reads as is-sound-reads
+use Rattle.row_table.proofs.is_sound.Reads as is-sound-reads
 use Rattle.datatype_display.proofs.ascii.ascii_tree.Reads as ascii-tree-reads
 use Rattle.datatype_display.proofs.display.put_tree.Reads as put-tree-reads
 use Rattle.datatype_display.proofs.display.tree_length.Reads as tree-length-reads
 
--- src/lib.rt:26:9
 is-sound-requires : tie.Need-is-sound-requires
 is-sound-requires c κs = search needs
 
--- src/lib.rt:27:9
 returns : tie.Need-returns
 returns c = prints-17 _ _ _ _ (sym (c .before .is-sound .ensures) ∙ not-true _ (c .if1 .taken))
 
--- src/lib.rt:29:9
 ascii-tree-requires : tie.Need-ascii-tree-requires
 ascii-tree-requires c κs = of-true _ (sym (c .before .is-sound .ensures) ∙ not-false _ (c .if1 .left))
 
--- src/lib.rt:30:9
 returns-2 : tie.Need-returns-2
 returns-2 c = prints-18 _ _ _ _ (sym (c .before .before .before .is-sound .ensures) ∙ not-false _ (c .before .before .if1 .left)) (sym (c .before .ascii-tree .ensures) ∙ not-true _ (c .if2 .taken))
 
--- src/lib.rt:32:9
 tree-length-requires : tie.Need-tree-length-requires
 tree-length-requires c κs = of-true _ (sym (c .before .before .before .is-sound .ensures) ∙ not-false _ (c .before .before .if1 .left))
 
--- src/lib.rt:34:9
 returns-3 : tie.Need-returns-3
 returns-3 c = prints-19-limit _ _ _ _ (sym (c .before .before .before .before .before .is-sound .ensures) ∙ not-false _ (c .before .before .before .before .if1 .left)) (sym (c .before .before .before .ascii-tree .ensures) ∙ not-false _ (c .before .before .if2 .left)) _ (c .before .tree-length .ensures) (c .if3 .taken)
 
--- src/lib.rt:37:9
 returns-4 : tie.Need-returns-4
 returns-4 c = prints-19-room _ _ _ _ (sym (c .before .before .before .before .before .before .is-sound .ensures) ∙ not-false _ (c .before .before .before .before .before .if1 .left)) (sym (c .before .before .before .before .ascii-tree .ensures) ∙ not-false _ (c .before .before .before .if2 .left)) _ (c .before .before .tree-length .ensures) (c .before .if3 .left) (c .if4 .taken)
 
--- src/lib.rt:39:5
 put-tree-requires : tie.Need-put-tree-requires
 put-tree-requires c κs = of-true _ (sym (c .before .before .before .before .before .before .before .is-sound .ensures) ∙ not-false _ (c .before .before .before .before .before .before .if1 .left))
 
--- src/lib.rt:22:1
 same-length : tie.Need-same-length
 same-length c = search needs
 
--- src/lib.rt:22:1
 returns-5 : tie.Need-returns-5
 returns-5 c = prints-text _ _ _ _ (sym (c .before .before .before .before .before .before .before .before .before .before .is-sound .ensures) ∙ not-false _ (c .before .before .before .before .before .before .before .before .before .if1 .left)) (sym (c .before .before .before .before .before .before .before .before .ascii-tree .ensures) ∙ not-false _ (c .before .before .before .before .before .before .before .if2 .left)) _ (c .before .before .before .before .before .before .tree-length .ensures) (c .before .before .before .before .before .if3 .left) (c .before .before .before .before .if4 .left) _ _ (c .before .before .put-tree .ensures)
 

@@ -14,35 +14,27 @@ Inv-loop rows₀ i₀ rows i = Cleared rows₀ rows i
 abbrev μ-loop : tie.MeasureT-loop
 μ-loop rows₀ i₀ rows i = length rows₀ - i
 
--- src/lib.rt:75:5
 loop-holds : tie.Need-loop-holds Inv-loop μ-loop
 loop-holds c = cleared-start _
 
--- src/lib.rt:76:9
 mul-rows : tie.Need-mul-rows Inv-loop μ-loop
 mul-rows c = search needs
 
--- src/lib.rt:76:9
 slice-write-rows : tie.Need-slice-write-rows Inv-loop μ-loop
 slice-write-rows c = search needs
 
--- src/lib.rt:77:9
 add-i : tie.Need-add-i Inv-loop μ-loop
 add-i c = search needs
 
--- src/lib.rt:75:5
 loop-less : tie.Need-loop-less Inv-loop μ-loop
 loop-less c = search needs
 
--- src/lib.rt:75:5
 loop-again : tie.Need-loop-again Inv-loop μ-loop
 loop-again c = cleared-more _ _ _ (c .before .loop .inv) (c .loop-test .taken)
 
--- src/lib.rt:71:1
 same-length : tie.Need-same-length Inv-loop μ-loop
 same-length c = cleared-length _ _ _ (c .before .loop .inv)
 
--- src/lib.rt:71:1
 returns : tie.Need-returns Inv-loop μ-loop
 returns c = cleared-all _ _ _ (c .before .loop .inv) (c .loop-test .left)
 

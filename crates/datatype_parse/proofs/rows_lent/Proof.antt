@@ -6,11 +6,9 @@ use Rattle.datatype_parse.proofs.rows_lent.Tie as tie
 use Rattle.datatype_parse.proofs.rows_lent.Reads as reads
 use Rattle.datatype_parse.proofs.rows_lent.Lts as lts
 
--- src/lib.rt:87:9
 returns : tie.Need-returns
 returns c = lent-whole _ (c .if1 .taken)
 
--- src/lib.rt:82:1
 returns-2 : tie.Need-returns-2
 returns-2 c = lent-most _ (c .if1 .left)
 

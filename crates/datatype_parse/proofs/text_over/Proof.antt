@@ -7,15 +7,12 @@ use Rattle.datatype_parse.proofs.text_over.Reads as reads
 use Rattle.datatype_parse.proofs.text_over.Lts as lts
 use Rattle.tokenizer.proofs.skip_spaces.Reads as skip-spaces-reads
 
--- src/lib.rt:96:8
 skip-spaces-requires : tie.Need-skip-spaces-requires
 skip-spaces-requires c κs = search needs
 
--- src/lib.rt:97:9
 returns : tie.Need-returns
 returns c = not-over _ _ _ (c .before .skip-spaces .ensures) (c .if1 .taken)
 
--- src/lib.rt:93:1
 returns-2 : tie.Need-returns-2
 returns-2 c = over-end _ _ _ (c .before .skip-spaces .ensures) (c .if1 .left)
 

@@ -14,35 +14,27 @@ Inv-loop input from i₀ i = Passed input from i
 abbrev μ-loop : tie.MeasureT-loop
 μ-loop input from i₀ i = length input - i
 
--- src/lib.rt:27:9
 returns : tie.Need-returns Inv-loop μ-loop
 returns c = past-end _ _ (c .if1 .taken)
 
--- src/lib.rt:30:5
 loop-holds : tie.Need-loop-holds Inv-loop μ-loop
 loop-holds c = passed-none _ _ (omega arith)
 
--- src/lib.rt:31:12
 shared-slice-read-if2 : tie.Need-shared-slice-read-if2 Inv-loop μ-loop
 shared-slice-read-if2 c = search needs
 
--- src/lib.rt:32:13
 returns-2 : tie.Need-returns-2 Inv-loop μ-loop
 returns-2 c = found _ _ _ (c .before .before .before .loop .inv) (omega arith) (c .if2 .taken)
 
--- src/lib.rt:34:9
 add-i : tie.Need-add-i Inv-loop μ-loop
 add-i c = search needs
 
--- src/lib.rt:30:5
 loop-less : tie.Need-loop-less Inv-loop μ-loop
 loop-less c = search needs
 
--- src/lib.rt:30:5
 loop-again : tie.Need-loop-again Inv-loop μ-loop
 loop-again c = passed-more _ _ _ (c .before .before .before .loop .inv) (omega arith) (c .if2 .left)
 
--- src/lib.rt:23:1
 returns-3 : tie.Need-returns-3 Inv-loop μ-loop
 returns-3 c = not-found _ _ _ (c .before .loop .inv) (c .loop-test .left)
 

@@ -14,63 +14,48 @@ Inv-loop input₀ rows₀ out₀ filled₀ p₀ turns₀ input rows out filled p
 abbrev μ-loop : tie.MeasureT-loop
 μ-loop input₀ rows₀ out₀ filled₀ p₀ turns₀ input rows out filled p turns = turns
 
--- src/main.rt:112:5
 loop-holds : tie.Need-loop-holds Inv-loop μ-loop
 loop-holds c = runs-start _ _ _ (c .before .before .before .pre .0) (c .before .before .before .pre .1)
 
--- src/main.rt:113:32
 take-turn-requires : tie.Need-take-turn-requires Inv-loop μ-loop
 take-turn-requires c κs = c .before .before .before .before .loop .inv .running
 
--- src/main.rt:113:24
 enum-known-n : tie.Need-enum-known-n Inv-loop μ-loop
 enum-known-n c = search needs
 
--- src/main.rt:114:13
 enum-told : tie.Need-enum-told Inv-loop μ-loop
 enum-told c = search needs
 
--- src/main.rt:114:13
 same-length : tie.Need-same-length Inv-loop μ-loop
 same-length c = c .before .before .before .before .before .before .before .before .take-turn .kept .0 ∙ c .before .before .before .before .before .before .before .before .before .before .before .before .before .loop .inv .reads
 
--- src/main.rt:114:13
 same-length-2 : tie.Need-same-length-2 Inv-loop μ-loop
 same-length-2 c = c .before .before .before .before .before .before .before .before .take-turn .kept .1 .1 .1 .0 ∙ c .before .before .before .before .before .before .before .before .before .before .before .before .before .loop .inv .words
 
--- src/main.rt:114:13
 same-length-3 : tie.Need-same-length-3 Inv-loop μ-loop
 same-length-3 c = c .before .before .before .before .before .before .before .before .take-turn .kept .1 .1 .1 .1 .0 ∙ c .before .before .before .before .before .before .before .before .before .before .before .before .before .loop .inv .bytes
 
--- src/main.rt:114:13
 returns : tie.Need-returns Inv-loop μ-loop
 returns c = tt
 
--- src/main.rt:118:9
 sub-turns : tie.Need-sub-turns Inv-loop μ-loop
 sub-turns c = omega arith
 
--- src/main.rt:112:5
 loop-less : tie.Need-loop-less Inv-loop μ-loop
 loop-less c = omega arith
 
--- src/main.rt:112:5
 loop-again : tie.Need-loop-again Inv-loop μ-loop
 loop-again c = runs-on _ _ _ _ _ _ _ _ (c .before .before .before .before .before .before .before .before .before .before .before .before .before .before .loop .inv) _ _ _ _ _ _ (c .before .before .before .before .before .before .before .before .before .take-turn .ensures) (c .before .n .given .1) (c .before .before .before .before .before .before .before .before .before .take-turn .kept .0) (c .before .before .before .before .before .before .before .before .before .take-turn .kept .1 .1 .1 .0) (c .before .before .before .before .before .before .before .before .before .take-turn .kept .1 .1 .1 .1 .0)
 
--- src/main.rt:102:1
 same-length-4 : tie.Need-same-length-4 Inv-loop μ-loop
 same-length-4 c = c .before .loop .inv .reads
 
--- src/main.rt:102:1
 same-length-5 : tie.Need-same-length-5 Inv-loop μ-loop
 same-length-5 c = c .before .loop .inv .words
 
--- src/main.rt:102:1
 same-length-6 : tie.Need-same-length-6 Inv-loop μ-loop
 same-length-6 c = c .before .loop .inv .bytes
 
--- src/main.rt:102:1
 returns-2 : tie.Need-returns-2 Inv-loop μ-loop
 returns-2 c = tt
 

@@ -10,87 +10,66 @@ use Rattle.type_lines.proofs.lines.answer_lines.Reads as answer-lines-r
 use Rattle.type_lines.proofs.lines.move_left.Reads as move-left-reads
 use Rattle.type_lines.proofs.refill.Reads as refill-reads
 
--- src/main.rt:80:33
 slice-reshare-prefix-answer-lines : tie.Need-slice-reshare-prefix-answer-lines
 slice-reshare-prefix-answer-lines c = search needs
 
--- src/main.rt:80:33
 slice-aggregate-answer-lines : tie.Need-slice-aggregate-answer-lines
 slice-aggregate-answer-lines c = counted _ _ (c .before .before .before .before .pre .fits)
 
--- src/main.rt:80:9
 answer-lines-requires : tie.Need-answer-lines-requires
 answer-lines-requires c κs = (c .before .before .before .before .before .before .pre .room, inside-filled _ _ _ _ _ (c .before .before .before .before .before .before .pre))
 
--- src/main.rt:84:17
 sub-if1 : tie.Need-sub-if1
 sub-if1 c = search needs
 
--- src/main.rt:85:13
 move-left-requires : tie.Need-move-left-requires
 move-left-requires c κs = (within-filled _ _ _ _ _ (c .before .before .before .before .before .before .before .before .before .before .before .before .before .pre) _ _ (c .before .before .before .before .before .before .answer-lines .ensures .0), c .before .before .before .before .before .before .before .before .before .before .before .before .before .pre .fits)
 
--- src/main.rt:86:9
 refill-requires : tie.Need-refill-requires
 refill-requires c κs = turn-left _ _ _ _ _ (c .before .before .before .before .before .before .before .before .before .before .before .before .before .before .before .before .before .before .before .pre) _ _ _ (c .before .before .before .before .before .before .before .before .before .before .before .before .answer-lines .ensures .0) (c .before .before .before .before .before .before .before .before .before .before .before .before .answer-lines .kept .1 .1 .0) (c .before .before .before .before .before .before .before .before .before .before .before .before .answer-lines .kept .1 .1 .1 .0) (c .before .before .before .before .before .before .before .before .before .before .before .before .answer-lines .ensures .1) (c .before .before .before .before .before .before .before .if1 .taken) _ _ (c .before .before .before .before .before .move-left .kept .0) (c .before .before .before .before .before .move-left .ensures)
 
--- src/main.rt:86:9
 same-length : tie.Need-same-length
 same-length c = search needs
 
--- src/main.rt:86:9
 same-length-2 : tie.Need-same-length-2
 same-length-2 c = search needs
 
--- src/main.rt:86:9
 same-length-3 : tie.Need-same-length-3
 same-length-3 c = search needs
 
--- src/main.rt:86:9
 returns : tie.Need-returns
 returns c = search needs
 
--- src/main.rt:88:14
 slice-reshare-prefix-flush : tie.Need-slice-reshare-prefix-flush
 slice-reshare-prefix-flush c = search needs
 
--- src/main.rt:88:14
 slice-aggregate-flush : tie.Need-slice-aggregate-flush
 slice-aggregate-flush c = counted _ _ (c .before .before .before .before .before .before .answer-lines .ensures .0 .inside .answers)
 
--- src/main.rt:88:8
 flush-requires : tie.Need-flush-requires
 flush-requires c κs = search needs
 
--- src/main.rt:89:9
 same-length-4 : tie.Need-same-length-4
 same-length-4 c = search needs
 
--- src/main.rt:89:9
 same-length-5 : tie.Need-same-length-5
 same-length-5 c = search needs
 
--- src/main.rt:89:9
 same-length-6 : tie.Need-same-length-6
 same-length-6 c = search needs
 
--- src/main.rt:89:9
 returns-2 : tie.Need-returns-2
 returns-2 c = turn-more _ _ _ _ _ (c .before .before .before .before .before .before .before .before .before .before .before .before .before .before .before .pre) _ _ _ (c .before .before .before .before .before .before .before .before .answer-lines .ensures .0) (c .before .before .before .before .before .before .before .before .answer-lines .kept .1 .1 .0) (c .before .before .before .before .before .before .before .before .answer-lines .kept .1 .1 .1 .0)
 
--- src/main.rt:76:1
 same-length-7 : tie.Need-same-length-7
 same-length-7 c = search needs
 
--- src/main.rt:76:1
 same-length-8 : tie.Need-same-length-8
 same-length-8 c = search needs
 
--- src/main.rt:76:1
 same-length-9 : tie.Need-same-length-9
 same-length-9 c = search needs
 
--- src/main.rt:76:1
 returns-3 : tie.Need-returns-3
 returns-3 c = ended _ _ _
 

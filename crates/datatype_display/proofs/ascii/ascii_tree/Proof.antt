@@ -1,5 +1,5 @@
 use Rattle.datatype_display.proofs.AsciiLaws.{tree-ascii, tree-is}
-use Rattle.datatype.proofs.LevelLaws.{depth-call}
+use Rattle.row_table.proofs.LevelLaws.{depth-call}
 use Rattle.tokenizer.proofs.Basics.{is-true}
 use borrow.Author.Needs.{needs}
 use Rattle.datatype_display.proofs.ascii.ascii_tree.Statement.{statement}

@@ -1,5 +1,5 @@
 use Rattle.datatype_display.proofs.AsciiLaws.{pair-none, pair-one, pair-two, pair-rooms}
-use Rattle.datatype.proofs.ChildLaws.{child-turn}
+use Rattle.row_table.proofs.ChildLaws.{child-turn}
 use native.Mathlib.Omega.{arith}
 use borrow.Author.Needs.{needs}
 use Rattle.datatype_display.proofs.ascii.quotes_pair.Statement.{statement}

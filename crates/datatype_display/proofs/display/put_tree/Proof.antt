@@ -8,15 +8,12 @@ use Rattle.datatype_display.proofs.display.put_tree.Reads as reads
 use Rattle.datatype_display.proofs.display.put_tree.Lts as lts
 use Rattle.datatype_display.proofs.display.put_type.Reads as put-type-reads
 
--- src/display.rt:55:5
 put-type-requires : tie.Need-put-type-requires
 put-type-requires c κs = tree-call _ _ _ (c .before .before .before .before .before .pre)
 
--- src/display.rt:51:1
 same-length : tie.Need-same-length
 same-length c = search needs
 
--- src/display.rt:51:1
 returns : tie.Need-returns
 returns c = put-as _ _ _ _ _ _ (tree-text _ _ _ (c .before .before .before .before .before .before .before .before .pre)) (c .before .before .put-type .ensures)
 

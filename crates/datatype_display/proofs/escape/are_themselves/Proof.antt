@@ -17,35 +17,27 @@ Inv-loop s i₀ i = All isItself s i
 abbrev μ-loop : tie.MeasureT-loop
 μ-loop s i₀ i = length s - i
 
--- src/escape.rt:88:5
 loop-holds : tie.Need-loop-holds Inv-loop μ-loop
 loop-holds c = all-start _ _
 
--- src/escape.rt:89:23
 shared-slice-read-is-itself : tie.Need-shared-slice-read-is-itself Inv-loop μ-loop
 shared-slice-read-is-itself c = search needs
 
--- src/escape.rt:89:13
 is-itself-requires : tie.Need-is-itself-requires Inv-loop μ-loop
 is-itself-requires c κs = search needs
 
--- src/escape.rt:90:13
 returns : tie.Need-returns Inv-loop μ-loop
 returns c = all-not _ _ _ (c .before .before .before .before .loop .inv) (c .before .before .before .loop-test .taken) _ (c .before .is-itself .ensures) (not-true _ (c .if1 .taken))
 
--- src/escape.rt:92:9
 add-i : tie.Need-add-i Inv-loop μ-loop
 add-i c = search needs
 
--- src/escape.rt:88:5
 loop-less : tie.Need-loop-less Inv-loop μ-loop
 loop-less c = search needs
 
--- src/escape.rt:88:5
 loop-again : tie.Need-loop-again Inv-loop μ-loop
 loop-again c = all-more _ _ _ (c .before .before .before .before .loop .inv) (c .before .before .before .loop-test .taken) _ (c .before .is-itself .ensures) (not-false _ (c .if1 .left))
 
--- src/escape.rt:84:1
 returns-2 : tie.Need-returns-2 Inv-loop μ-loop
 returns-2 c = all-end _ _ _ (c .before .loop .inv) (c .loop-test .left)
 

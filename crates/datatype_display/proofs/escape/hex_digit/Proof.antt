@@ -6,19 +6,15 @@ use Rattle.datatype_display.proofs.escape.hex_digit.Tie as tie
 use Rattle.datatype_display.proofs.escape.hex_digit.Reads as reads
 use Rattle.datatype_display.proofs.escape.hex_digit.Lts as lts
 
--- src/escape.rt:17:16
 add-result : tie.Need-add-result
 add-result c = search needs
 
--- src/escape.rt:17:9
 returns : tie.Need-returns
 returns c = hex-low _ (c .if1 .taken)
 
--- src/escape.rt:19:5
 add-result-2 : tie.Need-add-result-2
 add-result-2 c = search needs
 
--- src/escape.rt:12:1
 returns-2 : tie.Need-returns-2
 returns-2 c = hex-high _ (c .if1 .left)
 

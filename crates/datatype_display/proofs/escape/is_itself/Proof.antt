@@ -6,19 +6,15 @@ use Rattle.datatype_display.proofs.escape.is_itself.Tie as tie
 use Rattle.datatype_display.proofs.escape.is_itself.Reads as reads
 use Rattle.datatype_display.proofs.escape.is_itself.Lts as lts
 
--- src/escape.rt:72:9
 returns : tie.Need-returns
 returns c = itself-high _ (c .if1 .taken)
 
--- src/escape.rt:75:9
 returns-2 : tie.Need-returns-2
 returns-2 c = itself-middle _ (c .if2 .taken) (c .before .if1 .left)
 
--- src/escape.rt:78:9
 returns-3 : tie.Need-returns-3
 returns-3 c = itself-low _ (c .if3 .taken)
 
--- src/escape.rt:68:1
 returns-4 : tie.Need-returns-4
 returns-4 c = itself-first _ (c .if3 .left) (c .before .if2 .left)
 

@@ -7,19 +7,15 @@ use Rattle.datatype_display.proofs.escape.put_backslash.Reads as reads
 use Rattle.datatype_display.proofs.escape.put_backslash.Lts as lts
 use Rattle.datatype_display.proofs.write.put_byte.Reads as put-byte-reads
 
--- src/escape.rt:40:9
 put-byte-requires : tie.Need-put-byte-requires
 put-byte-requires c κs = search needs
 
--- src/escape.rt:41:5
 put-byte-requires-2 : tie.Need-put-byte-requires-2
 put-byte-requires-2 c κs = search needs
 
--- src/escape.rt:37:1
 same-length : tie.Need-same-length
 same-length c = search needs
 
--- src/escape.rt:37:1
 returns : tie.Need-returns
 returns c = put-then _ _ _ _ _ _ _ _ (c .before .before .before .before .before .before .put-byte .ensures) (c .before .before .put-byte2 .ensures)
 

@@ -9,31 +9,24 @@ use Rattle.datatype_display.proofs.escape.are_themselves.Reads as are-t
 use Rattle.datatype_display.proofs.escape.put_escaped.Reads as put-escaped-reads
 use Rattle.datatype_display.proofs.write.put.Reads as put-reads
 
--- src/escape.rt:114:8
 are-themselves-requires : tie.Need-are-themselves-requires
 are-themselves-requires c κs = search needs
 
--- src/escape.rt:115:9
 put-requires : tie.Need-put-requires
 put-requires c κs = search needs
 
--- src/escape.rt:115:9
 same-length : tie.Need-same-length
 same-length c = search needs
 
--- src/escape.rt:115:9
 returns : tie.Need-returns
 returns c = put-itself _ _ _ _ (c .before .before .before .before .before .are-themselves .ensures) (c .before .before .before .before .if1 .taken) _ _ (c .before .before .put .ensures)
 
--- src/escape.rt:117:5
 put-escaped-requires : tie.Need-put-escaped-requires
 put-escaped-requires c κs = search needs
 
--- src/escape.rt:111:1
 same-length-2 : tie.Need-same-length-2
 same-length-2 c = search needs
 
--- src/escape.rt:111:1
 returns-2 : tie.Need-returns-2
 returns-2 c = c .before .before .put-escaped .ensures
 

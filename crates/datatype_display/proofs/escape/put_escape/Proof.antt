@@ -11,115 +11,87 @@ use Rattle.datatype_display.proofs.escape.put_unicode.Reads as put-unic
 use Rattle.datatype_display.proofs.write.put.Reads as put-reads
 use Rattle.datatype_display.proofs.write.put_byte.Reads as put-byte-reads
 
--- src/escape.rt:49:29
 slice-aggregate-put : tie.Need-slice-aggregate-put
 slice-aggregate-put c = search needs
 
--- src/escape.rt:49:9
 put-requires : tie.Need-put-requires
 put-requires c κs = search needs
 
--- src/escape.rt:49:9
 same-length : tie.Need-same-length
 same-length c = search needs
 
--- src/escape.rt:49:9
 returns : tie.Need-returns
 returns c = put-as _ _ _ _ _ _ (escape-34 _ (c .before .before .before .before .before .if1 .taken)) (c .before .before .put .ensures)
 
--- src/escape.rt:52:9
 put-backslash-requires : tie.Need-put-backslash-requires
 put-backslash-requires c κs = search needs
 
--- src/escape.rt:52:9
 same-length-2 : tie.Need-same-length-2
 same-length-2 c = search needs
 
--- src/escape.rt:52:9
 returns-2 : tie.Need-returns-2
 returns-2 c = put-as _ _ _ _ _ _ (escape-92 _ (c .before .before .before .before .if2 .taken)) (c .before .before .put-backslash .ensures)
 
--- src/escape.rt:55:9
 put-backslash-requires-2 : tie.Need-put-backslash-requires-2
 put-backslash-requires-2 c κs = search needs
 
--- src/escape.rt:55:9
 same-length-3 : tie.Need-same-length-3
 same-length-3 c = search needs
 
--- src/escape.rt:55:9
 returns-3 : tie.Need-returns-3
 returns-3 c = put-as _ _ _ _ _ _ (escape-0 _ (c .before .before .before .before .if3 .taken)) (c .before .before .put-backslash2 .ensures)
 
--- src/escape.rt:58:9
 put-backslash-requires-3 : tie.Need-put-backslash-requires-3
 put-backslash-requires-3 c κs = search needs
 
--- src/escape.rt:58:9
 same-length-4 : tie.Need-same-length-4
 same-length-4 c = search needs
 
--- src/escape.rt:58:9
 returns-4 : tie.Need-returns-4
 returns-4 c = put-as _ _ _ _ _ _ (escape-9 _ (c .before .before .before .before .if4 .taken)) (c .before .before .put-backslash3 .ensures)
 
--- src/escape.rt:61:9
 put-backslash-requires-4 : tie.Need-put-backslash-requires-4
 put-backslash-requires-4 c κs = search needs
 
--- src/escape.rt:61:9
 same-length-5 : tie.Need-same-length-5
 same-length-5 c = search needs
 
--- src/escape.rt:61:9
 returns-5 : tie.Need-returns-5
 returns-5 c = put-as _ _ _ _ _ _ (escape-13 _ (c .before .before .before .before .if5 .taken)) (c .before .before .put-backslash4 .ensures)
 
--- src/escape.rt:64:9
 put-backslash-requires-5 : tie.Need-put-backslash-requires-5
 put-backslash-requires-5 c κs = search needs
 
--- src/escape.rt:64:9
 same-length-6 : tie.Need-same-length-6
 same-length-6 c = search needs
 
--- src/escape.rt:64:9
 returns-6 : tie.Need-returns-6
 returns-6 c = put-as _ _ _ _ _ _ (escape-10 _ (c .before .before .before .before .if6 .taken)) (c .before .before .put-backslash5 .ensures)
 
--- src/escape.rt:67:9
 put-unicode-requires : tie.Need-put-unicode-requires
 put-unicode-requires c κs = search needs
 
--- src/escape.rt:67:9
 same-length-7 : tie.Need-same-length-7
 same-length-7 c = search needs
 
--- src/escape.rt:67:9
 returns-7 : tie.Need-returns-7
 returns-7 c = put-as _ _ _ _ _ _ (escape-low _ (c .before .before .before .before .before .before .before .before .before .before .if1 .left) (c .before .before .before .before .before .before .before .before .before .if2 .left) (c .before .before .before .before .before .before .before .before .if3 .left) (c .before .before .before .before .before .before .before .if4 .left) (c .before .before .before .before .before .before .if5 .left) (c .before .before .before .before .before .if6 .left) (c .before .before .before .before .if7 .taken)) (c .before .before .put-unicode .ensures)
 
--- src/escape.rt:70:9
 put-unicode-requires-2 : tie.Need-put-unicode-requires-2
 put-unicode-requires-2 c κs = search needs
 
--- src/escape.rt:70:9
 same-length-8 : tie.Need-same-length-8
 same-length-8 c = search needs
 
--- src/escape.rt:70:9
 returns-8 : tie.Need-returns-8
 returns-8 c = put-as _ _ _ _ _ _ (escape-127 _ (c .before .before .before .before .if8 .taken)) (c .before .before .put-unicode2 .ensures)
 
--- src/escape.rt:72:5
 put-byte-requires : tie.Need-put-byte-requires
 put-byte-requires c κs = search needs
 
--- src/escape.rt:45:1
 same-length-9 : tie.Need-same-length-9
 same-length-9 c = search needs
 
--- src/escape.rt:45:1
 returns-9 : tie.Need-returns-9
 returns-9 c = put-as _ _ _ _ _ _ (escape-rest _ (c .before .before .before .before .before .before .before .before .before .before .before .if1 .left) (c .before .before .before .before .before .before .before .before .before .before .if2 .left) (c .before .before .before .before .before .if7 .left) (c .before .before .before .before .if8 .left)) (c .before .before .put-byte .ensures)
 

@@ -17,35 +17,27 @@ Inv-loop out₀ at s next₀ i₀ out next i = Put out₀ at (escaped (take i s)
 abbrev μ-loop : tie.MeasureT-loop
 μ-loop out₀ at s next₀ i₀ out next i = length s - i
 
--- src/escape.rt:103:5
 loop-holds : tie.Need-loop-holds Inv-loop μ-loop
 loop-holds c = escaped-start _ _
 
--- src/escape.rt:104:38
 shared-slice-read-put-escape : tie.Need-shared-slice-read-put-escape Inv-loop μ-loop
 shared-slice-read-put-escape c = search needs
 
--- src/escape.rt:104:9
 put-escape-requires : tie.Need-put-escape-requires Inv-loop μ-loop
 put-escape-requires c κs = search needs
 
--- src/escape.rt:105:9
 add-i : tie.Need-add-i Inv-loop μ-loop
 add-i c = search needs
 
--- src/escape.rt:103:5
 loop-less : tie.Need-loop-less Inv-loop μ-loop
 loop-less c = search needs
 
--- src/escape.rt:103:5
 loop-again : tie.Need-loop-again Inv-loop μ-loop
 loop-again c = escaped-more _ _ _ _ _ _ _ _ (c .before .before .before .before .before .before .loop .inv) (c .before .before .before .before .before .loop-test .taken) (c .before .before .put-escape .ensures)
 
--- src/escape.rt:98:1
 same-length : tie.Need-same-length Inv-loop μ-loop
 same-length c = c .before .loop .inv .kept
 
--- src/escape.rt:98:1
 returns : tie.Need-returns Inv-loop μ-loop
 returns c = escaped-all _ _ _ _ _ _ (c .before .loop .inv) (c .loop-test .left)
 

@@ -8,23 +8,18 @@ use Rattle.datatype_display.proofs.escape.put_quoted.Lts as lts
 use Rattle.datatype_display.proofs.escape.put_between.Reads as put-between-reads
 use Rattle.datatype_display.proofs.write.put_byte.Reads as put-byte-reads
 
--- src/escape.rt:124:9
 put-byte-requires : tie.Need-put-byte-requires
 put-byte-requires c κs = search needs
 
--- src/escape.rt:125:9
 put-between-requires : tie.Need-put-between-requires
 put-between-requires c κs = search needs
 
--- src/escape.rt:126:5
 put-byte-requires-2 : tie.Need-put-byte-requires-2
 put-byte-requires-2 c κs = search needs
 
--- src/escape.rt:121:1
 same-length : tie.Need-same-length
 same-length c = search needs
 
--- src/escape.rt:121:1
 returns : tie.Need-returns
 returns c = put-marks _ _ _ _ _ _ _ _ _ (c .before .before .before .before .before .before .before .before .before .before .put-byte .ensures) (c .before .before .before .before .before .before .put-between .ensures) (c .before .before .put-byte2 .ensures)
 

@@ -9,59 +9,45 @@ use Rattle.datatype_display.proofs.escape.hex_digit.Reads as hex-digit-
 use Rattle.datatype_display.proofs.write.put.Reads as put-reads
 use Rattle.datatype_display.proofs.write.put_byte.Reads as put-byte-reads
 
--- src/escape.rt:26:29
 slice-aggregate-put : tie.Need-slice-aggregate-put
 slice-aggregate-put c = search needs
 
--- src/escape.rt:26:9
 put-requires : tie.Need-put-requires
 put-requires c κs = search needs
 
--- src/escape.rt:28:40
 hex-digit-requires : tie.Need-hex-digit-requires
 hex-digit-requires c κs = search needs
 
--- src/escape.rt:28:13
 put-byte-requires : tie.Need-put-byte-requires
 put-byte-requires c κs = search needs
 
--- src/escape.rt:29:9
 put-byte-requires-2 : tie.Need-put-byte-requires-2
 put-byte-requires-2 c κs = search needs
 
--- src/escape.rt:29:9
 same-length : tie.Need-same-length
 same-length c = search needs
 
--- src/escape.rt:29:9
 returns : tie.Need-returns
 returns c = unicode-low _ _ _ (c .before .before .before .before .before .before .before .before .before .if1 .taken) _ (c .before .before .before .before .before .before .before .hex-digit .ensures) _ _ _ _ _ _ (c .before .before .before .before .before .before .before .before .before .before .before .before .put .ensures) (c .before .before .before .before .before .before .put-byte .ensures) (c .before .before .put-byte2 .ensures)
 
--- src/escape.rt:31:36
 hex-digit-requires-2 : tie.Need-hex-digit-requires-2
 hex-digit-requires-2 c κs = search needs
 
--- src/escape.rt:31:9
 put-byte-requires-3 : tie.Need-put-byte-requires-3
 put-byte-requires-3 c κs = search needs
 
--- src/escape.rt:32:36
 hex-digit-requires-3 : tie.Need-hex-digit-requires-3
 hex-digit-requires-3 c κs = search needs
 
--- src/escape.rt:32:9
 put-byte-requires-4 : tie.Need-put-byte-requires-4
 put-byte-requires-4 c κs = search needs
 
--- src/escape.rt:33:5
 put-byte-requires-5 : tie.Need-put-byte-requires-5
 put-byte-requires-5 c κs = search needs
 
--- src/escape.rt:23:1
 same-length-2 : tie.Need-same-length-2
 same-length-2 c = search needs
 
--- src/escape.rt:23:1
 returns-2 : tie.Need-returns-2
 returns-2 c = unicode-high _ _ _ (c .before .before .before .before .before .before .before .before .before .before .before .before .before .before .if1 .left) _ _ (c .before .before .before .before .before .before .before .before .before .before .before .before .hex-digit2 .ensures) (c .before .before .before .before .before .before .before .hex-digit3 .ensures) _ _ _ _ _ _ _ _ (c .before .before .before .before .before .before .before .before .before .before .before .before .before .before .before .before .before .put .ensures) (c .before .before .before .before .before .before .before .before .before .before .before .put-byte3 .ensures) (c .before .before .before .before .before .before .put-byte4 .ensures) (c .before .before .put-byte5 .ensures)
 

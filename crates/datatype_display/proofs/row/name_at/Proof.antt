@@ -8,23 +8,18 @@ use Rattle.datatype_display.proofs.row.name_at.Lts as lts
 use Rattle.datatype.proofs.name.Reads as name-reads
 use Rattle.datatype_display.proofs.row.word.Reads as word-reads
 
--- src/row.rt:229:23
 word-requires : tie.Need-word-requires
 word-requires c κs = search needs
 
--- src/row.rt:229:44
 word-requires-2 : tie.Need-word-requires-2
 word-requires-2 c κs = search needs
 
--- src/row.rt:229:66
 word-requires-3 : tie.Need-word-requires-3
 word-requires-3 c κs = search needs
 
--- src/row.rt:229:5
 name-requires : tie.Need-name-requires
 name-requires c κs = search needs
 
--- src/row.rt:225:1
 returns : tie.Need-returns
 returns c = name-is _ _ _ _ _ _ _ _ (c .before .before .before .word .ensures) (c .before .before .word2 .ensures) (c .before .word3 .ensures) (c .name .ensures)
 

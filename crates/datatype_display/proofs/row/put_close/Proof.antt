@@ -13,98 +13,76 @@ use Rattle.datatype_display.proofs.words.put_sorted.Reads as put-sorted
 use Rattle.datatype_display.proofs.write.put.Reads as put-reads
 use Rattle.datatype_display.proofs.write.put_byte.Reads as put-byte-reads
 
--- src/row.rt:166:24
 enum-told : tie.Need-enum-told
 enum-told c = search needs
 
--- src/row.rt:167:29
 enum-told-2 : tie.Need-enum-told-2
 enum-told-2 c = search needs
 
--- src/row.rt:168:24
 enum-told-3 : tie.Need-enum-told-3
 enum-told-3 c = search needs
 
--- src/row.rt:169:28
 enum-told-4 : tie.Need-enum-told-4
 enum-told-4 c = search needs
 
--- src/row.rt:170:25
 enum-told-5 : tie.Need-enum-told-5
 enum-told-5 c = search needs
 
--- src/row.rt:171:27
 enum-told-6 : tie.Need-enum-told-6
 enum-told-6 c = search needs
 
--- src/row.rt:173:28
 enum-told-7 : tie.Need-enum-told-7
 enum-told-7 c = search needs
 
--- src/row.rt:173:37
 slice-aggregate-put : tie.Need-slice-aggregate-put
 slice-aggregate-put c = search needs
 
--- src/row.rt:173:17
 put-requires : tie.Need-put-requires
 put-requires c κs = search needs
 
--- src/row.rt:174:17
 put-sorted-requires : tie.Need-put-sorted-requires
 put-sorted-requires c κs = search needs
 
--- src/row.rt:175:13
 put-byte-requires : tie.Need-put-byte-requires
 put-byte-requires c κs = search needs
 
--- src/row.rt:177:14
 put-byte-requires-2 : tie.Need-put-byte-requires-2
 put-byte-requires-2 c κs = search needs
 
--- src/row.rt:162:1
 returns : tie.Need-returns
 unfolding closeText shapeMeans
 returns c = as-shape _ _ _ _ (λ s. closeText s (c .before .before .before .args .param)) S.Leaf _ (c .enum-told .given .1) (put-none _ _)
 
--- src/row.rt:162:1
 returns-2 : tie.Need-returns-2
 unfolding closeText shapeMeans
 returns-2 c = as-shape _ _ _ _ (λ s. closeText s (c .before .before .before .args .param)) S.Timestamp _ (c .enum-told2 .given .1) (put-none _ _)
 
--- src/row.rt:162:1
 returns-3 : tie.Need-returns-3
 unfolding closeText shapeMeans
 returns-3 c = as-shape _ _ _ _ (λ s. closeText s (c .before .before .before .args .param)) S.Time _ (c .enum-told3 .given .1) (put-none _ _)
 
--- src/row.rt:162:1
 returns-4 : tie.Need-returns-4
 unfolding closeText shapeMeans
 returns-4 c = as-shape _ _ _ _ (λ s. closeText s (c .before .before .before .args .param)) S.Interval _ (c .enum-told4 .given .1) (put-none _ _)
 
--- src/row.rt:162:1
 returns-5 : tie.Need-returns-5
 unfolding closeText shapeMeans
 returns-5 c = as-shape _ _ _ _ (λ s. closeText s (c .before .before .before .args .param)) S.Fixed _ (c .enum-told5 .given .1) (put-none _ _)
 
--- src/row.rt:162:1
 returns-6 : tie.Need-returns-6
 unfolding closeText shapeMeans
 returns-6 c = as-shape _ _ _ _ (λ s. closeText s (c .before .before .before .args .param)) S.Decimal _ (c .enum-told6 .given .1) (put-none _ _)
 
--- src/row.rt:162:1
 same-length : tie.Need-same-length
 same-length c = search needs
 
--- src/row.rt:162:1
 returns-7 : tie.Need-returns-7
 unfolding closeText shapeMeans
 returns-7 c = as-shape _ _ _ _ (λ s. closeText s (c .before .before .before .before .before .before .before .before .before .before .before .before .before .before .before .before .args .param)) S.Map _ (c .before .before .before .before .before .before .before .before .before .before .before .before .before .enum-told7 .given .1) (put-then _ _ _ _ _ _ _ _ (c .before .before .before .before .before .before .before .before .before .before .put .ensures) (put-then _ _ _ _ _ _ _ _ (c .before .before .before .before .before .before .put-sorted .ensures) (c .before .before .put-byte .ensures)))
 
--- src/row.rt:162:1
 same-length-2 : tie.Need-same-length-2
 same-length-2 c = search needs
 
--- src/row.rt:162:1
 returns-8 : tie.Need-returns-8
 returns-8 c = put-as _ _ _ _ _ _ (closed _ _ (c .before .before .before .before .match .keys8)) (c .before .before .put-byte2 .ensures)
 

@@ -9,23 +9,18 @@ use Rattle.datatype_display.proofs.row.put_comma.Reads as reads
 use Rattle.datatype_display.proofs.row.put_comma.Lts as lts
 use Rattle.datatype_display.proofs.write.put.Reads as put-reads
 
--- src/row.rt:173:9
 returns : tie.Need-returns
 returns c = put-as _ _ _ _ _ _ (ap comma (sym (c .if1 .taken))) (put-none _ _)
 
--- src/row.rt:175:18
 slice-aggregate-put : tie.Need-slice-aggregate-put
 slice-aggregate-put c = search needs
 
--- src/row.rt:175:5
 put-requires : tie.Need-put-requires
 put-requires c κs = search needs
 
--- src/row.rt:169:1
 same-length : tie.Need-same-length
 same-length c = search needs
 
--- src/row.rt:169:1
 returns-2 : tie.Need-returns-2
 returns-2 c = put-as _ _ _ _ _ _ (ap comma (sym (c .before .before .before .before .before .if1 .left))) (c .before .before .put .ensures)
 

@@ -11,31 +11,24 @@ use Rattle.datatype_display.proofs.write.put.Reads as put-reads
 use Rattle.datatype_display.proofs.write.put_byte.Reads as put-byte-reads
 use Rattle.datatype_display.proofs.write.put_digits.Reads as put-digits-reads
 
--- src/row.rt:82:9
 put-digits-requires : tie.Need-put-digits-requires
 put-digits-requires c κs = search needs
 
--- src/row.rt:83:31
 slice-aggregate-put : tie.Need-slice-aggregate-put
 slice-aggregate-put c = search needs
 
--- src/row.rt:83:9
 put-requires : tie.Need-put-requires
 put-requires c κs = search needs
 
--- src/row.rt:84:9
 put-scale-requires : tie.Need-put-scale-requires
 put-scale-requires c κs = search needs
 
--- src/row.rt:85:5
 put-byte-requires : tie.Need-put-byte-requires
 put-byte-requires c κs = search needs
 
--- src/row.rt:79:1
 same-length : tie.Need-same-length
 same-length c = search needs
 
--- src/row.rt:79:1
 returns : tie.Need-returns
 unfolding paramsText openText
 returns c = put-then _ _ _ _ _ _ _ _ (c .before .before .before .before .before .before .before .before .before .before .before .before .before .before .before .put-digits .ensures) (put-then _ _ _ _ _ _ _ _ (c .before .before .before .before .before .before .before .before .before .before .put .ensures) (put-then _ _ _ _ _ _ _ _ (c .before .before .before .before .before .before .put-scale .ensures) (c .before .before .put-byte .ensures)))

@@ -10,43 +10,33 @@ use Rattle.datatype_display.proofs.row.word.Reads as word-reads
 use Rattle.datatype_display.proofs.shape.shape_of.Reads as shape-of-reads
 use Rattle.datatype_display.proofs.words.put_kind.Reads as put-kind-reads
 
--- src/row.rt:144:9
 word-requires : tie.Need-word-requires
 word-requires c κs = search needs
 
--- src/row.rt:145:9
 put-kind-requires : tie.Need-put-kind-requires
 put-kind-requires c κs = search needs
 
--- src/row.rt:146:9
 word-requires-2 : tie.Need-word-requires-2
 word-requires-2 c κs = search needs
 
--- src/row.rt:147:9
 word-requires-3 : tie.Need-word-requires-3
 word-requires-3 c κs = search needs
 
--- src/row.rt:148:9
 word-requires-4 : tie.Need-word-requires-4
 word-requires-4 c κs = search needs
 
--- src/row.rt:149:9
 word-requires-5 : tie.Need-word-requires-5
 word-requires-5 c κs = search needs
 
--- src/row.rt:150:20
 shape-of-requires : tie.Need-shape-of-requires
 shape-of-requires c κs = search needs
 
--- src/row.rt:150:5
 put-open-requires : tie.Need-put-open-requires
 put-open-requires c κs = search needs
 
--- src/row.rt:140:1
 same-length : tie.Need-same-length
 same-length c = search needs
 
--- src/row.rt:140:1
 returns : tie.Need-returns
 returns c = put-head-is _ _ _ _ _ _ (c .before .before .before .before .before .before .before .before .before .before .before .before .before .word .ensures) _ (c .before .before .before .before .before .before .before .before .word2 .ensures) _ (c .before .before .before .before .before .before .before .word3 .ensures) _ (c .before .before .before .before .before .before .word4 .ensures) _ (c .before .before .before .before .before .word5 .ensures) _ (c .before .before .before .before .shape-of .ensures) _ _ _ _ (c .before .before .before .before .before .before .before .before .before .before .before .put-kind .ensures) (c .before .before .put-open .ensures)
 

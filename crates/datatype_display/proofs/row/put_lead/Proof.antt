@@ -11,35 +11,27 @@ use Rattle.datatype_display.proofs.row.put_nullability.Reads as put-nul
 use Rattle.datatype_display.proofs.row.put_separator.Reads as put-separator-reads
 use Rattle.datatype_display.proofs.row.word.Reads as word-reads
 
--- src/row.rt:257:46
 word-requires : tie.Need-word-requires
 word-requires c κs = search needs
 
--- src/row.rt:257:9
 put-separator-requires : tie.Need-put-separator-requires
 put-separator-requires c κs = search needs
 
--- src/row.rt:258:34
 name-at-requires : tie.Need-name-at-requires
 name-at-requires c κs = search needs
 
--- src/row.rt:258:9
 put-name-requires : tie.Need-put-name-requires
 put-name-requires c κs = search needs
 
--- src/row.rt:259:21
 word-requires-2 : tie.Need-word-requires-2
 word-requires-2 c κs = search needs
 
--- src/row.rt:259:5
 put-nullability-requires : tie.Need-put-nullability-requires
 put-nullability-requires c κs = search needs
 
--- src/row.rt:243:1
 same-length : tie.Need-same-length
 same-length c = search needs
 
--- src/row.rt:243:1
 returns : tie.Need-returns
 returns c = put-lead-is _ _ _ _ _ _ _ _ _ _ (c .before .before .before .before .before .before .before .before .before .before .before .before .before .before .word .ensures) _ (c .before .before .before .before .before .before .before .before .before .name-at .ensures) _ (c .before .before .before .before .word2 .ensures) _ _ _ _ _ _ (c .before .before .before .before .before .before .before .before .before .before .before .before .put-separator .ensures) (c .before .before .before .before .before .before .before .put-name .ensures) (c .before .before .put-nullability .ensures)
 

@@ -10,39 +10,30 @@ use Rattle.datatype.proofs.equal_bytes.Reads as equal-bytes-reads
 use Rattle.datatype_display.proofs.write.put.Reads as put-reads
 use Rattle.datatype_display.proofs.write.put_byte.Reads as put-byte-reads
 
--- src/row.rt:256:23
 slice-aggregate-equal-bytes : tie.Need-slice-aggregate-equal-bytes
 slice-aggregate-equal-bytes c = search needs
 
--- src/row.rt:256:8
 equal-bytes-requires : tie.Need-equal-bytes-requires
 equal-bytes-requires c κs = search needs
 
--- src/row.rt:257:9
 returns : tie.Need-returns
 returns c = put-as _ _ _ _ _ _ (name-item _ _ (c .before .equal-bytes .ensures) (c .if1 .taken)) (put-none _ _)
 
--- src/row.rt:259:29
 slice-aggregate-put : tie.Need-slice-aggregate-put
 slice-aggregate-put c = search needs
 
--- src/row.rt:259:9
 put-requires : tie.Need-put-requires
 put-requires c κs = search needs
 
--- src/row.rt:260:9
 put-requires-2 : tie.Need-put-requires-2
 put-requires-2 c κs = search needs
 
--- src/row.rt:261:5
 put-byte-requires : tie.Need-put-byte-requires
 put-byte-requires c κs = search needs
 
--- src/row.rt:253:1
 same-length : tie.Need-same-length
 same-length c = search needs
 
--- src/row.rt:253:1
 returns-2 : tie.Need-returns-2
 returns-2 c = name-other _ _ _ _ (c .before .before .before .before .before .before .before .before .before .before .before .before .before .before .equal-bytes .ensures) (c .before .before .before .before .before .before .before .before .before .before .before .before .before .if1 .left) _ _ _ _ _ _ (c .before .before .before .before .before .before .before .before .before .before .put .ensures) (c .before .before .before .before .before .before .put2 .ensures) (c .before .before .put-byte .ensures)
 

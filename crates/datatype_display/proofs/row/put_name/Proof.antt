@@ -10,28 +10,22 @@ use Rattle.datatype_display.proofs.row.put_name.Lts as lts
 use Rattle.datatype_display.proofs.escape.put_quoted.Reads as put-quoted-reads
 use Rattle.datatype_display.proofs.write.put.Reads as put-reads
 
--- src/row.rt:218:13
 put-quoted-requires : tie.Need-put-quoted-requires
 put-quoted-requires c κs = search needs
 
--- src/row.rt:219:31
 slice-aggregate-put : tie.Need-slice-aggregate-put
 slice-aggregate-put c = search needs
 
--- src/row.rt:219:9
 put-requires : tie.Need-put-requires
 put-requires c κs = search needs
 
--- src/row.rt:219:9
 same-length : tie.Need-same-length
 same-length c = search needs
 
--- src/row.rt:219:9
 returns : tie.Need-returns
 unfolding nameText
 returns c = put-as-name _ _ _ _ _ _ _ (c .before .before .before .before .before .before .before .before .before .if1 .taken) (put-then _ _ _ _ _ _ _ _ (c .before .before .before .before .before .before .before .put-quoted .ensures) (c .before .before .put .ensures))
 
--- src/row.rt:214:1
 returns-2 : tie.Need-returns-2
 unfolding nameText
 returns-2 c = put-as-name _ _ _ _ _ _ _ (c .if1 .left) (put-none _ _)

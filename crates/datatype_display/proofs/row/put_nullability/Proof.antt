@@ -8,23 +8,18 @@ use Rattle.datatype_display.proofs.row.put_nullability.Reads as reads
 use Rattle.datatype_display.proofs.row.put_nullability.Lts as lts
 use Rattle.datatype_display.proofs.write.put.Reads as put-reads
 
--- src/row.rt:219:29
 slice-aggregate-put : tie.Need-slice-aggregate-put
 slice-aggregate-put c = search needs
 
--- src/row.rt:219:9
 put-requires : tie.Need-put-requires
 put-requires c κs = search needs
 
--- src/row.rt:219:9
 same-length : tie.Need-same-length
 same-length c = search needs
 
--- src/row.rt:219:9
 returns : tie.Need-returns
 returns c = put-as _ _ _ _ _ _ (non-null _ (c .before .before .before .before .before .if1 .taken)) (c .before .before .put .ensures)
 
--- src/row.rt:215:1
 returns-2 : tie.Need-returns-2
 returns-2 c = put-as _ _ _ _ _ _ (nullable _ (c .if1 .left)) (put-none _ _)
 

@@ -13,28 +13,22 @@ use Rattle.datatype_display.proofs.row.put_open.Lts as lts
 use Rattle.datatype_display.proofs.row.put_params.Reads as put-params-reads
 use Rattle.datatype_display.proofs.write.put_byte.Reads as put-byte-reads
 
--- src/row.rt:139:24
 enum-told : tie.Need-enum-told
 enum-told c = search needs
 
--- src/row.rt:141:17
 put-byte-requires : tie.Need-put-byte-requires
 put-byte-requires c κs = search needs
 
--- src/row.rt:142:13
 put-params-requires : tie.Need-put-params-requires
 put-params-requires c κs = search needs
 
--- src/row.rt:126:1
 returns : tie.Need-returns
 unfolding openText shapeMeans
 returns c = as-shape _ _ _ _ (λ s. openText s (c .before .before .before .before .args .param) (c .before .before .before .before .args .scale) (zoneOf (c .before .before .before .before .args .text .now) (c .before .before .before .before .args .start) (c .before .before .before .before .args .size))) S.Leaf _ (c .enum-told .given .1) (put-none _ _)
 
--- src/row.rt:126:1
 same-length : tie.Need-same-length
 same-length c = search needs
 
--- src/row.rt:126:1
 returns-2 : tie.Need-returns-2
 returns-2 c = put-as _ _ _ _ _ _ (opened _ _ _ _ (c .before .before .before .before .before .before .before .before .match .keys2)) (put-then _ _ _ _ _ _ _ _ (c .before .before .before .before .before .before .put-byte .ensures) (c .before .before .put-params .ensures))
 

@@ -12,167 +12,129 @@ use Rattle.datatype_display.proofs.row.put_comma.Reads as put-comma-rea
 use Rattle.datatype_display.proofs.write.put.Reads as put-reads
 use Rattle.datatype_display.proofs.write.put_digits.Reads as put-digits-reads
 
--- src/row.rt:183:43
 enum-told : tie.Need-enum-told
 enum-told c = search needs
 
--- src/row.rt:183:26
 put-comma-requires : tie.Need-put-comma-requires
 put-comma-requires c κs = search needs
 
--- src/row.rt:185:28
 enum-told-2 : tie.Need-enum-told-2
 enum-told-2 c = search needs
 
--- src/row.rt:185:37
 slice-aggregate-put : tie.Need-slice-aggregate-put
 slice-aggregate-put c = search needs
 
--- src/row.rt:185:17
 put-requires : tie.Need-put-requires
 put-requires c κs = search needs
 
--- src/row.rt:186:17
 put-digits-requires : tie.Need-put-digits-requires
 put-digits-requires c κs = search needs
 
--- src/row.rt:187:28
 slice-aggregate-put-2 : tie.Need-slice-aggregate-put-2
 slice-aggregate-put-2 c = search needs
 
--- src/row.rt:187:13
 put-requires-2 : tie.Need-put-requires-2
 put-requires-2 c κs = search needs
 
--- src/row.rt:189:47
 enum-told-3 : tie.Need-enum-told-3
 enum-told-3 c = search needs
 
--- src/row.rt:189:30
 put-comma-requires-2 : tie.Need-put-comma-requires-2
 put-comma-requires-2 c κs = search needs
 
--- src/row.rt:190:44
 enum-told-4 : tie.Need-enum-told-4
 enum-told-4 c = search needs
 
--- src/row.rt:190:27
 put-comma-requires-3 : tie.Need-put-comma-requires-3
 put-comma-requires-3 c κs = search needs
 
--- src/row.rt:191:24
 enum-told-5 : tie.Need-enum-told-5
 enum-told-5 c = search needs
 
--- src/row.rt:192:29
 enum-told-6 : tie.Need-enum-told-6
 enum-told-6 c = search needs
 
--- src/row.rt:193:24
 enum-told-7 : tie.Need-enum-told-7
 enum-told-7 c = search needs
 
--- src/row.rt:194:28
 enum-told-8 : tie.Need-enum-told-8
 enum-told-8 c = search needs
 
--- src/row.rt:195:25
 enum-told-9 : tie.Need-enum-told-9
 enum-told-9 c = search needs
 
--- src/row.rt:196:24
 enum-told-10 : tie.Need-enum-told-10
 enum-told-10 c = search needs
 
--- src/row.rt:197:29
 enum-told-11 : tie.Need-enum-told-11
 enum-told-11 c = search needs
 
--- src/row.rt:198:27
 enum-told-12 : tie.Need-enum-told-12
 enum-told-12 c = search needs
 
--- src/row.rt:199:23
 enum-told-13 : tie.Need-enum-told-13
 enum-told-13 c = search needs
 
--- src/row.rt:179:1
 same-length : tie.Need-same-length
 same-length c = search needs
 
--- src/row.rt:179:1
 returns : tie.Need-returns
 unfolding separator shapeMeans
 returns c = as-shape _ _ _ _ (λ s. separator s (c .before .before .before .before .before .before .before .args .first) (c .before .before .before .before .before .before .before .args .id)) S.Struct _ (c .before .before .before .before .enum-told .given .1) (c .before .before .put-comma .ensures)
 
--- src/row.rt:179:1
 same-length-2 : tie.Need-same-length-2
 same-length-2 c = search needs
 
--- src/row.rt:179:1
 returns-2 : tie.Need-returns-2
 unfolding separator shapeMeans
 returns-2 c = as-shape _ _ _ _ (λ s. separator s (c .before .before .before .before .before .before .before .before .before .before .before .before .before .before .before .before .before .args .first) (c .before .before .before .before .before .before .before .before .before .before .before .before .before .before .before .before .before .args .id)) S.Union _ (c .before .before .before .before .before .before .before .before .before .before .before .before .before .before .enum-told2 .given .1) (put-then _ _ _ _ _ _ _ _ (c .before .before .before .before .before .before .before .before .before .before .before .put .ensures) (put-then _ _ _ _ _ _ _ _ (c .before .before .before .before .before .before .before .put-digits .ensures) (c .before .before .put2 .ensures)))
 
--- src/row.rt:179:1
 same-length-3 : tie.Need-same-length-3
 same-length-3 c = search needs
 
--- src/row.rt:179:1
 returns-3 : tie.Need-returns-3
 unfolding separator shapeMeans
 returns-3 c = as-shape _ _ _ _ (λ s. separator s (c .before .before .before .before .before .before .before .args .first) (c .before .before .before .before .before .before .before .args .id)) S.Dictionary _ (c .before .before .before .before .enum-told3 .given .1) (c .before .before .put-comma2 .ensures)
 
--- src/row.rt:179:1
 same-length-4 : tie.Need-same-length-4
 same-length-4 c = search needs
 
--- src/row.rt:179:1
 returns-4 : tie.Need-returns-4
 unfolding separator shapeMeans
 returns-4 c = as-shape _ _ _ _ (λ s. separator s (c .before .before .before .before .before .before .before .args .first) (c .before .before .before .before .before .before .before .args .id)) S.RunEnds _ (c .before .before .before .before .enum-told4 .given .1) (c .before .before .put-comma3 .ensures)
 
--- src/row.rt:179:1
 returns-5 : tie.Need-returns-5
 unfolding separator shapeMeans
 returns-5 c = as-shape _ _ _ _ (λ s. separator s (c .before .before .before .args .first) (c .before .before .before .args .id)) S.Leaf _ (c .enum-told5 .given .1) (put-none _ _)
 
--- src/row.rt:179:1
 returns-6 : tie.Need-returns-6
 unfolding separator shapeMeans
 returns-6 c = as-shape _ _ _ _ (λ s. separator s (c .before .before .before .args .first) (c .before .before .before .args .id)) S.Timestamp _ (c .enum-told6 .given .1) (put-none _ _)
 
--- src/row.rt:179:1
 returns-7 : tie.Need-returns-7
 unfolding separator shapeMeans
 returns-7 c = as-shape _ _ _ _ (λ s. separator s (c .before .before .before .args .first) (c .before .before .before .args .id)) S.Time _ (c .enum-told7 .given .1) (put-none _ _)
 
--- src/row.rt:179:1
 returns-8 : tie.Need-returns-8
 unfolding separator shapeMeans
 returns-8 c = as-shape _ _ _ _ (λ s. separator s (c .before .before .before .args .first) (c .before .before .before .args .id)) S.Interval _ (c .enum-told8 .given .1) (put-none _ _)
 
--- src/row.rt:179:1
 returns-9 : tie.Need-returns-9
 unfolding separator shapeMeans
 returns-9 c = as-shape _ _ _ _ (λ s. separator s (c .before .before .before .args .first) (c .before .before .before .args .id)) S.Fixed _ (c .enum-told9 .given .1) (put-none _ _)
 
--- src/row.rt:179:1
 returns-10 : tie.Need-returns-10
 unfolding separator shapeMeans
 returns-10 c = as-shape _ _ _ _ (λ s. separator s (c .before .before .before .args .first) (c .before .before .before .args .id)) S.List _ (c .enum-told10 .given .1) (put-none _ _)
 
--- src/row.rt:179:1
 returns-11 : tie.Need-returns-11
 unfolding separator shapeMeans
 returns-11 c = as-shape _ _ _ _ (λ s. separator s (c .before .before .before .args .first) (c .before .before .before .args .id)) S.FixedList _ (c .enum-told11 .given .1) (put-none _ _)
 
--- src/row.rt:179:1
 returns-12 : tie.Need-returns-12
 unfolding separator shapeMeans
 returns-12 c = as-shape _ _ _ _ (λ s. separator s (c .before .before .before .args .first) (c .before .before .before .args .id)) S.Decimal _ (c .enum-told12 .given .1) (put-none _ _)
 
--- src/row.rt:179:1
 returns-13 : tie.Need-returns-13
 unfolding separator shapeMeans
 returns-13 c = as-shape _ _ _ _ (λ s. separator s (c .before .before .before .args .first) (c .before .before .before .args .id)) S.Map _ (c .enum-told13 .given .1) (put-none _ _)

@@ -10,23 +10,18 @@ use Rattle.datatype_display.proofs.row.put_zone.Reads as put-zone-reads
 use Rattle.datatype_display.proofs.words.put_unit.Reads as put-unit-reads
 use Rattle.datatype_display.proofs.write.put_byte.Reads as put-byte-reads
 
--- src/row.rt:73:9
 put-unit-requires : tie.Need-put-unit-requires
 put-unit-requires c κs = search needs
 
--- src/row.rt:74:9
 put-zone-requires : tie.Need-put-zone-requires
 put-zone-requires c κs = search needs
 
--- src/row.rt:75:5
 put-byte-requires : tie.Need-put-byte-requires
 put-byte-requires c κs = search needs
 
--- src/row.rt:70:1
 same-length : tie.Need-same-length
 same-length c = search needs
 
--- src/row.rt:70:1
 returns : tie.Need-returns
 unfolding paramsText openText
 returns c = put-then _ _ _ _ _ _ _ _ (c .before .before .before .before .before .before .before .before .before .before .put-unit .ensures) (put-then _ _ _ _ _ _ _ _ (c .before .before .before .before .before .before .put-zone .ensures) (c .before .before .put-byte .ensures))

@@ -15,40 +15,31 @@ use Rattle.datatype_display.proofs.row.name_at.Reads as name-at-reads
 use Rattle.datatype_display.proofs.row.put_list_name.Reads as put-list-name-reads
 use Rattle.datatype_display.proofs.write.put_byte.Reads as put-byte-reads
 
--- src/row.rt:297:57
 name-at-requires : tie.Need-name-at-requires
 name-at-requires c κs = search needs
 
--- src/row.rt:297:43
 put-list-name-requires : tie.Need-put-list-name-requires
 put-list-name-requires c κs = search needs
 
--- src/row.rt:298:34
 enum-told : tie.Need-enum-told
 enum-told c = search needs
 
--- src/row.rt:298:25
 put-byte-requires : tie.Need-put-byte-requires
 put-byte-requires c κs = search needs
 
--- src/row.rt:284:1
 same-length : tie.Need-same-length
 same-length c = search needs
 
--- src/row.rt:284:1
 returns : tie.Need-returns
 returns c = put-as _ _ _ _ _ _ (ap listNameText (c .before .before .before .before .name-at .ensures) ∙ trail-list _ _ (c .before .before .before .before .before .match .keys1)) (c .before .before .put-list-name .ensures)
 
--- src/row.rt:284:1
 same-length-2 : tie.Need-same-length-2
 same-length-2 c = search needs
 
--- src/row.rt:284:1
 returns-2 : tie.Need-returns-2
 unfolding trailText shapeMeans
 returns-2 c = as-shape _ _ _ _ (λ s. trailText s ((labelAt (c .before .before .before .before .before .before .before .before .before .before .args .text .now) (c .before .before .before .before .before .before .before .before .before .before .args .names .now) (c .before .before .before .before .before .before .before .before .before .before .args .rows .now) (c .before .before .before .before .before .before .before .before .before .before .args .i)) .name)) S.Union _ (c .before .before .before .before .enum-told .given .1) (c .before .before .put-byte .ensures)
 
--- src/row.rt:284:1
 returns-3 : tie.Need-returns-3
 returns-3 c = put-as _ _ _ _ _ _ (trail-none _ _ (c .match .keys3)) (put-none _ _)
 

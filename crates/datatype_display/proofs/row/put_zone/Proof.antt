@@ -9,31 +9,24 @@ use Rattle.datatype.proofs.zone.Reads as zone-reads
 use Rattle.datatype_display.proofs.escape.put_quoted.Reads as put-quoted-reads
 use Rattle.datatype_display.proofs.write.put.Reads as put-reads
 
--- src/row.rt:61:9
 zone-requires : tie.Need-zone-requires
 zone-requires c κs = search needs
 
--- src/row.rt:63:9
 returns : tie.Need-returns
 returns c = put-no-zone _ _ _ _ (c .before .zone .ensures) (c .if1 .taken)
 
--- src/row.rt:65:29
 slice-aggregate-put : tie.Need-slice-aggregate-put
 slice-aggregate-put c = search needs
 
--- src/row.rt:65:9
 put-requires : tie.Need-put-requires
 put-requires c κs = search needs
 
--- src/row.rt:66:5
 put-quoted-requires : tie.Need-put-quoted-requires
 put-quoted-requires c κs = search needs
 
--- src/row.rt:58:1
 same-length : tie.Need-same-length
 same-length c = search needs
 
--- src/row.rt:58:1
 returns-2 : tie.Need-returns-2
 returns-2 c = put-some-zone _ _ _ _ (c .before .before .before .before .before .before .before .before .before .before .zone .ensures) (c .before .before .before .before .before .before .before .before .before .if1 .left) _ _ _ _ (c .before .before .before .before .before .before .put .ensures) (c .before .before .put-quoted .ensures)
 

@@ -9,107 +9,86 @@ use Rattle.datatype_display.proofs.shape.shape_of.Tie as tie
 use Rattle.datatype_display.proofs.shape.shape_of.Reads as reads
 use Rattle.datatype_display.proofs.shape.shape_of.Lts as lts
 
--- src/shape.rt:23:1
 returns : tie.Need-returns
 unfolding shapeMeans shapeOf
 returns c = search needs
 
--- src/shape.rt:23:1
 returns-2 : tie.Need-returns-2
 unfolding shapeMeans shapeOf
 returns-2 c = search needs
 
--- src/shape.rt:23:1
 returns-3 : tie.Need-returns-3
 unfolding shapeMeans shapeOf
 returns-3 c = search needs
 
--- src/shape.rt:23:1
 returns-4 : tie.Need-returns-4
 unfolding shapeMeans shapeOf
 returns-4 c = search needs
 
--- src/shape.rt:23:1
 returns-5 : tie.Need-returns-5
 unfolding shapeMeans shapeOf
 returns-5 c = search needs
 
--- src/shape.rt:23:1
 returns-6 : tie.Need-returns-6
 unfolding shapeMeans shapeOf
 returns-6 c = search needs
 
--- src/shape.rt:23:1
 returns-7 : tie.Need-returns-7
 unfolding shapeMeans shapeOf
 returns-7 c = search needs
 
--- src/shape.rt:23:1
 returns-8 : tie.Need-returns-8
 unfolding shapeMeans shapeOf
 returns-8 c = search needs
 
--- src/shape.rt:23:1
 returns-9 : tie.Need-returns-9
 unfolding shapeMeans shapeOf
 returns-9 c = search needs
 
--- src/shape.rt:23:1
 returns-10 : tie.Need-returns-10
 unfolding shapeMeans shapeOf
 returns-10 c = search needs
 
--- src/shape.rt:23:1
 returns-11 : tie.Need-returns-11
 unfolding shapeMeans shapeOf
 returns-11 c = search needs
 
--- src/shape.rt:23:1
 returns-12 : tie.Need-returns-12
 unfolding shapeMeans shapeOf
 returns-12 c = search needs
 
--- src/shape.rt:23:1
 returns-13 : tie.Need-returns-13
 unfolding shapeMeans shapeOf
 returns-13 c = search needs
 
--- src/shape.rt:23:1
 returns-14 : tie.Need-returns-14
 unfolding shapeMeans shapeOf
 returns-14 c = search needs
 
--- src/shape.rt:23:1
 returns-15 : tie.Need-returns-15
 unfolding shapeMeans shapeOf
 returns-15 c = search needs
 
--- src/shape.rt:23:1
 returns-16 : tie.Need-returns-16
 unfolding shapeMeans shapeOf
 returns-16 c = search needs
 
--- src/shape.rt:23:1
 returns-17 : tie.Need-returns-17
 unfolding shapeMeans shapeOf
 returns-17 c = search needs
 
--- src/shape.rt:23:1
 returns-18 : tie.Need-returns-18
 unfolding shapeMeans shapeOf
 returns-18 c = search needs
 
--- src/shape.rt:23:1
 returns-19 : tie.Need-returns-19
 unfolding shapeMeans shapeOf
 returns-19 c = search needs
 
--- src/shape.rt:23:1
 returns-20 : tie.Need-returns-20
 unfolding shapeMeans shapeOf
 returns-20 c = search needs
 
--- src/shape.rt:23:1
 returns-21 : tie.Need-returns-21
 unfolding shapeMeans
 returns-21 c = sym (leaf-number _ (c .match .rest))

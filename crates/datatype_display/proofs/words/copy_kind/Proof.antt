@@ -10,43 +10,33 @@ use Rattle.datatype_display.proofs.words.copy_long.Reads as copy-long-r
 use Rattle.datatype_display.proofs.words.copy_short.Reads as copy-short-reads
 use Rattle.datatype_display.proofs.write.copy.Reads as copy-reads
 
--- src/words.rt:147:9
 copy-long-requires : tie.Need-copy-long-requires
 copy-long-requires c κs = search needs
 
--- src/words.rt:148:9
 same-length : tie.Need-same-length
 same-length c = search needs
 
--- src/words.rt:148:9
 returns : tie.Need-returns
 returns c = search needs
 
--- src/words.rt:151:23
 slice-aggregate-copy : tie.Need-slice-aggregate-copy
 slice-aggregate-copy c = search needs
 
--- src/words.rt:151:9
 copy-requires : tie.Need-copy-requires
 copy-requires c κs = map-room _ _ (c .before .before .before .before .before .pre .0) (c .before .before .before .before .before .pre .1) _ _ (c .before .before .before .before .before .pre .2) (c .before .before .if2 .taken)
 
--- src/words.rt:152:9
 same-length-2 : tie.Need-same-length-2
 same-length-2 c = search needs
 
--- src/words.rt:152:9
 returns-2 : tie.Need-returns-2
 returns-2 c = wrote-as _ _ _ _ _ (map-word _ _ (c .before .before .before .before .before .before .before .before .pre .0) (c .before .before .before .before .before .before .before .before .pre .1) (c .before .before .before .before .before .if2 .taken)) (c .before .before .copy .ensures)
 
--- src/words.rt:154:5
 copy-short-requires : tie.Need-copy-short-requires
 copy-short-requires c κs = search needs
 
--- src/words.rt:142:1
 same-length-3 : tie.Need-same-length-3
 same-length-3 c = search needs
 
--- src/words.rt:142:1
 returns-3 : tie.Need-returns-3
 returns-3 c = search needs
 

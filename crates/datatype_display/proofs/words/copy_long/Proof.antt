@@ -9,35 +9,27 @@ use Rattle.datatype_display.proofs.words.long_head.Reads as long-head-r
 use Rattle.datatype_display.proofs.words.long_tail.Reads as long-tail-reads
 use Rattle.datatype_display.proofs.write.copy_eight.Reads as copy-eight-reads
 
--- src/words.rt:137:25
 long-head-requires : tie.Need-long-head-requires
 long-head-requires c κs = search needs
 
--- src/words.rt:137:5
 copy-eight-requires : tie.Need-copy-eight-requires
 copy-eight-requires c κs = search needs
 
--- src/words.rt:138:27
 sub-copy-eight : tie.Need-sub-copy-eight
 sub-copy-eight c = search needs
 
--- src/words.rt:138:21
 add-copy-eight : tie.Need-add-copy-eight
 add-copy-eight c = search needs
 
--- src/words.rt:138:35
 long-tail-requires : tie.Need-long-tail-requires
 long-tail-requires c κs = search needs
 
--- src/words.rt:138:5
 copy-eight-requires-2 : tie.Need-copy-eight-requires-2
 copy-eight-requires-2 c κs = search needs
 
--- src/words.rt:133:1
 same-length : tie.Need-same-length
 same-length c = search needs
 
--- src/words.rt:133:1
 returns : tie.Need-returns
 returns c = long-wrote _ _ (c .before .before .before .before .before .before .before .before .before .before .before .pre .0) (c .before .before .before .before .before .before .before .before .before .before .before .pre .1) _ _ _ _ (c .before .before .before .before .before .before .before .before .before .before .before .pre .2) _ _ (c .before .before .before .before .before .before .before .before .long-head .ensures) (c .before .before .before .long-tail .ensures) (c .before .before .before .before .before .before .before .copy-eight .ensures) (c .before .before .copy-eight2 .ensures)
 

@@ -8,43 +8,33 @@ use Rattle.datatype_display.proofs.words.copy_short.Lts as lts
 use Rattle.datatype_display.proofs.words.short_word.Reads as short-word-reads
 use Rattle.datatype_display.proofs.write.copy_four.Reads as copy-four-reads
 
--- src/words.rt:133:9
 short-word-requires : tie.Need-short-word-requires
 short-word-requires c κs = search needs
 
--- src/words.rt:134:35
 sub-copy-four : tie.Need-sub-copy-four
 sub-copy-four c = search needs
 
--- src/words.rt:134:30
 mul-copy-four : tie.Need-mul-copy-four
 mul-copy-four c = search needs
 
--- src/words.rt:134:24
 shr-copy-four : tie.Need-shr-copy-four
 shr-copy-four c = search needs
 
--- src/words.rt:134:5
 copy-four-requires : tie.Need-copy-four-requires
 copy-four-requires c κs = search needs
 
--- src/words.rt:135:26
 sub-copy-four-2 : tie.Need-sub-copy-four-2
 sub-copy-four-2 c = search needs
 
--- src/words.rt:135:20
 add-copy-four : tie.Need-add-copy-four
 add-copy-four c = search needs
 
--- src/words.rt:135:5
 copy-four-requires-2 : tie.Need-copy-four-requires-2
 copy-four-requires-2 c κs = search needs
 
--- src/words.rt:129:1
 same-length : tie.Need-same-length
 same-length c = search needs
 
--- src/words.rt:129:1
 returns : tie.Need-returns
 returns c = short-wrote _ _ (c .before .before .before .before .before .before .before .before .before .before .pre .0) (c .before .before .before .before .before .before .before .before .before .before .pre .1) _ _ _ _ (c .before .before .before .before .before .before .before .before .before .before .pre .2) (c .before .before .before .before .before .before .before .before .before .before .pre .3) _ (c .before .before .before .before .before .before .before .before .short-word .ensures) (c .before .before .before .before .before .before .copy-four .ensures) (c .before .before .copy-four2 .ensures)
 

@@ -9,15 +9,12 @@ use Rattle.datatype_display.proofs.words.kind_size.Lts as lts
 use Rattle.datatype_display.proofs.words.digit.Reads as digit-reads
 use Rattle.datatype_display.proofs.words.kind_sizes.Reads as kind-sizes-reads
 
--- src/words.rt:40:11
 kind-sizes-requires : tie.Need-kind-sizes-requires
 kind-sizes-requires c κs = search needs
 
--- src/words.rt:40:5
 digit-requires : tie.Need-digit-requires
 digit-requires c κs = search needs
 
--- src/words.rt:36:1
 returns : tie.Need-returns
 returns c = c .digit .ensures ∙ sized _ _ (c .before .before .pre) (c .before .kind-sizes .ensures)
 

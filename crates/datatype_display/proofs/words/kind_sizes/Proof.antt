@@ -8,17 +8,14 @@ use Rattle.datatype_display.proofs.words.kind_sizes.Tie as tie
 use Rattle.datatype_display.proofs.words.kind_sizes.Reads as reads
 use Rattle.datatype_display.proofs.words.kind_sizes.Lts as lts
 
--- src/words.rt:25:1
 returns : tie.Need-returns
 unfolding kindSizes
 returns c = ap kindSizes (sym (c .match .keys1))
 
--- src/words.rt:25:1
 returns-2 : tie.Need-returns-2
 unfolding kindSizes
 returns-2 c = ap kindSizes (sym (c .match .keys2))
 
--- src/words.rt:25:1
 returns-3 : tie.Need-returns-3
 unfolding kindSizes
 returns-3 c = sizes-rest _ (c .match .rest)

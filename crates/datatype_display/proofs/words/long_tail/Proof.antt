@@ -11,77 +11,62 @@ use Rattle.datatype_display.proofs.words.long_tail.Tie as tie
 use Rattle.datatype_display.proofs.words.long_tail.Reads as reads
 use Rattle.datatype_display.proofs.words.long_tail.Lts as lts
 
--- src/words.rt:99:1
 returns : tie.Need-returns
 unfolding words kindWord packed longTail
 returns c = ap longTail (sym (c .match .keys1))
 
--- src/words.rt:99:1
 returns-2 : tie.Need-returns-2
 unfolding words kindWord packed longTail
 returns-2 c = ap longTail (sym (c .match .keys2))
 
--- src/words.rt:99:1
 returns-3 : tie.Need-returns-3
 unfolding words kindWord packed longTail
 returns-3 c = ap longTail (sym (c .match .keys3))
 
--- src/words.rt:99:1
 returns-4 : tie.Need-returns-4
 unfolding words kindWord packed longTail
 returns-4 c = ap longTail (sym (c .match .keys4))
 
--- src/words.rt:99:1
 returns-5 : tie.Need-returns-5
 unfolding words kindWord packed longTail
 returns-5 c = ap longTail (sym (c .match .keys5))
 
--- src/words.rt:99:1
 returns-6 : tie.Need-returns-6
 unfolding words kindWord packed longTail
 returns-6 c = ap longTail (sym (c .match .keys6))
 
--- src/words.rt:99:1
 returns-7 : tie.Need-returns-7
 unfolding words kindWord packed longTail
 returns-7 c = ap longTail (sym (c .match .keys7))
 
--- src/words.rt:99:1
 returns-8 : tie.Need-returns-8
 unfolding words kindWord packed longTail
 returns-8 c = ap longTail (sym (c .match .keys8))
 
--- src/words.rt:99:1
 returns-9 : tie.Need-returns-9
 unfolding words kindWord packed longTail
 returns-9 c = ap longTail (sym (c .match .keys9))
 
--- src/words.rt:99:1
 returns-10 : tie.Need-returns-10
 unfolding words kindWord packed longTail
 returns-10 c = ap longTail (sym (c .match .keys10))
 
--- src/words.rt:99:1
 returns-11 : tie.Need-returns-11
 unfolding words kindWord packed longTail
 returns-11 c = ap longTail (sym (c .match .keys11))
 
--- src/words.rt:99:1
 returns-12 : tie.Need-returns-12
 unfolding words kindWord packed longTail
 returns-12 c = ap longTail (sym (c .match .keys12))
 
--- src/words.rt:99:1
 returns-13 : tie.Need-returns-13
 unfolding words kindWord packed longTail
 returns-13 c = ap longTail (sym (c .match .keys13))
 
--- src/words.rt:99:1
 returns-14 : tie.Need-returns-14
 unfolding words kindWord packed longTail
 returns-14 c = ap longTail (sym (c .match .keys14))
 
--- src/words.rt:99:1
 returns-15 : tie.Need-returns-15
 returns-15 c = tail-rest _ (c .before .pre) (c .match .rest)
 

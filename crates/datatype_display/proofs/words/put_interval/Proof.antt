@@ -10,53 +10,41 @@ use Rattle.datatype_display.proofs.words.put_interval.Reads as reads
 use Rattle.datatype_display.proofs.words.put_interval.Lts as lts
 use Rattle.datatype_display.proofs.write.put.Reads as put-reads
 
--- src/words.rt:111:27
 slice-aggregate-put : tie.Need-slice-aggregate-put
 slice-aggregate-put c = search needs
 
--- src/words.rt:111:14
 put-requires : tie.Need-put-requires
 put-requires c κs = search needs
 
--- src/words.rt:112:27
 slice-aggregate-put-2 : tie.Need-slice-aggregate-put-2
 slice-aggregate-put-2 c = search needs
 
--- src/words.rt:112:14
 put-requires-2 : tie.Need-put-requires-2
 put-requires-2 c κs = search needs
 
--- src/words.rt:113:27
 slice-aggregate-put-3 : tie.Need-slice-aggregate-put-3
 slice-aggregate-put-3 c = search needs
 
--- src/words.rt:113:14
 put-requires-3 : tie.Need-put-requires-3
 put-requires-3 c κs = search needs
 
--- src/words.rt:107:1
 same-length : tie.Need-same-length
 same-length c = search needs
 
--- src/words.rt:107:1
 returns : tie.Need-returns
 unfolding intervalText
 returns c = put-as _ _ _ _ _ _ (ap intervalText (sym (c .before .before .before .before .before .match .keys1))) (c .before .before .put .ensures)
 
--- src/words.rt:107:1
 same-length-2 : tie.Need-same-length-2
 same-length-2 c = search needs
 
--- src/words.rt:107:1
 returns-2 : tie.Need-returns-2
 unfolding intervalText
 returns-2 c = put-as _ _ _ _ _ _ (ap intervalText (sym (c .before .before .before .before .before .match .keys2))) (c .before .before .put2 .ensures)
 
--- src/words.rt:107:1
 same-length-3 : tie.Need-same-length-3
 same-length-3 c = search needs
 
--- src/words.rt:107:1
 returns-3 : tie.Need-returns-3
 unfolding intervalText
 returns-3 c = put-as _ _ _ _ _ _ (interval-rest _ (c .before .before .before .before .before .match .rest)) (c .before .before .put3 .ensures)

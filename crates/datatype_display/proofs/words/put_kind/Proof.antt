@@ -11,47 +11,36 @@ use Rattle.datatype_display.proofs.words.copy_kind.Reads as copy-kind-r
 use Rattle.datatype_display.proofs.words.kind_size.Reads as kind-size-reads
 use Rattle.datatype_display.proofs.write.advance.Reads as advance-reads
 
--- src/words.rt:162:9
 returns : tie.Need-returns
 returns c = put-as _ _ _ _ _ _ (no-kind _ (c .if1 .taken)) (put-none _ _)
 
--- src/words.rt:164:9
 kind-size-requires : tie.Need-kind-size-requires
 kind-size-requires c κs = search needs
 
--- src/words.rt:166:9
 advance-requires : tie.Need-advance-requires
 advance-requires c κs = search needs
 
--- src/words.rt:166:9
 returns-2 : tie.Need-returns-2
 returns-2 c = kind-past _ _ (omega (arith, c .before .before .before .if1 .left)) (c .before .before .kind-size .ensures) _ _ _ (c .advance .ensures) (omega (arith, c .before .if2 .taken))
 
--- src/words.rt:168:8
 sub-if3 : tie.Need-sub-if3
 sub-if3 c = search needs
 
--- src/words.rt:169:9
 advance-requires-2 : tie.Need-advance-requires-2
 advance-requires-2 c κs = search needs
 
--- src/words.rt:169:9
 returns-3 : tie.Need-returns-3
 returns-3 c = kind-past _ _ (omega (arith, c .before .before .before .before .if1 .left)) (c .before .before .before .kind-size .ensures) _ _ _ (c .advance2 .ensures) (omega (arith, c .before .if3 .taken, c .before .before .if2 .left))
 
--- src/words.rt:171:5
 copy-kind-requires : tie.Need-copy-kind-requires
 copy-kind-requires c κs = search needs
 
--- src/words.rt:172:5
 add-result : tie.Need-add-result
 add-result c = search needs
 
--- src/words.rt:158:1
 same-length : tie.Need-same-length
 same-length c = search needs
 
--- src/words.rt:158:1
 returns-4 : tie.Need-returns-4
 returns-4 c = kind-wrote _ _ (omega (arith, c .before .before .before .before .before .before .before .if1 .left)) (c .before .before .before .before .before .before .kind-size .ensures) _ _ _ (c .before .before .copy-kind .ensures)
 

@@ -10,36 +10,28 @@ use Rattle.datatype_display.proofs.words.put_sorted.Reads as reads
 use Rattle.datatype_display.proofs.words.put_sorted.Lts as lts
 use Rattle.datatype_display.proofs.write.put.Reads as put-reads
 
--- src/words.rt:132:27
 slice-aggregate-put : tie.Need-slice-aggregate-put
 slice-aggregate-put c = search needs
 
--- src/words.rt:132:14
 put-requires : tie.Need-put-requires
 put-requires c κs = search needs
 
--- src/words.rt:133:27
 slice-aggregate-put-2 : tie.Need-slice-aggregate-put-2
 slice-aggregate-put-2 c = search needs
 
--- src/words.rt:133:14
 put-requires-2 : tie.Need-put-requires-2
 put-requires-2 c κs = search needs
 
--- src/words.rt:128:1
 same-length : tie.Need-same-length
 same-length c = search needs
 
--- src/words.rt:128:1
 returns : tie.Need-returns
 unfolding sortedText
 returns c = put-as _ _ _ _ _ _ (ap sortedText (sym (c .before .before .before .before .before .match .keys1))) (c .before .before .put .ensures)
 
--- src/words.rt:128:1
 same-length-2 : tie.Need-same-length-2
 same-length-2 c = search needs
 
--- src/words.rt:128:1
 returns-2 : tie.Need-returns-2
 unfolding sortedText
 returns-2 c = put-as _ _ _ _ _ _ (sorted-rest _ (c .before .before .before .before .before .match .rest)) (c .before .before .put2 .ensures)

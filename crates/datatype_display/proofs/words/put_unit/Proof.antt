@@ -10,70 +10,54 @@ use Rattle.datatype_display.proofs.words.put_unit.Reads as reads
 use Rattle.datatype_display.proofs.words.put_unit.Lts as lts
 use Rattle.datatype_display.proofs.write.put.Reads as put-reads
 
--- src/words.rt:99:27
 slice-aggregate-put : tie.Need-slice-aggregate-put
 slice-aggregate-put c = search needs
 
--- src/words.rt:99:14
 put-requires : tie.Need-put-requires
 put-requires c κs = search needs
 
--- src/words.rt:100:27
 slice-aggregate-put-2 : tie.Need-slice-aggregate-put-2
 slice-aggregate-put-2 c = search needs
 
--- src/words.rt:100:14
 put-requires-2 : tie.Need-put-requires-2
 put-requires-2 c κs = search needs
 
--- src/words.rt:101:27
 slice-aggregate-put-3 : tie.Need-slice-aggregate-put-3
 slice-aggregate-put-3 c = search needs
 
--- src/words.rt:101:14
 put-requires-3 : tie.Need-put-requires-3
 put-requires-3 c κs = search needs
 
--- src/words.rt:102:27
 slice-aggregate-put-4 : tie.Need-slice-aggregate-put-4
 slice-aggregate-put-4 c = search needs
 
--- src/words.rt:102:14
 put-requires-4 : tie.Need-put-requires-4
 put-requires-4 c κs = search needs
 
--- src/words.rt:95:1
 same-length : tie.Need-same-length
 same-length c = search needs
 
--- src/words.rt:95:1
 returns : tie.Need-returns
 unfolding unitText
 returns c = put-as _ _ _ _ _ _ (ap unitText (sym (c .before .before .before .before .before .match .keys1))) (c .before .before .put .ensures)
 
--- src/words.rt:95:1
 same-length-2 : tie.Need-same-length-2
 same-length-2 c = search needs
 
--- src/words.rt:95:1
 returns-2 : tie.Need-returns-2
 unfolding unitText
 returns-2 c = put-as _ _ _ _ _ _ (ap unitText (sym (c .before .before .before .before .before .match .keys2))) (c .before .before .put2 .ensures)
 
--- src/words.rt:95:1
 same-length-3 : tie.Need-same-length-3
 same-length-3 c = search needs
 
--- src/words.rt:95:1
 returns-3 : tie.Need-returns-3
 unfolding unitText
 returns-3 c = put-as _ _ _ _ _ _ (ap unitText (sym (c .before .before .before .before .before .match .keys3))) (c .before .before .put3 .ensures)
 
--- src/words.rt:95:1
 same-length-4 : tie.Need-same-length-4
 same-length-4 c = search needs
 
--- src/words.rt:95:1
 returns-4 : tie.Need-returns-4
 unfolding unitText
 returns-4 c = put-as _ _ _ _ _ _ (unit-rest _ (c .before .before .before .before .before .match .rest)) (c .before .before .put4 .ensures)

@@ -11,142 +11,114 @@ use Rattle.datatype_display.proofs.words.short_word.Tie as tie
 use Rattle.datatype_display.proofs.words.short_word.Reads as reads
 use Rattle.datatype_display.proofs.words.short_word.Lts as lts
 
--- src/words.rt:44:1
 returns : tie.Need-returns
 unfolding words kindWord packed shortWord
 returns c = ap shortWord (sym (c .match .keys1))
 
--- src/words.rt:44:1
 returns-2 : tie.Need-returns-2
 unfolding words kindWord packed shortWord
 returns-2 c = ap shortWord (sym (c .match .keys2))
 
--- src/words.rt:44:1
 returns-3 : tie.Need-returns-3
 unfolding words kindWord packed shortWord
 returns-3 c = ap shortWord (sym (c .match .keys3))
 
--- src/words.rt:44:1
 returns-4 : tie.Need-returns-4
 unfolding words kindWord packed shortWord
 returns-4 c = ap shortWord (sym (c .match .keys4))
 
--- src/words.rt:44:1
 returns-5 : tie.Need-returns-5
 unfolding words kindWord packed shortWord
 returns-5 c = ap shortWord (sym (c .match .keys5))
 
--- src/words.rt:44:1
 returns-6 : tie.Need-returns-6
 unfolding words kindWord packed shortWord
 returns-6 c = ap shortWord (sym (c .match .keys6))
 
--- src/words.rt:44:1
 returns-7 : tie.Need-returns-7
 unfolding words kindWord packed shortWord
 returns-7 c = ap shortWord (sym (c .match .keys7))
 
--- src/words.rt:44:1
 returns-8 : tie.Need-returns-8
 unfolding words kindWord packed shortWord
 returns-8 c = ap shortWord (sym (c .match .keys8))
 
--- src/words.rt:44:1
 returns-9 : tie.Need-returns-9
 unfolding words kindWord packed shortWord
 returns-9 c = ap shortWord (sym (c .match .keys9))
 
--- src/words.rt:44:1
 returns-10 : tie.Need-returns-10
 unfolding words kindWord packed shortWord
 returns-10 c = ap shortWord (sym (c .match .keys10))
 
--- src/words.rt:44:1
 returns-11 : tie.Need-returns-11
 unfolding words kindWord packed shortWord
 returns-11 c = ap shortWord (sym (c .match .keys11))
 
--- src/words.rt:44:1
 returns-12 : tie.Need-returns-12
 unfolding words kindWord packed shortWord
 returns-12 c = ap shortWord (sym (c .match .keys12))
 
--- src/words.rt:44:1
 returns-13 : tie.Need-returns-13
 unfolding words kindWord packed shortWord
 returns-13 c = ap shortWord (sym (c .match .keys13))
 
--- src/words.rt:44:1
 returns-14 : tie.Need-returns-14
 unfolding words kindWord packed shortWord
 returns-14 c = ap shortWord (sym (c .match .keys14))
 
--- src/words.rt:44:1
 returns-15 : tie.Need-returns-15
 unfolding words kindWord packed shortWord
 returns-15 c = ap shortWord (sym (c .match .keys15))
 
--- src/words.rt:44:1
 returns-16 : tie.Need-returns-16
 unfolding words kindWord packed shortWord
 returns-16 c = ap shortWord (sym (c .match .keys16))
 
--- src/words.rt:44:1
 returns-17 : tie.Need-returns-17
 unfolding words kindWord packed shortWord
 returns-17 c = ap shortWord (sym (c .match .keys17))
 
--- src/words.rt:44:1
 returns-18 : tie.Need-returns-18
 unfolding words kindWord packed shortWord
 returns-18 c = ap shortWord (sym (c .match .keys18))
 
--- src/words.rt:44:1
 returns-19 : tie.Need-returns-19
 unfolding words kindWord packed shortWord
 returns-19 c = ap shortWord (sym (c .match .keys19))
 
--- src/words.rt:44:1
 returns-20 : tie.Need-returns-20
 unfolding words kindWord packed shortWord
 returns-20 c = ap shortWord (sym (c .match .keys20))
 
--- src/words.rt:44:1
 returns-21 : tie.Need-returns-21
 unfolding words kindWord packed shortWord
 returns-21 c = ap shortWord (sym (c .match .keys21))
 
--- src/words.rt:44:1
 returns-22 : tie.Need-returns-22
 unfolding words kindWord packed shortWord
 returns-22 c = ap shortWord (sym (c .match .keys22))
 
--- src/words.rt:44:1
 returns-23 : tie.Need-returns-23
 unfolding words kindWord packed shortWord
 returns-23 c = ap shortWord (sym (c .match .keys23))
 
--- src/words.rt:44:1
 returns-24 : tie.Need-returns-24
 unfolding words kindWord packed shortWord
 returns-24 c = ap shortWord (sym (c .match .keys24))
 
--- src/words.rt:44:1
 returns-25 : tie.Need-returns-25
 unfolding words kindWord packed shortWord
 returns-25 c = ap shortWord (sym (c .match .keys25))
 
--- src/words.rt:44:1
 returns-26 : tie.Need-returns-26
 unfolding words kindWord packed shortWord
 returns-26 c = ap shortWord (sym (c .match .keys26))
 
--- src/words.rt:44:1
 returns-27 : tie.Need-returns-27
 unfolding words kindWord packed shortWord
 returns-27 c = ap shortWord (sym (c .match .keys27))
 
--- src/words.rt:44:1
 returns-28 : tie.Need-returns-28
 returns-28 c = short-rest _ (c .before .pre) (c .match .rest)
 

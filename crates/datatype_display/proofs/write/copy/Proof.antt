@@ -14,39 +14,30 @@ Inv-loop out₀ at s i₀ out i = Copied out₀ s at i out
 abbrev μ-loop : tie.MeasureT-loop
 μ-loop out₀ at s i₀ out i = length s - i
 
--- src/write.rt:31:5
 loop-holds : tie.Need-loop-holds Inv-loop μ-loop
 loop-holds c = copied-start _ _ _ (c .pre)
 
--- src/write.rt:32:23
 shared-slice-read-out : tie.Need-shared-slice-read-out Inv-loop μ-loop
 shared-slice-read-out c = search needs
 
--- src/write.rt:32:13
 add-out : tie.Need-add-out Inv-loop μ-loop
 add-out c = search needs
 
--- src/write.rt:32:9
 slice-write-out : tie.Need-slice-write-out Inv-loop μ-loop
 slice-write-out c = copied-room _ _ _ _ _ (c .before .before .loop .inv) (c .before .loop-test .taken)
 
--- src/write.rt:33:9
 add-i : tie.Need-add-i Inv-loop μ-loop
 add-i c = search needs
 
--- src/write.rt:31:5
 loop-less : tie.Need-loop-less Inv-loop μ-loop
 loop-less c = search needs
 
--- src/write.rt:31:5
 loop-again : tie.Need-loop-again Inv-loop μ-loop
 loop-again c = copied-more _ _ _ _ _ (c .before .before .loop .inv) (c .before .loop-test .taken)
 
--- src/write.rt:26:1
 same-length : tie.Need-same-length Inv-loop μ-loop
 same-length c = copied-length _ _ _ _ _ (c .before .loop .inv)
 
--- src/write.rt:26:1
 returns : tie.Need-returns Inv-loop μ-loop
 returns c = copied-all _ _ _ _ _ (c .before .loop .inv) (c .loop-test .left)
 

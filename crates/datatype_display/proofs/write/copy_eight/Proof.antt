@@ -7,23 +7,18 @@ use Rattle.datatype_display.proofs.write.copy_eight.Reads as reads
 use Rattle.datatype_display.proofs.write.copy_eight.Lts as lts
 use Rattle.datatype_display.proofs.write.copy_four.Reads as copy-four-reads
 
--- src/write.rt:53:5
 copy-four-requires : tie.Need-copy-four-requires
 copy-four-requires c κs = search needs
 
--- src/write.rt:54:20
 add-copy-four : tie.Need-add-copy-four
 add-copy-four c = search needs
 
--- src/write.rt:54:5
 copy-four-requires-2 : tie.Need-copy-four-requires-2
 copy-four-requires-2 c κs = search needs
 
--- src/write.rt:49:1
 same-length : tie.Need-same-length
 same-length c = search needs
 
--- src/write.rt:49:1
 returns : tie.Need-returns
 returns c = eight-wrote _ _ _ _ _ (c .before .before .before .before .before .before .copy-four .ensures) (c .before .before .copy-four2 .ensures)
 

@@ -8,39 +8,30 @@ use Rattle.datatype_display.proofs.write.put.Lts as lts
 use Rattle.datatype_display.proofs.write.advance.Reads as advance-reads
 use Rattle.datatype_display.proofs.write.copy.Reads as copy-reads
 
--- src/write.rt:43:9
 advance-requires : tie.Need-advance-requires
 advance-requires c κs = search needs
 
--- src/write.rt:43:9
 returns : tie.Need-returns
 returns c = put-past _ _ _ _ (c .advance .ensures) (omega (arith, c .before .if1 .taken))
 
--- src/write.rt:45:8
 sub-if2 : tie.Need-sub-if2
 sub-if2 c = search needs
 
--- src/write.rt:46:9
 advance-requires-2 : tie.Need-advance-requires-2
 advance-requires-2 c κs = search needs
 
--- src/write.rt:46:9
 returns-2 : tie.Need-returns-2
 returns-2 c = put-past _ _ _ _ (c .advance2 .ensures) (omega (arith, c .before .if2 .taken, c .before .before .if1 .left))
 
--- src/write.rt:48:5
 copy-requires : tie.Need-copy-requires
 copy-requires c κs = omega (arith, c .before .if2 .left, c .before .before .if1 .left)
 
--- src/write.rt:49:5
 add-result : tie.Need-add-result
 add-result c = search needs
 
--- src/write.rt:39:1
 same-length : tie.Need-same-length
 same-length c = search needs
 
--- src/write.rt:39:1
 returns-3 : tie.Need-returns-3
 returns-3 c = put-wrote _ _ _ _ _ (moved-by _ _) (c .before .before .copy .ensures)
 

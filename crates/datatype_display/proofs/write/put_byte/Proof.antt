@@ -7,27 +7,21 @@ use Rattle.datatype_display.proofs.write.put_byte.Reads as reads
 use Rattle.datatype_display.proofs.write.put_byte.Lts as lts
 use Rattle.datatype_display.proofs.write.advance.Reads as advance-reads
 
--- src/write.rt:57:9
 advance-requires : tie.Need-advance-requires
 advance-requires c κs = search needs
 
--- src/write.rt:57:9
 returns : tie.Need-returns
 returns c = put-past _ _ _ _ (c .advance .ensures) (omega (arith, c .before .if1 .taken))
 
--- src/write.rt:59:5
 slice-write-out : tie.Need-slice-write-out
 slice-write-out c = search needs
 
--- src/write.rt:60:5
 add-result : tie.Need-add-result
 add-result c = search needs
 
--- src/write.rt:53:1
 same-length : tie.Need-same-length
 same-length c = search needs
 
--- src/write.rt:53:1
 returns-2 : tie.Need-returns-2
 returns-2 c = put-set _ _ _ _ (moved-by _ _)
 

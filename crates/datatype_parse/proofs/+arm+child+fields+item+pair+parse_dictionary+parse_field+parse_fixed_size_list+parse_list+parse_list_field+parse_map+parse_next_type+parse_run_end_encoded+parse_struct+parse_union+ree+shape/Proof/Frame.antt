@@ -52,7 +52,7 @@ use Rattle.datatype_parse.proofs.+arm+child+fields+item+pair+parse_dict
 use Rattle.datatype_parse.proofs.arm.Reads as arm
 use Rattle.datatype_parse.proofs.arm.Kinds as arm-kinds
 use Rattle.datatype_parse.proofs.+arm+child+fields+item+pair+parse_dictionary+parse_field+parse_fixed_size_list+parse_list+parse_list_field+parse_map+parse_next_type+parse_run_end_encoded+parse_struct+parse_union+ree+shape.Lts-arm as arm-lts
-use Rattle.datatype.proofs.try_new.Reads as try-new-reads
+use Rattle.row_table.proofs.try_new.Reads as try-new-reads
 use Rattle.datatype_parse.proofs.parser.close.Reads as close-reads
 use Rattle.datatype_parse.proofs.parser.parse_decimal.Reads as parse-decimal-reads
 use Rattle.datatype_parse.proofs.parser.parse_fixed_size_binary.Reads as parse-fixed-size-binary-reads

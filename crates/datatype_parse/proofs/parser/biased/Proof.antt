@@ -7,27 +7,21 @@ use Rattle.datatype_parse.proofs.parser.biased.Tie as tie
 use Rattle.datatype_parse.proofs.parser.biased.Reads as reads
 use Rattle.datatype_parse.proofs.parser.biased.Lts as lts
 
--- src/parser.rt:127:17
 sub-result : tie.Need-sub-result
 sub-result c = limit-low (c .before .args .negative) (c .before .args .magnitude) (c .before .pre) (c .if1 .taken)
 
--- src/parser.rt:127:16
 cast-result : tie.Need-cast-result
 cast-result c = omega (arith, limit-low (c .before .args .negative) (c .before .args .magnitude) (c .before .pre) (c .if1 .taken))
 
--- src/parser.rt:127:9
 returns : tie.Need-returns
 returns c = scale-low (c .before .args .negative) (c .before .args .magnitude) (c .if1 .taken)
 
--- src/parser.rt:129:6
 add-result : tie.Need-add-result
 add-result c = omega (arith, limit-high (c .before .args .negative) (c .before .args .magnitude) (c .before .pre) (c .if1 .left))
 
--- src/parser.rt:129:5
 cast-result-2 : tie.Need-cast-result-2
 cast-result-2 c = omega (arith, limit-high (c .before .args .negative) (c .before .args .magnitude) (c .before .pre) (c .if1 .left))
 
--- src/parser.rt:122:1
 returns-2 : tie.Need-returns-2
 returns-2 c = scale-high (c .before .args .negative) (c .before .args .magnitude) (c .if1 .left)
 

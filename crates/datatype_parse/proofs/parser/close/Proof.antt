@@ -10,43 +10,33 @@ use Rattle.datatype_parse.proofs.parser.close.Lts as lts
 use Rattle.datatype_parse.proofs.rows.put_row.Reads as put-row-reads
 use Rattle.datatype_parse.proofs.tokens.expect_token.Reads as expect-token-reads
 
--- src/parser.rt:35:11
 expect-token-requires : tie.Need-expect-token-requires
 expect-token-requires c κs = search needs
 
--- src/parser.rt:36:23
 enum-known-n : tie.Need-enum-known-n
 enum-known-n c = search needs
 
--- src/parser.rt:37:20
 enum-known-next : tie.Need-enum-known-next
 enum-known-next c = search needs
 
--- src/parser.rt:38:39
 add-put-row : tie.Need-add-put-row
 add-put-row c = search needs
 
--- src/parser.rt:38:38
 cast-put-row : tie.Need-cast-put-row
 cast-put-row c = search needs
 
--- src/parser.rt:38:13
 put-row-requires : tie.Need-put-row-requires
 put-row-requires c κs = search needs
 
--- src/parser.rt:39:30
 add-t16 : tie.Need-add-t16
 add-t16 c = search needs
 
--- src/parser.rt:22:1
 returns : tie.Need-returns
 returns c = closed-lost _ _ _ _ _ _ _ (lost-step _ _ (sym (c .before .n .given .1) ∙ c .before .before .before .expect-token .ensures))
 
--- src/parser.rt:22:1
 same-length : tie.Need-same-length
 same-length c = search needs
 
--- src/parser.rt:22:1
 returns-2 : tie.Need-returns-2
 returns-2 c = let o = (got-step _ _ (sym (c .before .before .before .before .before .next .given .1) ∙ c .before .before .before .before .before .before .before .expect-token .ensures)) in closed-done _ _ _ _ _ _ (o .0) _ (o .1) (c .before .before .put-row .ensures)
 

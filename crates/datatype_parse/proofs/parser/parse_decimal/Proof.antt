@@ -11,63 +11,48 @@ use Rattle.datatype_parse.proofs.parser.parse_scale.Reads as parse-scal
 use Rattle.datatype_parse.proofs.tokens.expect_token.Reads as expect-token-reads
 use Rattle.datatype_parse.proofs.tokens.parse_unsigned.Reads as parse-unsigned-reads
 
--- src/parser.rt:170:22
 expect-token-requires : tie.Need-expect-token-requires
 expect-token-requires c κs = search needs
 
--- src/parser.rt:171:20
 enum-known-next : tie.Need-enum-known-next
 enum-known-next c = search needs
 
--- src/parser.rt:172:23
 enum-known-n : tie.Need-enum-known-n
 enum-known-n c = search needs
 
--- src/parser.rt:173:13
 returns : tie.Need-returns
 returns c = meets-refused _ _ _ _ _ _ (decimal-1 _ _ _ _ (lost-step _ _ (sym (c .before .n .given .1) ∙ c .before .before .before .expect-token .ensures)))
 
--- src/parser.rt:176:11
 parse-unsigned-requires : tie.Need-parse-unsigned-requires
 parse-unsigned-requires c κs = search needs
 
--- src/parser.rt:177:25
 enum-known-n-2 : tie.Need-enum-known-n-2
 enum-known-n-2 c = search needs
 
--- src/parser.rt:178:23
 enum-known-precision : tie.Need-enum-known-precision
 enum-known-precision c = search needs
 
--- src/parser.rt:178:51
 expect-token-requires-2 : tie.Need-expect-token-requires-2
 expect-token-requires-2 c κs = search needs
 
--- src/parser.rt:179:27
 enum-known-n-3 : tie.Need-enum-known-n-3
 enum-known-n-3 c = search needs
 
--- src/parser.rt:180:24
 enum-known-comma : tie.Need-enum-known-comma
 enum-known-comma c = search needs
 
--- src/parser.rt:180:34
 parse-scale-requires : tie.Need-parse-scale-requires
 parse-scale-requires c κs = search needs
 
--- src/parser.rt:166:1
 returns-2 : tie.Need-returns-2
 returns-2 c = let o = (got-step _ _ (sym (c .before .before .before .before .before .next .given .1) ∙ c .before .before .before .before .before .before .before .expect-token .ensures)) in meets-refused _ _ _ _ _ _ (decimal-2 _ _ _ (o .0) _ (o .1) _ (lost-value _ _ (sym (c .before .n2 .given .1) ∙ c .before .before .before .parse-unsigned .ensures)))
 
--- src/parser.rt:166:1
 returns-3 : tie.Need-returns-3
 returns-3 c = let o = (got-step _ _ (sym (c .before .before .before .before .before .before .before .before .before .next .given .1) ∙ c .before .before .before .before .before .before .before .before .before .before .before .expect-token .ensures)) in meets-refused _ _ _ _ _ _ (decimal-3 _ _ _ (o .0) _ (o .1) _ _ (got-value _ _ _ (sym (c .before .before .before .before .before .precision .given .1) ∙ c .before .before .before .before .before .before .before .parse-unsigned .ensures)) _ (lost-step _ _ (sym (c .before .n3 .given .1) ∙ c .before .before .before .expect-token2 .ensures)))
 
--- src/parser.rt:166:1
 same-length : tie.Need-same-length
 same-length c = search needs
 
--- src/parser.rt:166:1
 returns-4 : tie.Need-returns-4
 returns-4 c = let o = (got-step _ _ (sym (c .before .before .before .before .before .before .before .before .before .before .before .before .before .next .given .1) ∙ c .before .before .before .before .before .before .before .before .before .before .before .before .before .before .before .expect-token .ensures)) in let d = (got-step _ _ (sym (c .before .before .before .before .before .comma .given .1) ∙ c .before .before .before .before .before .before .before .expect-token2 .ensures)) in decimal-4 _ _ _ (o .0) _ (o .1) _ _ _ _ _ _ (got-value _ _ _ (sym (c .before .before .before .before .before .before .before .before .before .precision .given .1) ∙ c .before .before .before .before .before .before .before .before .before .before .before .parse-unsigned .ensures)) (d .0) _ (d .1) (c .before .before .parse-scale .ensures)
 

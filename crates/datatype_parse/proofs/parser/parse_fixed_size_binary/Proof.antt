@@ -11,47 +11,36 @@ use Rattle.datatype_parse.proofs.parser.close.Reads as close-reads
 use Rattle.datatype_parse.proofs.tokens.expect_token.Reads as expect-token-reads
 use Rattle.datatype_parse.proofs.tokens.parse_unsigned.Reads as parse-unsigned-reads
 
--- src/parser.rt:109:22
 expect-token-requires : tie.Need-expect-token-requires
 expect-token-requires c κs = search needs
 
--- src/parser.rt:110:20
 enum-known-next : tie.Need-enum-known-next
 enum-known-next c = search needs
 
--- src/parser.rt:111:23
 enum-known-n : tie.Need-enum-known-n
 enum-known-n c = search needs
 
--- src/parser.rt:112:13
 returns : tie.Need-returns
 returns c = meets-refused _ _ _ _ _ _ (binary-1 _ _ _ _ (lost-step _ _ (sym (c .before .n .given .1) ∙ c .before .before .before .expect-token .ensures)))
 
--- src/parser.rt:115:11
 parse-unsigned-requires : tie.Need-parse-unsigned-requires
 parse-unsigned-requires c κs = search needs
 
--- src/parser.rt:116:25
 enum-known-n-2 : tie.Need-enum-known-n-2
 enum-known-n-2 c = search needs
 
--- src/parser.rt:117:23
 enum-known-length : tie.Need-enum-known-length
 enum-known-length c = search needs
 
--- src/parser.rt:117:42
 close-requires : tie.Need-close-requires
 close-requires c κs = search needs
 
--- src/parser.rt:99:1
 returns-2 : tie.Need-returns-2
 returns-2 c = let o = (got-step _ _ (sym (c .before .before .before .before .before .next .given .1) ∙ c .before .before .before .before .before .before .before .expect-token .ensures)) in meets-refused _ _ _ _ _ _ (binary-2 _ _ _ (o .0) _ (o .1) _ (lost-value _ _ (sym (c .before .n2 .given .1) ∙ c .before .before .before .parse-unsigned .ensures)))
 
--- src/parser.rt:99:1
 same-length : tie.Need-same-length
 same-length c = search needs
 
--- src/parser.rt:99:1
 returns-3 : tie.Need-returns-3
 returns-3 c = let o = (got-step _ _ (sym (c .before .before .before .before .before .before .before .before .before .next .given .1) ∙ c .before .before .before .before .before .before .before .before .before .before .before .expect-token .ensures)) in binary-3 _ _ _ (o .0) _ (o .1) _ _ _ _ _ _ (got-value _ _ _ (sym (c .before .before .before .before .before .length .given .1) ∙ c .before .before .before .before .before .before .before .parse-unsigned .ensures)) (c .before .before .close .ensures)
 

@@ -11,47 +11,36 @@ use Rattle.datatype_parse.proofs.parser.close.Reads as close-reads
 use Rattle.datatype_parse.proofs.tokens.expect_token.Reads as expect-token-reads
 use Rattle.datatype_parse.proofs.tokens.parse_interval_unit.Reads as parse-interval-unit-reads
 
--- src/parser.rt:87:22
 expect-token-requires : tie.Need-expect-token-requires
 expect-token-requires c κs = search needs
 
--- src/parser.rt:88:20
 enum-known-next : tie.Need-enum-known-next
 enum-known-next c = search needs
 
--- src/parser.rt:89:23
 enum-known-n : tie.Need-enum-known-n
 enum-known-n c = search needs
 
--- src/parser.rt:90:13
 returns : tie.Need-returns
 returns c = meets-refused _ _ _ _ _ _ (interval-1 _ _ _ _ (lost-step _ _ (sym (c .before .n .given .1) ∙ c .before .before .before .expect-token .ensures)))
 
--- src/parser.rt:93:11
 parse-interval-unit-requires : tie.Need-parse-interval-unit-requires
 parse-interval-unit-requires c κs = search needs
 
--- src/parser.rt:94:25
 enum-known-n-2 : tie.Need-enum-known-n-2
 enum-known-n-2 c = search needs
 
--- src/parser.rt:95:23
 enum-known-unit : tie.Need-enum-known-unit
 enum-known-unit c = search needs
 
--- src/parser.rt:95:40
 close-requires : tie.Need-close-requires
 close-requires c κs = search needs
 
--- src/parser.rt:83:1
 returns-2 : tie.Need-returns-2
 returns-2 c = let o = (got-step _ _ (sym (c .before .before .before .before .before .next .given .1) ∙ c .before .before .before .before .before .before .before .expect-token .ensures)) in meets-refused _ _ _ _ _ _ (interval-2 _ _ _ (o .0) _ (o .1) _ (lost-value _ _ (sym (c .before .n2 .given .1) ∙ c .before .before .before .parse-interval-unit .ensures)))
 
--- src/parser.rt:83:1
 same-length : tie.Need-same-length
 same-length c = search needs
 
--- src/parser.rt:83:1
 returns-3 : tie.Need-returns-3
 returns-3 c = let o = (got-step _ _ (sym (c .before .before .before .before .before .before .before .before .before .next .given .1) ∙ c .before .before .before .before .before .before .before .before .before .before .before .expect-token .ensures)) in interval-3 _ _ _ (o .0) _ (o .1) _ _ _ _ _ _ (got-value _ _ _ (sym (c .before .before .before .before .before .unit .given .1) ∙ c .before .before .before .before .before .before .before .parse-interval-unit .ensures)) (c .before .before .close .ensures)
 

@@ -14,63 +14,48 @@ use Rattle.datatype_parse.proofs.parser.biased.Reads as biased-reads
 use Rattle.datatype_parse.proofs.parser.close.Reads as close-reads
 use Rattle.datatype_parse.proofs.tokens.parse_number.Reads as parse-number-reads
 
--- src/parser.rt:144:11
 parse-number-requires : tie.Need-parse-number-requires
 parse-number-requires c κs = search needs
 
--- src/parser.rt:145:25
 enum-known-n : tie.Need-enum-known-n
 enum-known-n c = search needs
 
--- src/parser.rt:146:23
 enum-known-negative : tie.Need-enum-known-negative
 enum-known-negative c = search needs
 
--- src/parser.rt:147:17
 biased-requires : tie.Need-biased-requires
 biased-requires c κs = number-limit _ _ _ _ _ _ _ (got-number _ _ _ _ (sym (c .before .negative .given .1) ∙ c .before .before .before .parse-number .ensures))
 
--- src/parser.rt:148:19
 close-requires : tie.Need-close-requires
 close-requires c κs = search needs
 
--- src/parser.rt:149:31
 enum-known-n-2 : tie.Need-enum-known-n-2
 enum-known-n-2 c = search needs
 
--- src/parser.rt:150:28
 enum-known-next : tie.Need-enum-known-next
 enum-known-next c = search needs
 
--- src/parser.rt:155:24
 fits-requires : tie.Need-fits-requires
 fits-requires c κs = search needs
 
--- src/parser.rt:156:25
 same-length : tie.Need-same-length
 same-length c = search needs
 
--- src/parser.rt:156:25
 returns : tie.Need-returns
 returns c = decimal-fits _ _ _ _ _ _ _ _ _ _ (scale-2 _ _ _ _ ((got-number _ _ _ _ (sym (c .before .before .before .before .before .before .before .before .before .before .before .negative .given .1) ∙ c .before .before .before .before .before .before .before .before .before .before .before .before .before .parse-number .ensures)) .token) _ _ ((got-number _ _ _ _ (sym (c .before .before .before .before .before .before .before .before .before .before .before .negative .given .1) ∙ c .before .before .before .before .before .before .before .before .before .before .before .before .before .parse-number .ensures)) .is) (c .before .before .before .before .before .before .before .before .before .biased .ensures ∙ scale-is _ _ _ _ (got-number _ _ _ _ (sym (c .before .before .before .before .before .before .before .before .before .before .before .negative .given .1) ∙ c .before .before .before .before .before .before .before .before .before .before .before .before .before .parse-number .ensures)))) (c .before .before .before .before .before .before .before .close .ensures) _ _ (c .before .before .before .next .given .1) (sym (c .before .fits2 .ensures) ∙ c .if1 .taken)
 
--- src/parser.rt:133:1
 returns-2 : tie.Need-returns-2
 returns-2 c = meets-refused _ _ _ _ _ _ (scale-1 _ _ _ _ _ (lost-number _ _ (sym (c .before .n .given .1) ∙ c .before .before .before .parse-number .ensures)))
 
--- src/parser.rt:133:1
 same-length-2 : tie.Need-same-length-2
 same-length-2 c = search needs
 
--- src/parser.rt:133:1
 returns-3 : tie.Need-returns-3
 returns-3 c = decimal-lost _ _ _ _ _ _ _ _ _ _ (scale-2 _ _ _ _ ((got-number _ _ _ _ (sym (c .before .before .before .before .before .before .before .before .before .negative .given .1) ∙ c .before .before .before .before .before .before .before .before .before .before .before .parse-number .ensures)) .token) _ _ ((got-number _ _ _ _ (sym (c .before .before .before .before .before .before .before .before .before .negative .given .1) ∙ c .before .before .before .before .before .before .before .before .before .before .before .parse-number .ensures)) .is) (c .before .before .before .before .before .before .before .biased .ensures ∙ scale-is _ _ _ _ (got-number _ _ _ _ (sym (c .before .before .before .before .before .before .before .before .before .negative .given .1) ∙ c .before .before .before .before .before .before .before .before .before .before .before .parse-number .ensures)))) (c .before .before .before .before .before .close .ensures) _ _ (c .before .n2 .given .1)
 
--- src/parser.rt:133:1
 same-length-3 : tie.Need-same-length-3
 same-length-3 c = search needs
 
--- src/parser.rt:133:1
 returns-4 : tie.Need-returns-4
 returns-4 c = decimal-unfit _ _ _ _ _ _ _ _ _ _ (scale-2 _ _ _ _ ((got-number _ _ _ _ (sym (c .before .before .before .before .before .before .before .before .before .before .before .negative .given .1) ∙ c .before .before .before .before .before .before .before .before .before .before .before .before .before .parse-number .ensures)) .token) _ _ ((got-number _ _ _ _ (sym (c .before .before .before .before .before .before .before .before .before .before .before .negative .given .1) ∙ c .before .before .before .before .before .before .before .before .before .before .before .before .before .parse-number .ensures)) .is) (c .before .before .before .before .before .before .before .before .before .biased .ensures ∙ scale-is _ _ _ _ (got-number _ _ _ _ (sym (c .before .before .before .before .before .before .before .before .before .before .before .negative .given .1) ∙ c .before .before .before .before .before .before .before .before .before .before .before .before .before .parse-number .ensures)))) (c .before .before .before .before .before .before .before .close .ensures) _ _ (c .before .before .before .next .given .1) _ (sym (c .before .fits2 .ensures) ∙ c .if1 .left)
 

@@ -13,71 +13,54 @@ use Rattle.datatype_parse.proofs.tokens.expect_token.Reads as expect-to
 use Rattle.datatype_parse.proofs.tokens.parse_time_unit.Reads as parse-time-unit-reads
 use Rattle.datatype_parse.proofs.tokens.parse_zone.Reads as parse-zone-reads
 
--- src/parser.rt:48:22
 expect-token-requires : tie.Need-expect-token-requires
 expect-token-requires c κs = search needs
 
--- src/parser.rt:49:20
 enum-known-next : tie.Need-enum-known-next
 enum-known-next c = search needs
 
--- src/parser.rt:50:23
 enum-known-n : tie.Need-enum-known-n
 enum-known-n c = search needs
 
--- src/parser.rt:51:13
 returns : tie.Need-returns
 returns c = meets-refused _ _ _ _ _ _ (timestamp-1 _ _ _ _ (lost-step _ _ (sym (c .before .n .given .1) ∙ c .before .before .before .expect-token .ensures)))
 
--- src/parser.rt:54:11
 parse-time-unit-requires : tie.Need-parse-time-unit-requires
 parse-time-unit-requires c κs = search needs
 
--- src/parser.rt:55:25
 enum-known-n-2 : tie.Need-enum-known-n-2
 enum-known-n-2 c = search needs
 
--- src/parser.rt:56:23
 enum-known-unit : tie.Need-enum-known-unit
 enum-known-unit c = search needs
 
--- src/parser.rt:56:46
 parse-zone-requires : tie.Need-parse-zone-requires
 parse-zone-requires c κs = search needs
 
--- src/parser.rt:57:29
 enum-known-n-3 : tie.Need-enum-known-n-3
 enum-known-n-3 c = search needs
 
--- src/parser.rt:58:28
 enum-known-start : tie.Need-enum-known-start
 enum-known-start c = search needs
 
--- src/parser.rt:59:54
 cast-put-row : tie.Need-cast-put-row
 cast-put-row c = zone-fits _ _ _ _ _ (c .before .before .before .before .before .before .before .before .before .before .before .before .before .before .before .pre .short) (got-zone _ _ _ _ (sym (c .before .before .start .given .1) ∙ c .before .before .before .before .parse-zone .ensures)) .0
 
--- src/parser.rt:59:68
 cast-put-row-2 : tie.Need-cast-put-row-2
 cast-put-row-2 c = zone-fits _ _ _ _ _ (c .before .before .before .before .before .before .before .before .before .before .before .before .before .before .before .pre .short) (got-zone _ _ _ _ (sym (c .before .before .start .given .1) ∙ c .before .before .before .before .parse-zone .ensures)) .1
 
--- src/parser.rt:59:17
 put-row-requires : tie.Need-put-row-requires
 put-row-requires c κs = search needs
 
--- src/parser.rt:44:1
 returns-2 : tie.Need-returns-2
 returns-2 c = let o = (got-step _ _ (sym (c .before .before .before .before .before .next .given .1) ∙ c .before .before .before .before .before .before .before .expect-token .ensures)) in meets-refused _ _ _ _ _ _ (timestamp-2 _ _ _ (o .0) _ (o .1) _ (lost-value _ _ (sym (c .before .n2 .given .1) ∙ c .before .before .before .parse-time-unit .ensures)))
 
--- src/parser.rt:44:1
 returns-3 : tie.Need-returns-3
 returns-3 c = let o = (got-step _ _ (sym (c .before .before .before .before .before .before .before .before .before .next .given .1) ∙ c .before .before .before .before .before .before .before .before .before .before .before .expect-token .ensures)) in meets-refused _ _ _ _ _ _ (timestamp-3 _ _ _ (o .0) _ (o .1) _ _ (got-value _ _ _ (sym (c .before .before .before .before .before .unit .given .1) ∙ c .before .before .before .before .before .before .before .parse-time-unit .ensures)) _ (lost-zone _ _ (sym (c .before .n3 .given .1) ∙ c .before .before .before .parse-zone .ensures)))
 
--- src/parser.rt:44:1
 same-length : tie.Need-same-length
 same-length c = search needs
 
--- src/parser.rt:44:1
 returns-4 : tie.Need-returns-4
 returns-4 c = let o = (got-step _ _ (sym (c .before .before .before .before .before .before .before .before .before .before .before .before .before .next .given .1) ∙ c .before .before .before .before .before .before .before .before .before .before .before .before .before .before .before .expect-token .ensures)) in meets-leaf _ _ _ _ _ _ _ (timestamp-4 _ _ _ (o .0) _ (o .1) _ _ (got-value _ _ _ (sym (c .before .before .before .before .before .before .before .before .before .unit .given .1) ∙ c .before .before .before .before .before .before .before .before .before .before .before .parse-time-unit .ensures)) _ _ _ (got-zone _ _ _ _ (sym (c .before .before .before .before .before .start .given .1) ∙ c .before .before .before .before .before .before .before .parse-zone .ensures))) (omega arith) (c .before .before .put-row .ensures)
 

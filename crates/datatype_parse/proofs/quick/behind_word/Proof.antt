@@ -10,31 +10,24 @@ use Rattle.datatype_parse.proofs.quick.behind_word.Lts as lts
 use Rattle.datatype_parse.proofs.quick.ends_word.Reads as ends-word-reads
 use Rattle.datatype_parse.proofs.quick.has_bytes.Reads as has-bytes-reads
 
--- src/quick.rt:53:9
 returns : tie.Need-returns
 returns c = λ p. none-found _ _ _
 
--- src/quick.rt:55:9
 has-bytes-requires : tie.Need-has-bytes-requires
 has-bytes-requires c κs = search needs
 
--- src/quick.rt:56:9
 returns-2 : tie.Need-returns-2
 returns-2 c = λ p. none-found _ _ _
 
--- src/quick.rt:58:15
 add-end : tie.Need-add-end
 add-end c = search needs
 
--- src/quick.rt:59:8
 ends-word-requires : tie.Need-ends-word-requires
 ends-word-requires c κs = search needs
 
--- src/quick.rt:60:9
 returns-3 : tie.Need-returns-3
 returns-3 c = λ p. word-found _ _ _ p (c .before .before .before .has-bytes .ensures .0 (not-false _ (c .before .before .if2 .left))) (c .before .before .before .has-bytes .ensures .1 (not-false _ (c .before .before .if2 .left))) (c .before .ends-word .ensures (c .if3 .taken))
 
--- src/quick.rt:49:1
 returns-4 : tie.Need-returns-4
 returns-4 c = λ p. none-found _ _ _
 

@@ -9,19 +9,15 @@ use Rattle.datatype_parse.proofs.quick.ends_word.Reads as reads
 use Rattle.datatype_parse.proofs.quick.ends_word.Lts as lts
 use Rattle.tokenizer.proofs.is_separator.Reads as is-separator-reads
 
--- src/quick.rt:43:9
 returns : tie.Need-returns
 returns c = λ e. word-over _ _ (c .if1 .taken)
 
--- src/quick.rt:45:18
 shared-slice-read-is-separator : tie.Need-shared-slice-read-is-separator
 shared-slice-read-is-separator c = search needs
 
--- src/quick.rt:45:5
 is-separator-requires : tie.Need-is-separator-requires
 is-separator-requires c κs = search needs
 
--- src/quick.rt:39:1
 returns-2 : tie.Need-returns-2
 returns-2 c = λ e. word-at-end _ _ (c .before .before .if1 .left) (sym (c .is-separator .ensures) ∙ e)
 

@@ -10,37 +10,29 @@ use Rattle.datatype_parse.proofs.quick.from_fixed.Lts as lts
 use Rattle.datatype_parse.proofs.quick.byte_at.Reads as byte-at-reads
 use Rattle.datatype_parse.proofs.quick.if_type.Reads as if-type-reads
 
--- src/quick.rt:125:25
 add-byte-at : tie.Need-add-byte-at
 add-byte-at c = search needs
 
--- src/quick.rt:125:11
 byte-at-requires : tie.Need-byte-at-requires
 byte-at-requires c κs = search needs
 
--- src/quick.rt:126:33
 slice-aggregate-if-type : tie.Need-slice-aggregate-if-type
 slice-aggregate-if-type c = search needs
 
--- src/quick.rt:126:15
 if-type-requires : tie.Need-if-type-requires
 unfolding wordOf isSeparator wordKind isDigit words
 if-type-requires c κs = search needs
 
--- src/quick.rt:127:32
 slice-aggregate-if-type-2 : tie.Need-slice-aggregate-if-type-2
 slice-aggregate-if-type-2 c = search needs
 
--- src/quick.rt:127:14
 if-type-requires-2 : tie.Need-if-type-requires-2
 unfolding wordOf isSeparator wordKind isDigit words
 if-type-requires-2 c κs = search needs
 
--- src/quick.rt:121:1
 returns : tie.Need-returns
 returns c = search needs
 
--- src/quick.rt:121:1
 returns-2 : tie.Need-returns-2
 returns-2 c = search needs
 

@@ -10,71 +10,55 @@ use Rattle.datatype_parse.proofs.quick.from_large.Lts as lts
 use Rattle.datatype_parse.proofs.quick.byte_at.Reads as byte-at-reads
 use Rattle.datatype_parse.proofs.quick.if_type.Reads as if-type-reads
 
--- src/quick.rt:160:25
 add-byte-at : tie.Need-add-byte-at
 add-byte-at c = search needs
 
--- src/quick.rt:160:11
 byte-at-requires : tie.Need-byte-at-requires
 byte-at-requires c κs = search needs
 
--- src/quick.rt:161:33
 slice-aggregate-if-type : tie.Need-slice-aggregate-if-type
 slice-aggregate-if-type c = search needs
 
--- src/quick.rt:161:15
 if-type-requires : tie.Need-if-type-requires
 unfolding wordOf isSeparator wordKind isDigit words
 if-type-requires c κs = search needs
 
--- src/quick.rt:162:34
 slice-aggregate-if-type-2 : tie.Need-slice-aggregate-if-type-2
 slice-aggregate-if-type-2 c = search needs
 
--- src/quick.rt:162:16
 if-type-requires-2 : tie.Need-if-type-requires-2
 unfolding wordOf isSeparator wordKind isDigit words
 if-type-requires-2 c κs = search needs
 
--- src/quick.rt:163:34
 add-byte-at-2 : tie.Need-add-byte-at-2
 add-byte-at-2 c = search needs
 
--- src/quick.rt:163:20
 byte-at-requires-2 : tie.Need-byte-at-requires-2
 byte-at-requires-2 c κs = search needs
 
--- src/quick.rt:164:37
 slice-aggregate-if-type-3 : tie.Need-slice-aggregate-if-type-3
 slice-aggregate-if-type-3 c = search needs
 
--- src/quick.rt:164:19
 if-type-requires-3 : tie.Need-if-type-requires-3
 unfolding wordOf isSeparator wordKind isDigit words
 if-type-requires-3 c κs = search needs
 
--- src/quick.rt:165:36
 slice-aggregate-if-type-4 : tie.Need-slice-aggregate-if-type-4
 slice-aggregate-if-type-4 c = search needs
 
--- src/quick.rt:165:18
 if-type-requires-4 : tie.Need-if-type-requires-4
 unfolding wordOf isSeparator wordKind isDigit words
 if-type-requires-4 c κs = search needs
 
--- src/quick.rt:156:1
 returns : tie.Need-returns
 returns c = search needs
 
--- src/quick.rt:156:1
 returns-2 : tie.Need-returns-2
 returns-2 c = search needs
 
--- src/quick.rt:156:1
 returns-3 : tie.Need-returns-3
 returns-3 c = search needs
 
--- src/quick.rt:156:1
 returns-4 : tie.Need-returns-4
 returns-4 c = search needs
 

@@ -17,47 +17,36 @@ Inv-loop text at part i₀ i = (i ≤ length part) × ((at + length part ≤ len
 abbrev μ-loop : tie.MeasureT-loop
 μ-loop text at part i₀ i = length part - i
 
--- src/quick.rt:25:8
 sub-if1 : tie.Need-sub-if1 Inv-loop μ-loop
 sub-if1 c = search needs
 
--- src/quick.rt:26:9
 returns : tie.Need-returns Inv-loop μ-loop
 returns c = (λ e. never e, λ e. never e)
 
--- src/quick.rt:29:5
 loop-holds : tie.Need-loop-holds Inv-loop μ-loop
 loop-holds c = (search needs, (search needs, λ k l. absurd (omega arith)))
 
--- src/quick.rt:30:17
 add-if2 : tie.Need-add-if2 Inv-loop μ-loop
 add-if2 c = search needs
 
--- src/quick.rt:30:12
 shared-slice-read-if2 : tie.Need-shared-slice-read-if2 Inv-loop μ-loop
 shared-slice-read-if2 c = let a = c .before .before .loop .inv .1 .0 in let t = c .before .loop-test .taken in omega arith
 
--- src/quick.rt:30:28
 shared-slice-read-if2-2 : tie.Need-shared-slice-read-if2-2 Inv-loop μ-loop
 shared-slice-read-if2-2 c = search needs
 
--- src/quick.rt:31:13
 returns-2 : tie.Need-returns-2 Inv-loop μ-loop
 returns-2 c = (λ e. never e, λ e. never e)
 
--- src/quick.rt:33:9
 add-i : tie.Need-add-i Inv-loop μ-loop
 add-i c = search needs
 
--- src/quick.rt:29:5
 loop-less : tie.Need-loop-less Inv-loop μ-loop
 loop-less c = search needs
 
--- src/quick.rt:29:5
 loop-again : tie.Need-loop-again Inv-loop μ-loop
 loop-again c = (search needs, (c .before .before .before .before .loop .inv .1 .0, same-more (c .before .before .before .before .before .before .args .text .now) (c .before .before .before .before .before .before .args .part .now) (c .before .before .before .before .before .before .args .at) _ (c .before .before .before .before .loop .inv .1 .1) (c .if2 .left)))
 
--- src/quick.rt:20:1
 returns-3 : tie.Need-returns-3 Inv-loop μ-loop
 returns-3 c = (λ e. c .before .loop .inv .1 .0, λ e k l. c .before .loop .inv .1 .1 k (let t = c .loop-test .left in omega arith))
 

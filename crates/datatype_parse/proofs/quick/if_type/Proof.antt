@@ -8,11 +8,9 @@ use Rattle.datatype_parse.proofs.quick.if_type.Reads as reads
 use Rattle.datatype_parse.proofs.quick.if_type.Lts as lts
 use Rattle.datatype_parse.proofs.quick.behind_word.Reads as behind-word-reads
 
--- src/quick.rt:81:15
 behind-word-requires : tie.Need-behind-word-requires
 behind-word-requires c κs = search needs
 
--- src/quick.rt:74:1
 returns : tie.Need-returns
 returns c = found-as _ _ _ _ _ (c .before .before .before .pre .1 .1) (c .behind-word .ensures (c .before .before .before .pre .1 .0))
 

@@ -17,123 +17,94 @@ use Rattle.datatype_parse.proofs.quick.from_t.Reads as from-t-reads
 use Rattle.datatype_parse.proofs.quick.from_u.Reads as from-u-reads
 use Rattle.datatype_parse.proofs.quick.if_type.Reads as if-type-reads
 
--- src/quick.rt:212:9
 returns : tie.Need-returns
 returns c = none-found _ _ _
 
--- src/quick.rt:214:11
 shared-slice-read-match : tie.Need-shared-slice-read-match
 shared-slice-read-match c = search needs
 
--- src/quick.rt:215:15
 from-b-requires : tie.Need-from-b-requires
 from-b-requires c κs = search needs
 
--- src/quick.rt:216:15
 from-d-requires : tie.Need-from-d-requires
 from-d-requires c κs = search needs
 
--- src/quick.rt:217:15
 from-f-requires : tie.Need-from-f-requires
 from-f-requires c κs = search needs
 
--- src/quick.rt:218:15
 from-i-requires : tie.Need-from-i-requires
 from-i-requires c κs = search needs
 
--- src/quick.rt:219:15
 from-l-requires : tie.Need-from-l-requires
 from-l-requires c κs = search needs
 
--- src/quick.rt:220:33
 slice-aggregate-if-type : tie.Need-slice-aggregate-if-type
 slice-aggregate-if-type c = search needs
 
--- src/quick.rt:220:15
 if-type-requires : tie.Need-if-type-requires
 unfolding wordOf isSeparator wordKind isDigit words
 if-type-requires c κs = search needs
 
--- src/quick.rt:221:33
 slice-aggregate-if-type-2 : tie.Need-slice-aggregate-if-type-2
 slice-aggregate-if-type-2 c = search needs
 
--- src/quick.rt:221:15
 if-type-requires-2 : tie.Need-if-type-requires-2
 unfolding wordOf isSeparator wordKind isDigit words
 if-type-requires-2 c κs = search needs
 
--- src/quick.rt:222:33
 slice-aggregate-if-type-3 : tie.Need-slice-aggregate-if-type-3
 slice-aggregate-if-type-3 c = search needs
 
--- src/quick.rt:222:15
 if-type-requires-3 : tie.Need-if-type-requires-3
 unfolding wordOf isSeparator wordKind isDigit words
 if-type-requires-3 c κs = search needs
 
--- src/quick.rt:223:33
 slice-aggregate-if-type-4 : tie.Need-slice-aggregate-if-type-4
 slice-aggregate-if-type-4 c = search needs
 
--- src/quick.rt:223:15
 if-type-requires-4 : tie.Need-if-type-requires-4
 unfolding wordOf isSeparator wordKind isDigit words
 if-type-requires-4 c κs = search needs
 
--- src/quick.rt:224:15
 from-t-requires : tie.Need-from-t-requires
 from-t-requires c κs = search needs
 
--- src/quick.rt:225:15
 from-u-requires : tie.Need-from-u-requires
 from-u-requires c κs = search needs
 
--- src/quick.rt:208:1
 returns-2 : tie.Need-returns-2
 returns-2 c = search needs
 
--- src/quick.rt:208:1
 returns-3 : tie.Need-returns-3
 returns-3 c = search needs
 
--- src/quick.rt:208:1
 returns-4 : tie.Need-returns-4
 returns-4 c = search needs
 
--- src/quick.rt:208:1
 returns-5 : tie.Need-returns-5
 returns-5 c = search needs
 
--- src/quick.rt:208:1
 returns-6 : tie.Need-returns-6
 returns-6 c = search needs
 
--- src/quick.rt:208:1
 returns-7 : tie.Need-returns-7
 returns-7 c = search needs
 
--- src/quick.rt:208:1
 returns-8 : tie.Need-returns-8
 returns-8 c = search needs
 
--- src/quick.rt:208:1
 returns-9 : tie.Need-returns-9
 returns-9 c = search needs
 
--- src/quick.rt:208:1
 returns-10 : tie.Need-returns-10
 returns-10 c = search needs
 
--- src/quick.rt:208:1
 returns-11 : tie.Need-returns-11
 returns-11 c = search needs
 
--- src/quick.rt:208:1
 returns-12 : tie.Need-returns-12
 returns-12 c = search needs
 
--- src/quick.rt:208:1
 returns-13 : tie.Need-returns-13
 returns-13 c = none-found _ _ _
 

@@ -10,67 +10,52 @@ use Rattle.datatype_parse.proofs.quick.unit_word.Reads as reads
 use Rattle.datatype_parse.proofs.quick.unit_word.Lts as lts
 use Rattle.datatype_parse.proofs.quick.if_unit.Reads as if-unit-reads
 
--- src/quick.rt:247:9
 returns : tie.Need-returns
 returns c = none-found _ _ _
 
--- src/quick.rt:249:11
 shared-slice-read-match : tie.Need-shared-slice-read-match
 shared-slice-read-match c = search needs
 
--- src/quick.rt:250:34
 slice-aggregate-if-unit : tie.Need-slice-aggregate-if-unit
 slice-aggregate-if-unit c = search needs
 
--- src/quick.rt:250:16
 if-unit-requires : tie.Need-if-unit-requires
 unfolding wordOf isSeparator wordKind isDigit words
 if-unit-requires c κs = search needs
 
--- src/quick.rt:251:34
 slice-aggregate-if-unit-2 : tie.Need-slice-aggregate-if-unit-2
 slice-aggregate-if-unit-2 c = search needs
 
--- src/quick.rt:251:16
 if-unit-requires-2 : tie.Need-if-unit-requires-2
 unfolding wordOf isSeparator wordKind isDigit words
 if-unit-requires-2 c κs = search needs
 
--- src/quick.rt:252:34
 slice-aggregate-if-unit-3 : tie.Need-slice-aggregate-if-unit-3
 slice-aggregate-if-unit-3 c = search needs
 
--- src/quick.rt:252:16
 if-unit-requires-3 : tie.Need-if-unit-requires-3
 unfolding wordOf isSeparator wordKind isDigit words
 if-unit-requires-3 c κs = search needs
 
--- src/quick.rt:253:34
 slice-aggregate-if-unit-4 : tie.Need-slice-aggregate-if-unit-4
 slice-aggregate-if-unit-4 c = search needs
 
--- src/quick.rt:253:16
 if-unit-requires-4 : tie.Need-if-unit-requires-4
 unfolding wordOf isSeparator wordKind isDigit words
 if-unit-requires-4 c κs = search needs
 
--- src/quick.rt:243:1
 returns-2 : tie.Need-returns-2
 returns-2 c = search needs
 
--- src/quick.rt:243:1
 returns-3 : tie.Need-returns-3
 returns-3 c = search needs
 
--- src/quick.rt:243:1
 returns-4 : tie.Need-returns-4
 returns-4 c = search needs
 
--- src/quick.rt:243:1
 returns-5 : tie.Need-returns-5
 returns-5 c = search needs
 
--- src/quick.rt:243:1
 returns-6 : tie.Need-returns-6
 returns-6 c = none-found _ _ _
 

@@ -8,71 +8,54 @@ use Rattle.datatype_parse.proofs.rows.entries_refusal.Reads as reads
 use Rattle.datatype_parse.proofs.rows.entries_refusal.Lts as lts
 use Rattle.datatype_parse.proofs.rows.word.Reads as word-reads
 
--- src/rows.rt:82:8
 word-requires : tie.Need-word-requires
 word-requires c κs = (row-room _ _ _ (c .before .pre .0) (c .before .pre .1), omega arith)
 
--- src/rows.rt:83:9
 returns : tie.Need-returns
 returns c = entries-1 _ _ _ (c .before .before .before .pre .0) (c .before .before .before .pre .1) (λ q. c .if1 .taken (c .before .word .ensures .0 ∙ q))
 
--- src/rows.rt:85:8
 word-requires-2 : tie.Need-word-requires-2
 word-requires-2 c κs = (row-room _ _ _ (c .before .before .before .pre .0) (c .before .before .before .pre .1), omega arith)
 
--- src/rows.rt:86:9
 returns-2 : tie.Need-returns-2
 returns-2 c = entries-2 _ _ _ (c .before .before .before .before .before .pre .0) (c .before .before .before .before .before .pre .1) (sym (c .before .before .before .word .ensures .0) ∙ c .before .before .if1 .left) (λ q. c .if2 .taken (c .before .word2 .ensures .0 ∙ q))
 
--- src/rows.rt:88:24
 word-requires-3 : tie.Need-word-requires-3
 word-requires-3 c κs = (row-room _ _ _ (c .before .before .before .before .before .pre .0) (c .before .before .before .before .before .pre .1), omega arith)
 
--- src/rows.rt:88:18
 add-behind : tie.Need-add-behind
 add-behind c = search needs
 
--- src/rows.rt:89:15
 add-key : tie.Need-add-key
 add-key c = search needs
 
--- src/rows.rt:91:9
 returns-3 : tie.Need-returns-3
 returns-3 c = no-key _ _ _ (c .before .before .before .before .before .before .before .pre .0) (c .before .before .before .before .before .before .before .pre .1) _ (c .before .word3 .ensures .0) (sym (c .before .before .before .before .before .word .ensures .0) ∙ c .before .before .before .before .if1 .left) (sym (c .before .before .before .word2 .ensures .0) ∙ c .before .before .if2 .left) (c .if3 .taken)
 
--- src/rows.rt:93:23
 word-requires-4 : tie.Need-word-requires-4
 word-requires-4 c κs = (key-room _ _ _ (c .before .before .before .before .before .before .before .pre .0) (c .before .before .before .before .before .before .before .pre .1) _ (c .before .word3 .ensures .0) (c .if3 .left), omega arith)
 
--- src/rows.rt:93:17
 add-value : tie.Need-add-value
 add-value c = search needs
 
--- src/rows.rt:95:9
 returns-4 : tie.Need-returns-4
 returns-4 c = no-value _ _ _ (c .before .before .before .before .before .before .before .before .before .pre .0) (c .before .before .before .before .before .before .before .before .before .pre .1) _ (c .before .before .before .word3 .ensures .0) (sym (c .before .before .before .before .before .before .before .word .ensures .0) ∙ c .before .before .before .before .before .before .if1 .left) (sym (c .before .before .before .before .before .word2 .ensures .0) ∙ c .before .before .before .before .if2 .left) _ (c .before .word4 .ensures .0) (c .before .before .if3 .left) (c .if4 .taken)
 
--- src/rows.rt:97:16
 word-requires-5 : tie.Need-word-requires-5
 word-requires-5 c κs = (value-room _ _ _ (c .before .before .before .before .before .before .before .before .before .pre .0) (c .before .before .before .before .before .before .before .before .before .pre .1) _ (c .before .before .before .word3 .ensures .0) (sym (c .before .before .before .before .before .before .before .word .ensures .0) ∙ c .before .before .before .before .before .before .if1 .left) (sym (c .before .before .before .before .before .word2 .ensures .0) ∙ c .before .before .before .before .if2 .left) _ (c .before .word4 .ensures .0) (c .before .before .if3 .left) (c .if4 .left), omega arith)
 
--- src/rows.rt:97:8
 add-if5 : tie.Need-add-if5
 add-if5 c = search needs
 
--- src/rows.rt:98:9
 returns-5 : tie.Need-returns-5
 returns-5 c = three _ _ _ (c .before .before .before .before .before .before .before .before .before .before .before .pre .0) (c .before .before .before .before .before .before .before .before .before .before .before .pre .1) _ (c .before .before .before .before .before .word3 .ensures .0) (sym (c .before .before .before .before .before .before .before .before .before .word .ensures .0) ∙ c .before .before .before .before .before .before .before .before .if1 .left) (sym (c .before .before .before .before .before .before .before .word2 .ensures .0) ∙ c .before .before .before .before .before .before .if2 .left) _ (c .before .before .before .word4 .ensures .0) (c .before .before .before .before .if3 .left) (c .before .before .if4 .left) _ (c .before .word5 .ensures .0) (c .if5 .taken)
 
--- src/rows.rt:100:8
 word-requires-6 : tie.Need-word-requires-6
 word-requires-6 c κs = (key-room _ _ _ (c .before .before .before .before .before .before .before .before .before .before .before .pre .0) (c .before .before .before .before .before .before .before .before .before .before .before .pre .1) _ (c .before .before .before .before .before .word3 .ensures .0) (c .before .before .before .before .if3 .left), omega arith)
 
--- src/rows.rt:101:9
 returns-6 : tie.Need-returns-6
 returns-6 c = key-nullable _ _ _ (c .before .before .before .before .before .before .before .before .before .before .before .before .before .pre .0) (c .before .before .before .before .before .before .before .before .before .before .before .before .before .pre .1) _ (c .before .before .before .before .before .before .before .word3 .ensures .0) (sym (c .before .before .before .before .before .before .before .before .before .before .before .word .ensures .0) ∙ c .before .before .before .before .before .before .before .before .before .before .if1 .left) (sym (c .before .before .before .before .before .before .before .before .before .word2 .ensures .0) ∙ c .before .before .before .before .before .before .before .before .if2 .left) _ (c .before .before .before .before .before .word4 .ensures .0) (c .before .before .before .before .before .before .if3 .left) (c .before .before .before .before .if4 .left) _ (c .before .before .before .word5 .ensures .0) (c .before .before .if5 .left) (λ q. c .if6 .taken (c .before .word6 .ensures .0 ∙ q))
 
--- src/rows.rt:78:1
 returns-7 : tie.Need-returns-7
 returns-7 c = key-sure _ _ _ (c .before .before .before .before .before .before .before .before .before .before .before .before .before .pre .0) (c .before .before .before .before .before .before .before .before .before .before .before .before .before .pre .1) _ (c .before .before .before .before .before .before .before .word3 .ensures .0) (sym (c .before .before .before .before .before .before .before .before .before .before .before .word .ensures .0) ∙ c .before .before .before .before .before .before .before .before .before .before .if1 .left) (sym (c .before .before .before .before .before .before .before .before .before .word2 .ensures .0) ∙ c .before .before .before .before .before .before .before .before .if2 .left) _ (c .before .before .before .before .before .word4 .ensures .0) (c .before .before .before .before .before .before .if3 .left) (c .before .before .before .before .if4 .left) _ (c .before .before .before .word5 .ensures .0) (c .before .before .if5 .left) (sym (c .before .word6 .ensures .0) ∙ c .if6 .left)
 

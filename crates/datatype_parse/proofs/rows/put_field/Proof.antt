@@ -8,75 +8,57 @@ use Rattle.datatype_parse.proofs.rows.put_field.Tie as tie
 use Rattle.datatype_parse.proofs.rows.put_field.Reads as reads
 use Rattle.datatype_parse.proofs.rows.put_field.Lts as lts
 
--- src/rows.rt:51:13
 mul-i : tie.Need-mul-i
 mul-i c = search needs
 
--- src/rows.rt:52:10
 add-rows : tie.Need-add-rows
 add-rows c = search needs
 
--- src/rows.rt:52:5
 mul-rows : tie.Need-mul-rows
 mul-rows c = search needs
 
--- src/rows.rt:52:5
 slice-write-rows : tie.Need-slice-write-rows
 slice-write-rows c = search needs
 
--- src/rows.rt:53:10
 add-rows-2 : tie.Need-add-rows-2
 add-rows-2 c = search needs
 
--- src/rows.rt:53:5
 mul-rows-2 : tie.Need-mul-rows-2
 mul-rows-2 c = search needs
 
--- src/rows.rt:53:5
 slice-write-rows-2 : tie.Need-slice-write-rows-2
 slice-write-rows-2 c = simp length-set (omega arith)
 
--- src/rows.rt:54:10
 add-rows-3 : tie.Need-add-rows-3
 add-rows-3 c = search needs
 
--- src/rows.rt:54:5
 mul-rows-3 : tie.Need-mul-rows-3
 mul-rows-3 c = search needs
 
--- src/rows.rt:54:5
 slice-write-rows-3 : tie.Need-slice-write-rows-3
 slice-write-rows-3 c = simp length-set (omega arith)
 
--- src/rows.rt:55:10
 add-rows-4 : tie.Need-add-rows-4
 add-rows-4 c = search needs
 
--- src/rows.rt:55:5
 mul-rows-4 : tie.Need-mul-rows-4
 mul-rows-4 c = search needs
 
--- src/rows.rt:55:5
 slice-write-rows-4 : tie.Need-slice-write-rows-4
 slice-write-rows-4 c = simp length-set (omega arith)
 
--- src/rows.rt:56:10
 add-rows-5 : tie.Need-add-rows-5
 add-rows-5 c = search needs
 
--- src/rows.rt:56:5
 mul-rows-5 : tie.Need-mul-rows-5
 mul-rows-5 c = search needs
 
--- src/rows.rt:56:5
 slice-write-rows-5 : tie.Need-slice-write-rows-5
 slice-write-rows-5 c = simp length-set (omega arith)
 
--- src/rows.rt:39:1
 same-length : tie.Need-same-length
 same-length c = simp length-set
 
--- src/rows.rt:39:1
 returns : tie.Need-returns
 returns c = sets-field (c .args .rows .now) (11 * c .args .row) _ _ _ _ _
 

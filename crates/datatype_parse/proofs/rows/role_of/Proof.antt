@@ -8,11 +8,9 @@ use Rattle.datatype_parse.proofs.rows.role_of.Reads as reads
 use Rattle.datatype_parse.proofs.rows.role_of.Lts as lts
 use Rattle.datatype_parse.proofs.rows.word.Reads as word-reads
 
--- src/rows.rt:74:5
 word-requires : tie.Need-word-requires
 word-requires c κs = (row-room _ _ _ (c .before .pre .0) (c .before .pre .1), omega arith)
 
--- src/rows.rt:70:1
 returns : tie.Need-returns
 returns c = c .word .ensures .0 ∙ role-is _ _ _ (c .before .before .pre .0) (c .before .before .pre .1)
 

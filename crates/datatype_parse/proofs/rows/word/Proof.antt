@@ -7,27 +7,21 @@ use Rattle.datatype_parse.proofs.rows.word.Tie as tie
 use Rattle.datatype_parse.proofs.rows.word.Reads as reads
 use Rattle.datatype_parse.proofs.rows.word.Lts as lts
 
--- src/rows.rt:66:10
 mul-result : tie.Need-mul-result
 mul-result c = search needs
 
--- src/rows.rt:66:10
 add-result : tie.Need-add-result
 add-result c = search needs
 
--- src/rows.rt:66:5
 mul-result-2 : tie.Need-mul-result-2
 mul-result-2 c = search needs
 
--- src/rows.rt:66:5
 shared-slice-read-result : tie.Need-shared-slice-read-result
 shared-slice-read-result c = search needs
 
--- src/rows.rt:66:5
 cast-result : tie.Need-cast-result
 cast-result c = omega (arith, c .shared-slice-known .given (11 * c .before .args .row + c .before .args .k))
 
--- src/rows.rt:62:1
 returns : tie.Need-returns
 returns c = (refl, omega (arith, c .shared-slice-known .given (11 * c .before .args .row + c .before .args .k)))
 

@@ -7,31 +7,24 @@ use Rattle.datatype_parse.proofs.tokens.double_quoted.Reads as reads
 use Rattle.datatype_parse.proofs.tokens.double_quoted.Lts as lts
 use Rattle.tokenizer.proofs.string_end.Reads as string-end-reads
 
--- src/tokens.rt:118:17
 add-start : tie.Need-add-start
 add-start c = search needs
 
--- src/tokens.rt:119:9
 string-end-requires : tie.Need-string-end-requires
 string-end-requires c κs = search needs
 
--- src/tokens.rt:121:9
 returns : tie.Need-returns
 returns c = opened-open _ _ (c .before .before .before .pre .0) (c .before .before .before .pre .1) _ (c .before .string-end .ensures) (c .if1 .taken)
 
--- src/tokens.rt:124:9
 returns-2 : tie.Need-returns-2
 returns-2 c = opened-empty _ _ (c .before .before .before .before .pre .0) (c .before .before .before .before .pre .1) _ (c .before .before .string-end .ensures) (c .before .if1 .left) (c .if2 .taken)
 
--- src/tokens.rt:126:27
 sub-t5 : tie.Need-sub-t5
 sub-t5 c = search needs
 
--- src/tokens.rt:126:40
 add-t7 : tie.Need-add-t7
 add-t7 c = search needs
 
--- src/tokens.rt:114:1
 returns-3 : tie.Need-returns-3
 returns-3 c = opened-whole _ _ (c .before .before .before .before .pre .0) (c .before .before .before .before .pre .1) _ (c .before .before .string-end .ensures) (c .before .if1 .left) (c .if2 .left)
 

@@ -8,22 +8,18 @@ use Rattle.datatype_parse.proofs.tokens.expect_field.Lts as lts
 use Rattle.datatype_parse.proofs.tokens.refusal.Reads as refusal-reads
 use Rattle.tokenizer.proofs.next_token.Reads as next-token-reads
 
--- src/tokens.rt:179:9
 next-token-requires : tie.Need-next-token-requires
 next-token-requires c κs = search needs
 
 enum-told : tie.Need-enum-told
 enum-told c = search needs
 
--- src/tokens.rt:182:30
 refusal-requires : tie.Need-refusal-requires
 refusal-requires c κs = search needs
 
--- src/tokens.rt:182:9
 returns : tie.Need-returns
 returns c = step-lost _ _ _ _ (c .before .before .next-token .ensures) (but 13) tt (c .before .match .keys2) _ (c .refusal .ensures)
 
--- src/tokens.rt:176:1
 returns-2 : tie.Need-returns-2
 returns-2 c = step-here _ _ _ _ (c .before .before .next-token .ensures) (only-sort 13 (c .before .before .next-token .result .kind) (c .before .match .keys1))
 

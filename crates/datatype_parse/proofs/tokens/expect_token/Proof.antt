@@ -9,35 +9,27 @@ use Rattle.datatype_parse.proofs.tokens.refusal.Reads as refusal-reads
 use Rattle.tokenizer.proofs.next_token.Reads as next-token-reads
 use Rattle.tokenizer.proofs.skip_spaces.Reads as skip-spaces-reads
 
--- src/tokens.rt:33:9
 skip-spaces-requires : tie.Need-skip-spaces-requires
 skip-spaces-requires c κs = search needs
 
--- src/tokens.rt:35:9
 returns : tie.Need-returns
 returns c = expect-over _ _ _ (c .before .before .before .args .mark) (c .before .skip-spaces .ensures) (c .before .before .before .pre) (c .if1 .taken)
 
--- src/tokens.rt:37:8
 shared-slice-read-if2 : tie.Need-shared-slice-read-if2
 shared-slice-read-if2 c = search needs
 
--- src/tokens.rt:38:27
 add-t11 : tie.Need-add-t11
 add-t11 c = search needs
 
--- src/tokens.rt:38:9
 returns-2 : tie.Need-returns-2
 returns-2 c = expect-here _ _ _ (c .before .before .before .before .before .args .mark) (c .before .before .before .skip-spaces .ensures) (c .before .before .before .before .before .pre) (c .before .before .if1 .left) (c .if2 .taken)
 
--- src/tokens.rt:40:9
 next-token-requires : tie.Need-next-token-requires
 next-token-requires c κs = search needs
 
--- src/tokens.rt:42:19
 refusal-requires : tie.Need-refusal-requires
 refusal-requires c κs = search needs
 
--- src/tokens.rt:29:1
 returns-3 : tie.Need-returns-3
 returns-3 c = expect-other _ _ _ (c .before .before .before .before .before .before .before .args .mark) (c .before .before .before .before .before .skip-spaces .ensures) (c .before .before .before .before .before .before .before .pre) (c .before .before .if2 .left) _ _ (c .before .next-token .ensures) (c .refusal .ensures)
 

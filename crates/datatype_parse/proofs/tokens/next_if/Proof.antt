@@ -7,27 +7,21 @@ use Rattle.datatype_parse.proofs.tokens.next_if.Reads as reads
 use Rattle.datatype_parse.proofs.tokens.next_if.Lts as lts
 use Rattle.tokenizer.proofs.skip_spaces.Reads as skip-spaces-reads
 
--- src/tokens.rt:50:9
 skip-spaces-requires : tie.Need-skip-spaces-requires
 skip-spaces-requires c κs = search needs
 
--- src/tokens.rt:52:9
 returns : tie.Need-returns
 returns c = look-over _ _ _ (c .before .before .before .args .mark) (c .before .skip-spaces .ensures) (c .before .before .before .pre) (c .if1 .taken)
 
--- src/tokens.rt:54:8
 shared-slice-read-if2 : tie.Need-shared-slice-read-if2
 shared-slice-read-if2 c = search needs
 
--- src/tokens.rt:55:27
 add-t9 : tie.Need-add-t9
 add-t9 c = search needs
 
--- src/tokens.rt:55:9
 returns-2 : tie.Need-returns-2
 returns-2 c = look-found _ _ _ (c .before .before .before .before .before .args .mark) (c .before .before .before .skip-spaces .ensures) (c .before .before .before .before .before .pre) (c .before .before .if1 .left) (c .if2 .taken)
 
--- src/tokens.rt:46:1
 returns-3 : tie.Need-returns-3
 returns-3 c = look-other _ _ _ (c .before .before .before .before .before .args .mark) (c .before .before .before .skip-spaces .ensures) (c .before .before .before .before .before .pre) (c .if2 .left)
 

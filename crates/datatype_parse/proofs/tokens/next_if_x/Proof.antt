@@ -7,18 +7,15 @@ use Rattle.datatype_parse.proofs.tokens.next_if_x.Reads as reads
 use Rattle.datatype_parse.proofs.tokens.next_if_x.Lts as lts
 use Rattle.tokenizer.proofs.next_token.Reads as next-token-reads
 
--- src/tokens.rt:191:9
 next-token-requires : tie.Need-next-token-requires
 next-token-requires c κs = search needs
 
 enum-told : tie.Need-enum-told
 enum-told c = search needs
 
--- src/tokens.rt:194:9
 returns : tie.Need-returns
 returns c = look-lost _ _ _ _ (c .before .next-token .ensures) (but 16) tt (c .match .keys2)
 
--- src/tokens.rt:188:1
 returns-2 : tie.Need-returns-2
 returns-2 c = look-here _ _ _ _ (c .before .before .next-token .ensures) (only-sort 16 (c .before .before .next-token .result .kind) (c .before .match .keys1))
 

@@ -11,32 +11,25 @@ use Rattle.datatype_parse.proofs.tokens.nullability_word.Lts as lts
 use Rattle.datatype_parse.proofs.quick.behind_word.Reads as behind-word-reads
 use Rattle.tokenizer.proofs.next_token.Reads as next-token-reads
 
--- src/tokens.rt:86:51
 slice-aggregate-behind-word : tie.Need-slice-aggregate-behind-word
 slice-aggregate-behind-word c = search needs
 
--- src/tokens.rt:86:9
 behind-word-requires : tie.Need-behind-word-requires
 behind-word-requires c κs = search needs
 
--- src/tokens.rt:88:9
 returns : tie.Need-returns
 unfolding wordOf isSeparator wordKind isDigit words
 returns c = null-found _ _ _ (c .before .before .before .before .pre .0) 2 _ (c .before .behind-word .ensures refl) (c .if1 .taken)
 
--- src/tokens.rt:93:9
 next-token-requires : tie.Need-next-token-requires
 next-token-requires c κs = search needs
 
--- src/tokens.rt:95:32
 enum-known-kind : tie.Need-enum-known-kind
 enum-known-kind c = search needs
 
--- src/tokens.rt:96:9
 returns-2 : tie.Need-returns-2
 returns-2 c = null-not _ _ _ (c .before .before .before .before .before .before .pre .0) _ (c .before .next-token .ensures) (but 12) tt (c .match .keys2)
 
--- src/tokens.rt:81:1
 returns-3 : tie.Need-returns-3
 returns-3 c = null-here _ _ _ (c .before .before .before .before .before .before .before .before .pre .0) _ (c .before .before .before .next-token .ensures) _ (c .before .kind .given .1)
 

@@ -13,38 +13,30 @@ use Rattle.datatype_parse.proofs.tokens.starts.Reads as starts-reads
 use Rattle.tokenizer.proofs.next_token.Reads as next-token-reads
 use Rattle.tokenizer.proofs.skip_spaces.Reads as skip-spaces-reads
 
--- src/tokens.rt:148:9
 skip-spaces-requires : tie.Need-skip-spaces-requires
 skip-spaces-requires c κs = search needs
 
--- src/tokens.rt:149:8
 starts-requires : tie.Need-starts-requires
 starts-requires c κs = search needs
 
--- src/tokens.rt:150:9
 double-quoted-requires : tie.Need-double-quoted-requires
 double-quoted-requires c κs = c .before .starts .ensures .0 (c .if1 .taken)
 
--- src/tokens.rt:150:9
 returns : tie.Need-returns
 returns c = c .double-quoted .ensures ∙ ap quotedOf (need-behind _ _ _ (c .before .before .before .skip-spaces .ensures) _)
 
--- src/tokens.rt:152:9
 next-token-requires : tie.Need-next-token-requires
 next-token-requires c κs = search needs
 
 enum-told : tie.Need-enum-told
 enum-told c = search needs
 
--- src/tokens.rt:155:32
 refusal-requires : tie.Need-refusal-requires
 refusal-requires c κs = search needs
 
--- src/tokens.rt:155:9
 returns-2 : tie.Need-returns-2
 returns-2 c = quoted-lost _ _ _ _ (c .before .before .next-token .ensures) (but 5) tt (c .before .match .keys2) _ (c .refusal .ensures) ∙ ap quotedOf (need-behind _ _ _ (c .before .before .before .before .before .skip-spaces .ensures) _)
 
--- src/tokens.rt:145:1
 returns-3 : tie.Need-returns-3
 returns-3 c = quoted-here _ _ _ _ (c .before .before .next-token .ensures) (only-sort 5 (c .before .before .next-token .result .kind) (c .before .match .keys1)) ∙ ap quotedOf (need-behind _ _ _ (c .before .before .before .before .before .skip-spaces .ensures) _)
 

@@ -10,23 +10,18 @@ use Rattle.datatype_parse.proofs.tokens.parse_interval_unit.Lts as lts
 use Rattle.datatype_parse.proofs.tokens.refusal.Reads as refusal-reads
 use Rattle.tokenizer.proofs.next_token.Reads as next-token-reads
 
--- src/tokens.rt:145:9
 next-token-requires : tie.Need-next-token-requires
 next-token-requires c κs = search needs
 
--- src/tokens.rt:147:33
 enum-known-kind : tie.Need-enum-known-kind
 enum-known-kind c = search needs
 
--- src/tokens.rt:148:32
 refusal-requires : tie.Need-refusal-requires
 refusal-requires c κs = search needs
 
--- src/tokens.rt:148:9
 returns : tie.Need-returns
 returns c = valued-lost _ _ _ _ (c .before .before .next-token .ensures) (but 9) tt (c .before .match .keys2) _ (c .refusal .ensures)
 
--- src/tokens.rt:142:1
 returns-2 : tie.Need-returns-2
 returns-2 c = valued-here _ _ _ _ (c .before .before .before .next-token .ensures) _ (ap sortOf (c .before .kind .given .1)) (ap valueOf (c .before .kind .given .1))
 

@@ -13,43 +13,33 @@ use Rattle.datatype_parse.proofs.tokens.expect_field.Reads as expect-fi
 use Rattle.datatype_parse.proofs.tokens.expect_token.Reads as expect-token-reads
 use Rattle.datatype_parse.proofs.tokens.parse_single_quoted_string.Reads as parse-single-quoted-string-reads
 
--- src/tokens.rt:322:22
 expect-field-requires : tie.Need-expect-field-requires
 expect-field-requires c κs = search needs
 
--- src/tokens.rt:323:20
 enum-known-next : tie.Need-enum-known-next
 enum-known-next c = search needs
 
--- src/tokens.rt:324:23
 enum-known-n : tie.Need-enum-known-n
 enum-known-n c = search needs
 
--- src/tokens.rt:325:13
 returns : tie.Need-returns
 returns c = quoted-refused _ _ (name-1 _ _ _ (lost-step _ _ (sym (c .before .n .given .1) ∙ c .before .before .before .expect-field .ensures)))
 
--- src/tokens.rt:328:11
 expect-token-requires : tie.Need-expect-token-requires
 expect-token-requires c κs = search needs
 
--- src/tokens.rt:329:23
 enum-known-n-2 : tie.Need-enum-known-n-2
 enum-known-n-2 c = search needs
 
--- src/tokens.rt:330:20
 enum-known-next-2 : tie.Need-enum-known-next-2
 enum-known-next-2 c = search needs
 
--- src/tokens.rt:330:29
 parse-single-quoted-string-requires : tie.Need-parse-single-quoted-string-requires
 parse-single-quoted-string-requires c κs = search needs
 
--- src/tokens.rt:319:1
 returns-2 : tie.Need-returns-2
 returns-2 c = let f = got-step _ _ (sym (c .before .before .before .before .before .next .given .1) ∙ c .before .before .before .before .before .before .before .expect-field .ensures) in quoted-refused _ _ (name-2 _ _ (f .0) _ (f .1) _ (lost-step _ _ (sym (c .before .n2 .given .1) ∙ c .before .before .before .expect-token .ensures)))
 
--- src/tokens.rt:319:1
 returns-3 : tie.Need-returns-3
 returns-3 c = let f = got-step _ _ (sym (c .before .before .before .before .before .before .next .given .1) ∙ c .before .before .before .before .before .before .before .before .expect-field .ensures) in let d = got-step _ _ (sym (c .before .before .next2 .given .1) ∙ c .before .before .before .before .expect-token .ensures) in c .parse-single-quoted-string .ensures ∙ sym (ap quotedOf (name-3 _ _ (f .0) _ (f .1) (d .0) _ (d .1)))
 

@@ -9,31 +9,24 @@ use Rattle.datatype_parse.proofs.tokens.limit.Reads as limit-reads
 use Rattle.datatype_parse.proofs.tokens.refusal.Reads as refusal-reads
 use Rattle.tokenizer.proofs.next_token.Reads as next-token-reads
 
--- src/tokens.rt:213:9
 next-token-requires : tie.Need-next-token-requires
 next-token-requires c κs = search needs
 
--- src/tokens.rt:215:28
 enum-known-kind : tie.Need-enum-known-kind
 enum-known-kind c = search needs
 
--- src/tokens.rt:216:32
 refusal-requires : tie.Need-refusal-requires
 refusal-requires c κs = search needs
 
--- src/tokens.rt:216:9
 returns : tie.Need-returns
 returns c = number-lost _ _ _ _ _ (c .before .before .next-token .ensures) (but 4) tt (c .before .match .keys2) _ (c .refusal .ensures)
 
--- src/tokens.rt:218:20
 limit-requires : tie.Need-limit-requires
 limit-requires c κs = search needs
 
--- src/tokens.rt:219:9
 returns-2 : tie.Need-returns-2
 returns-2 c = number-out _ _ _ _ _ (c .before .before .before .before .before .next-token .ensures) _ _ _ (c .before .before .before .kind .given .1) (c .before .limit .ensures) (c .if1 .taken)
 
--- src/tokens.rt:210:1
 returns-3 : tie.Need-returns-3
 returns-3 c = number-in _ _ _ _ _ (c .before .before .before .before .before .next-token .ensures) _ _ _ (c .before .before .before .kind .given .1) (c .before .limit .ensures) (c .if1 .left)
 

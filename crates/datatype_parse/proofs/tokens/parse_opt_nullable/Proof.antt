@@ -9,23 +9,18 @@ use Rattle.datatype_parse.proofs.tokens.nullability_word.Reads as nulla
 use Rattle.datatype_parse.proofs.tokens.starts.Reads as starts-reads
 use Rattle.tokenizer.proofs.skip_spaces.Reads as skip-spaces-reads
 
--- src/tokens.rt:109:9
 skip-spaces-requires : tie.Need-skip-spaces-requires
 skip-spaces-requires c κs = search needs
 
--- src/tokens.rt:110:8
 starts-requires : tie.Need-starts-requires
 starts-requires c κs = search needs
 
--- src/tokens.rt:111:9
 nullability-word-requires : tie.Need-nullability-word-requires
 nullability-word-requires c κs = (c .before .before .skip-spaces .ensures, c .before .starts .ensures .0 (c .if1 .taken) .0)
 
--- src/tokens.rt:111:9
 returns : tie.Need-returns
 returns c = c .nullability-word .ensures
 
--- src/tokens.rt:105:1
 returns-2 : tie.Need-returns-2
 returns-2 c = null-other _ _ _ (c .before .before .skip-spaces .ensures) (c .before .starts .ensures .1 (c .if1 .left) (omega arith))
 

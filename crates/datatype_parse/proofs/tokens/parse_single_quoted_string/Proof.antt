@@ -8,22 +8,18 @@ use Rattle.datatype_parse.proofs.tokens.parse_single_quoted_string.Lts 
 use Rattle.datatype_parse.proofs.tokens.refusal.Reads as refusal-reads
 use Rattle.tokenizer.proofs.next_token.Reads as next-token-reads
 
--- src/tokens.rt:111:9
 next-token-requires : tie.Need-next-token-requires
 next-token-requires c κs = search needs
 
 enum-told : tie.Need-enum-told
 enum-told c = search needs
 
--- src/tokens.rt:114:32
 refusal-requires : tie.Need-refusal-requires
 refusal-requires c κs = search needs
 
--- src/tokens.rt:114:9
 returns : tie.Need-returns
 returns c = quoted-lost _ _ _ _ (c .before .before .next-token .ensures) (but 6) tt (c .before .match .keys2) _ (c .refusal .ensures)
 
--- src/tokens.rt:108:1
 returns-2 : tie.Need-returns-2
 returns-2 c = quoted-here _ _ _ _ (c .before .before .next-token .ensures) (only-sort 6 (c .before .before .next-token .result .kind) (c .before .match .keys1))
 

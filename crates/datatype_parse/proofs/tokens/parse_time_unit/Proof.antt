@@ -12,35 +12,27 @@ use Rattle.datatype_parse.proofs.quick.unit_word.Reads as unit-word-rea
 use Rattle.tokenizer.proofs.next_token.Reads as next-token-reads
 use Rattle.tokenizer.proofs.skip_spaces.Reads as skip-spaces-reads
 
--- src/tokens.rt:177:9
 skip-spaces-requires : tie.Need-skip-spaces-requires
 skip-spaces-requires c κs = search needs
 
--- src/tokens.rt:178:9
 unit-word-requires : tie.Need-unit-word-requires
 unit-word-requires c κs = search needs
 
--- src/tokens.rt:180:9
 returns : tie.Need-returns
 returns c = valued-found _ _ _ (c .before .before .before .skip-spaces .ensures) _ _ _ _ (c .before .before .unit-word .ensures) (c .if1 .taken) refl refl
 
--- src/tokens.rt:182:9
 next-token-requires : tie.Need-next-token-requires
 next-token-requires c κs = search needs
 
--- src/tokens.rt:184:29
 enum-known-kind : tie.Need-enum-known-kind
 enum-known-kind c = search needs
 
--- src/tokens.rt:185:32
 refusal-requires : tie.Need-refusal-requires
 refusal-requires c κs = search needs
 
--- src/tokens.rt:185:9
 returns-2 : tie.Need-returns-2
 returns-2 c = valued-lost _ _ _ _ (c .before .before .next-token .ensures) (but 8) tt (c .before .match .keys2) _ (c .refusal .ensures)
 
--- src/tokens.rt:174:1
 returns-3 : tie.Need-returns-3
 returns-3 c = valued-here _ _ _ _ (c .before .before .before .next-token .ensures) _ (ap sortOf (c .before .kind .given .1)) (ap valueOf (c .before .kind .given .1))
 

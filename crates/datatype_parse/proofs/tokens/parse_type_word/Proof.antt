@@ -12,35 +12,27 @@ use Rattle.datatype_parse.proofs.quick.type_word.Reads as type-word-rea
 use Rattle.tokenizer.proofs.next_token.Reads as next-token-reads
 use Rattle.tokenizer.proofs.skip_spaces.Reads as skip-spaces-reads
 
--- src/tokens.rt:161:9
 skip-spaces-requires : tie.Need-skip-spaces-requires
 skip-spaces-requires c κs = search needs
 
--- src/tokens.rt:162:9
 type-word-requires : tie.Need-type-word-requires
 type-word-requires c κs = search needs
 
--- src/tokens.rt:164:9
 returns : tie.Need-returns
 returns c = valued-found _ _ _ (c .before .before .before .skip-spaces .ensures) _ _ _ _ (c .before .before .type-word .ensures) (c .if1 .taken) refl refl
 
--- src/tokens.rt:166:9
 next-token-requires : tie.Need-next-token-requires
 next-token-requires c κs = search needs
 
--- src/tokens.rt:168:29
 enum-known-kind : tie.Need-enum-known-kind
 enum-known-kind c = search needs
 
--- src/tokens.rt:169:32
 refusal-requires : tie.Need-refusal-requires
 refusal-requires c κs = search needs
 
--- src/tokens.rt:169:9
 returns-2 : tie.Need-returns-2
 returns-2 c = valued-lost _ _ _ _ (c .before .before .next-token .ensures) (but 7) tt (c .before .match .keys2) _ (c .refusal .ensures)
 
--- src/tokens.rt:158:1
 returns-3 : tie.Need-returns-3
 returns-3 c = valued-here _ _ _ _ (c .before .before .before .next-token .ensures) _ (ap sortOf (c .before .kind .given .1)) (ap valueOf (c .before .kind .given .1))
 

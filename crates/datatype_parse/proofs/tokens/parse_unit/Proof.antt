@@ -10,31 +10,24 @@ use Rattle.datatype_parse.proofs.tokens.parse_unit.Lts as lts
 use Rattle.datatype_parse.proofs.tokens.parse_time_unit.Reads as parse-time-unit-reads
 use Rattle.datatype_parse.proofs.tokens.unit_fits.Reads as unit-fits-reads
 
--- src/tokens.rt:252:11
 parse-time-unit-requires : tie.Need-parse-time-unit-requires
 parse-time-unit-requires c κs = search needs
 
--- src/tokens.rt:253:25
 enum-known-n : tie.Need-enum-known-n
 enum-known-n c = search needs
 
--- src/tokens.rt:254:23
 enum-known-unit : tie.Need-enum-known-unit
 enum-known-unit c = search needs
 
--- src/tokens.rt:255:16
 unit-fits-requires : tie.Need-unit-fits-requires
 unit-fits-requires c κs = search needs
 
--- src/tokens.rt:256:17
 returns : tie.Need-returns
 returns c = unit-2 _ _ _ _ _ (got-value _ _ _ (sym (c .before .before .before .unit .given .1) ∙ c .before .before .before .before .before .parse-time-unit .ensures)) _ (c .before .unit-fits .ensures) (c .if1 .taken)
 
--- src/tokens.rt:249:1
 returns-2 : tie.Need-returns-2
 returns-2 c = unit-1 _ _ _ _ (lost-value _ _ (sym (c .before .n .given .1) ∙ c .before .before .before .parse-time-unit .ensures))
 
--- src/tokens.rt:249:1
 returns-3 : tie.Need-returns-3
 returns-3 c = unit-3 _ _ _ _ _ (got-value _ _ _ (sym (c .before .before .before .unit .given .1) ∙ c .before .before .before .before .before .parse-time-unit .ensures)) _ (c .before .unit-fits .ensures) (c .if1 .left)
 

@@ -9,27 +9,21 @@ use Rattle.datatype_parse.proofs.tokens.parse_unsigned.Reads as reads
 use Rattle.datatype_parse.proofs.tokens.parse_unsigned.Lts as lts
 use Rattle.datatype_parse.proofs.tokens.parse_number.Reads as parse-number-reads
 
--- src/tokens.rt:229:11
 parse-number-requires : tie.Need-parse-number-requires
 parse-number-requires c κs = search needs
 
--- src/tokens.rt:230:25
 enum-known-n : tie.Need-enum-known-n
 enum-known-n c = search needs
 
--- src/tokens.rt:231:26
 enum-known-magnitude : tie.Need-enum-known-magnitude
 enum-known-magnitude c = search needs
 
--- src/tokens.rt:231:60
 cast-t9 : tie.Need-cast-t9
 cast-t9 c = omega (arith, number-most _ _ _ _ _ _ _ (got-number _ _ _ _ (sym (c .before .magnitude .given .1) ∙ c .before .before .before .parse-number .ensures)) (omega arith))
 
--- src/tokens.rt:225:1
 returns : tie.Need-returns
 returns c = unsigned-lost _ _ _ _ (lost-number _ _ (sym (c .before .n .given .1) ∙ c .before .before .before .parse-number .ensures))
 
--- src/tokens.rt:225:1
 returns-2 : tie.Need-returns-2
 returns-2 c = number-valued _ _ _ _ _ _ _ (got-number _ _ _ _ (sym (c .before .magnitude .given .1) ∙ c .before .before .before .parse-number .ensures))
 

@@ -11,70 +11,54 @@ use Rattle.datatype_parse.proofs.tokens.expect_token.Reads as expect-to
 use Rattle.datatype_parse.proofs.tokens.next_if.Reads as next-if-reads
 use Rattle.datatype_parse.proofs.tokens.parse_zone_string.Reads as parse-zone-string-reads
 
--- src/tokens.rt:300:31
 next-if-requires : tie.Need-next-if-requires
 next-if-requires c κs = search needs
 
--- src/tokens.rt:300:23
 enum-known-next : tie.Need-enum-known-next
 enum-known-next c = search needs
 
--- src/tokens.rt:301:9
 returns : tie.Need-returns
 returns c = let e = got-look _ _ (sym (c .before .next .given .1) ∙ c .before .before .before .next-if .ensures) in zone-done _ _ _ _ (zone-1 _ _ (e .0) _ (e .1))
 
 enum-told : tie.Need-enum-told
 enum-told c = search needs
 
--- src/tokens.rt:303:22
 expect-token-requires : tie.Need-expect-token-requires
 expect-token-requires c κs = search needs
 
--- src/tokens.rt:304:20
 enum-known-next-2 : tie.Need-enum-known-next-2
 enum-known-next-2 c = search needs
 
--- src/tokens.rt:305:23
 enum-known-n : tie.Need-enum-known-n
 enum-known-n c = search needs
 
--- src/tokens.rt:306:13
 returns-2 : tie.Need-returns-2
 returns-2 c = let l = lost-look _ (sym (c .before .before .before .before .enum-told .given .1) ∙ c .before .before .before .before .before .before .next-if .ensures) in zone-refused _ _ (zone-2 _ _ (l .0) (l .1) _ (lost-step _ _ (sym (c .before .n .given .1) ∙ c .before .before .before .expect-token .ensures)))
 
--- src/tokens.rt:309:11
 parse-zone-string-requires : tie.Need-parse-zone-string-requires
 parse-zone-string-requires c κs = search needs
 
--- src/tokens.rt:310:25
 enum-known-n-2 : tie.Need-enum-known-n-2
 enum-known-n-2 c = search needs
 
--- src/tokens.rt:311:24
 enum-known-start : tie.Need-enum-known-start
 enum-known-start c = search needs
 
--- src/tokens.rt:311:54
 expect-token-requires-2 : tie.Need-expect-token-requires-2
 expect-token-requires-2 c κs = search needs
 
--- src/tokens.rt:312:27
 enum-known-n-3 : tie.Need-enum-known-n-3
 enum-known-n-3 c = search needs
 
--- src/tokens.rt:313:24
 enum-known-next-3 : tie.Need-enum-known-next-3
 enum-known-next-3 c = search needs
 
--- src/tokens.rt:297:1
 returns-3 : tie.Need-returns-3
 returns-3 c = let l = lost-look _ (sym (c .before .before .before .before .before .before .before .before .enum-told .given .1) ∙ c .before .before .before .before .before .before .before .before .before .before .next-if .ensures) in let o = got-step _ _ (sym (c .before .before .before .before .before .next2 .given .1) ∙ c .before .before .before .before .before .before .before .expect-token .ensures) in zone-refused _ _ (zone-3 _ _ (l .0) (l .1) (o .0) _ (o .1) _ (lost-zone _ _ (sym (c .before .n2 .given .1) ∙ c .before .before .before .parse-zone-string .ensures)))
 
--- src/tokens.rt:297:1
 returns-4 : tie.Need-returns-4
 returns-4 c = let l = lost-look _ (sym (c .before .before .before .before .before .before .before .before .before .before .before .before .enum-told .given .1) ∙ c .before .before .before .before .before .before .before .before .before .before .before .before .before .before .next-if .ensures) in let o = got-step _ _ (sym (c .before .before .before .before .before .before .before .before .before .next2 .given .1) ∙ c .before .before .before .before .before .before .before .before .before .before .before .expect-token .ensures) in zone-refused _ _ (zone-4 _ _ (l .0) (l .1) (o .0) _ (o .1) _ _ _ (got-zone _ _ _ _ (sym (c .before .before .before .before .before .start .given .1) ∙ c .before .before .before .before .before .before .before .parse-zone-string .ensures)) _ (lost-step _ _ (sym (c .before .n3 .given .1) ∙ c .before .before .before .expect-token2 .ensures)))
 
--- src/tokens.rt:297:1
 returns-5 : tie.Need-returns-5
 returns-5 c = let l = lost-look _ (sym (c .before .before .before .before .before .before .before .before .before .before .before .before .enum-told .given .1) ∙ c .before .before .before .before .before .before .before .before .before .before .before .before .before .before .next-if .ensures) in let o = got-step _ _ (sym (c .before .before .before .before .before .before .before .before .before .next2 .given .1) ∙ c .before .before .before .before .before .before .before .before .before .before .before .expect-token .ensures) in let e = got-step _ _ (sym (c .before .next3 .given .1) ∙ c .before .before .before .expect-token2 .ensures) in zone-done _ _ _ _ (zone-5 _ _ (l .0) (l .1) (o .0) _ (o .1) _ _ _ (got-zone _ _ _ _ (sym (c .before .before .before .before .before .start .given .1) ∙ c .before .before .before .before .before .before .before .parse-zone-string .ensures)) (e .0) _ (e .1))
 

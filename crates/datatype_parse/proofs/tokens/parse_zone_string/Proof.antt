@@ -18,59 +18,45 @@ use Rattle.datatype_parse.proofs.tokens.starts.Reads as starts-reads
 use Rattle.tokenizer.proofs.next_token.Reads as next-token-reads
 use Rattle.tokenizer.proofs.skip_spaces.Reads as skip-spaces-reads
 
--- src/tokens.rt:334:9
 skip-spaces-requires : tie.Need-skip-spaces-requires
 skip-spaces-requires c κs = search needs
 
--- src/tokens.rt:335:8
 starts-requires : tie.Need-starts-requires
 starts-requires c κs = search needs
 
--- src/tokens.rt:336:9
 double-quoted-requires : tie.Need-double-quoted-requires
 double-quoted-requires c κs = c .before .starts .ensures .0 (c .if1 .taken)
 
--- src/tokens.rt:336:9
 returns : tie.Need-returns
 returns c = c .double-quoted .ensures ∙ zone-begun _ _ _ (c .before .before .before .skip-spaces .ensures) (c .before .before .starts .ensures .0 (c .before .if1 .taken) .0) (c .before .before .starts .ensures .0 (c .before .if1 .taken) .1)
 
--- src/tokens.rt:338:9
 next-token-requires : tie.Need-next-token-requires
 next-token-requires c κs = search needs
 
--- src/tokens.rt:341:28
 enum-told : tie.Need-enum-told
 enum-told c = search needs
 
--- src/tokens.rt:342:28
 enum-told-2 : tie.Need-enum-told-2
 enum-told-2 c = search needs
 
--- src/tokens.rt:342:28
 parse-some-requires : tie.Need-parse-some-requires
 parse-some-requires c κs = search needs
 
--- src/tokens.rt:343:42
 enum-told-3 : tie.Need-enum-told-3
 enum-told-3 c = search needs
 
--- src/tokens.rt:344:30
 refusal-requires : tie.Need-refusal-requires
 refusal-requires c κs = search needs
 
--- src/tokens.rt:331:1
 returns-2 : tie.Need-returns-2
 returns-2 c = zone-done _ _ _ _ (zone-none _ _ _ (c .before .before .next-token .ensures) (only-sort 15 (c .before .before .next-token .result .kind) (c .before .match .keys1)))
 
--- src/tokens.rt:331:1
 returns-3 : tie.Need-returns-3
 returns-3 c = c .parse-some .ensures ∙ sym (ap zoneStep (zone-some _ _ _ (c .before .before .before .next-token .ensures) (only-sort 14 (c .before .before .before .next-token .result .kind) (c .before .before .match .keys2))))
 
--- src/tokens.rt:331:1
 returns-4 : tie.Need-returns-4
 returns-4 c = zone-done _ _ _ _ (zone-string _ _ _ (c .before .before .next-token .ensures) (only-sort 5 (c .before .before .next-token .result .kind) (c .before .match .keys3)))
 
--- src/tokens.rt:331:1
 returns-5 : tie.Need-returns-5
 returns-5 c = zone-refused _ _ (zone-other _ _ _ (c .before .before .next-token .ensures) (0 ∷ 1 ∷ 2 ∷ 3 ∷ 4 ∷ 6 ∷ 7 ∷ 8 ∷ 9 ∷ 10 ∷ 11 ∷ 12 ∷ 13 ∷ 16 ∷ 17 ∷ []) tt tt tt (c .before .match .keys4) ∙ ap (λ (i : ℕ). refuse i) (sym (c .refusal .ensures)))
 

@@ -10,30 +10,24 @@ use Rattle.datatype_parse.proofs.tokens.starts.Reads as starts-reads
 use Rattle.tokenizer.proofs.next_token.Reads as next-token-reads
 use Rattle.tokenizer.proofs.skip_spaces.Reads as skip-spaces-reads
 
--- src/tokens.rt:120:9
 skip-spaces-requires : tie.Need-skip-spaces-requires
 skip-spaces-requires c κs = search needs
 
--- src/tokens.rt:121:9
 starts-requires : tie.Need-starts-requires
 starts-requires c κs = search needs
 
--- src/tokens.rt:122:9
 returns : tie.Need-returns
 returns c = stands-other _ _ _ (c .before .before .skip-spaces .ensures) (c .before .starts .ensures .1 (not-true _ (c .if1 .taken)) (omega arith))
 
--- src/tokens.rt:124:9
 next-token-requires : tie.Need-next-token-requires
 next-token-requires c κs = search needs
 
 enum-told : tie.Need-enum-told
 enum-told c = search needs
 
--- src/tokens.rt:127:9
 returns-2 : tie.Need-returns-2
 returns-2 c = stands-lost _ _ _ _ (c .before .next-token .ensures) (but 5) tt (c .match .keys2)
 
--- src/tokens.rt:117:1
 returns-3 : tie.Need-returns-3
 returns-3 c = stands-here _ _ _ _ (c .before .before .next-token .ensures) (only-sort 5 (c .before .before .next-token .result .kind) (c .before .match .keys1))
 

@@ -6,15 +6,12 @@ use Rattle.datatype_parse.proofs.tokens.refusal.Tie as tie
 use Rattle.datatype_parse.proofs.tokens.refusal.Reads as reads
 use Rattle.datatype_parse.proofs.tokens.refusal.Lts as lts
 
--- src/tokens.rt:22:28
 enum-known-kind : tie.Need-enum-known-kind
 enum-known-kind c = search needs
 
--- src/tokens.rt:23:9
 returns : tie.Need-returns
 returns c = refusal-nine (c .before .args .kind) (but 17) tt (c .match .keys2)
 
--- src/tokens.rt:19:1
 returns-2 : tie.Need-returns-2
 returns-2 c = refusal-own (c .before .before .before .args .kind) _ (c .before .kind .given .1)
 

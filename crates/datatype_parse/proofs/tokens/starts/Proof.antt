@@ -8,15 +8,12 @@ use Rattle.datatype_parse.proofs.tokens.starts.Tie as tie
 use Rattle.datatype_parse.proofs.tokens.starts.Reads as reads
 use Rattle.datatype_parse.proofs.tokens.starts.Lts as lts
 
--- src/tokens.rt:45:9
 returns : tie.Need-returns
 returns c = (λ e. never e, λ e z f. no-byte (c .before .args .text .now) (c .before .args .at) (c .before .args .byte) (c .if1 .taken) z f)
 
--- src/tokens.rt:47:5
 shared-slice-read-result : tie.Need-shared-slice-read-result
 shared-slice-read-result c = search needs
 
--- src/tokens.rt:40:1
 returns-2 : tie.Need-returns-2
 returns-2 c = (λ e. (c .before .if1 .left, eqb-true _ _ e), λ e z f. eqb-false _ _ e f)
 

@@ -7,15 +7,12 @@ use Rattle.datatype_parse.proofs.tokens.unit_fits.Tie as tie
 use Rattle.datatype_parse.proofs.tokens.unit_fits.Reads as reads
 use Rattle.datatype_parse.proofs.tokens.unit_fits.Lts as lts
 
--- src/tokens.rt:240:9
 returns : tie.Need-returns
 returns c = unit-32 _ _ _ (c .if1 .taken) refl
 
--- src/tokens.rt:243:9
 returns-2 : tie.Need-returns-2
 returns-2 c = unit-64 _ _ _ (c .before .if1 .left) (c .if2 .taken) refl
 
--- src/tokens.rt:236:1
 returns-3 : tie.Need-returns-3
 returns-3 c = unit-any _ _ (c .before .if1 .left) (c .if2 .left)
 

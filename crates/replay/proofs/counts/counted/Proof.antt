@@ -7,23 +7,18 @@ use Rattle.replay.proofs.counts.counted.Reads as reads
 use Rattle.replay.proofs.counts.counted.Lts as lts
 use Rattle.replay.proofs.counts.one_more.Reads as one-more-reads
 
--- src/counts.rt:20:9
 one-more-requires : tie.Need-one-more-requires
 one-more-requires c κs = search needs
 
--- src/counts.rt:24:20
 one-more-requires-2 : tie.Need-one-more-requires-2
 one-more-requires-2 c κs = search needs
 
--- src/counts.rt:22:9
 returns : tie.Need-returns
 returns c = count-alike (c .before .before .before .args .t) _ _ _ (c .before .before .one-more .ensures) _ (c .before .if1 .taken) (c .one-more2 .ensures)
 
--- src/counts.rt:30:9
 returns-2 : tie.Need-returns-2
 returns-2 c = count-later (c .before .before .before .before .args .t) _ _ _ (c .before .before .before .one-more .ensures) (c .before .before .if1 .left) (c .if2 .taken)
 
--- src/counts.rt:17:1
 returns-3 : tie.Need-returns-3
 returns-3 c = count-first (c .before .before .before .before .args .t) _ _ _ (c .before .before .before .one-more .ensures) (c .before .before .if1 .left) (c .if2 .left)
 

@@ -14,35 +14,27 @@ Inv-loop words₀ value i₀ words i = Filled value words₀ words i
 abbrev μ-loop : tie.MeasureT-loop
 μ-loop words₀ value i₀ words i = length words₀ - i
 
--- src/lib.rt:102:5
 loop-holds : tie.Need-loop-holds Inv-loop μ-loop
 loop-holds c = filled-start _ _
 
--- src/lib.rt:103:9
 mul-words : tie.Need-mul-words Inv-loop μ-loop
 mul-words c = search needs
 
--- src/lib.rt:103:9
 slice-write-words : tie.Need-slice-write-words Inv-loop μ-loop
 slice-write-words c = search needs
 
--- src/lib.rt:104:9
 add-i : tie.Need-add-i Inv-loop μ-loop
 add-i c = search needs
 
--- src/lib.rt:102:5
 loop-less : tie.Need-loop-less Inv-loop μ-loop
 loop-less c = search needs
 
--- src/lib.rt:102:5
 loop-again : tie.Need-loop-again Inv-loop μ-loop
 loop-again c = filled-more _ _ _ _ (c .before .loop .inv) (c .loop-test .taken)
 
--- src/lib.rt:98:1
 same-length : tie.Need-same-length Inv-loop μ-loop
 same-length c = c .before .loop .inv .long
 
--- src/lib.rt:98:1
 returns : tie.Need-returns Inv-loop μ-loop
 returns c = filled-all _ _ _ _ (c .before .loop .inv) (c .loop-test .left)
 

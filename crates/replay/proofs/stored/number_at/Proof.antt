@@ -17,36 +17,28 @@ Inv-loop sample at value₀ i₀ value i = numberFrom value i (drop i sample) �
 abbrev μ-loop : tie.MeasureT-loop
 μ-loop sample at value₀ i₀ value i = length sample - i
 
--- src/lib.rt:40:5
 loop-holds : tie.Need-loop-holds Inv-loop μ-loop
 unfolding numberAt
 loop-holds c = refl
 
--- src/lib.rt:41:17
 shared-slice-read-b : tie.Need-shared-slice-read-b Inv-loop μ-loop
 shared-slice-read-b c = search needs
 
--- src/lib.rt:42:9
 add-i : tie.Need-add-i Inv-loop μ-loop
 add-i c = search needs
 
--- src/lib.rt:44:13
 returns : tie.Need-returns Inv-loop μ-loop
 returns c = number-stop (c .before .before .before .before .before .args .sample .now) _ _ _ (c .before .before .before .loop .inv) (c .before .before .loop-test .taken) (c .if1 .taken)
 
--- src/lib.rt:49:9
 shifted-requires : tie.Need-shifted-requires Inv-loop μ-loop
 shifted-requires c κs = search needs
 
--- src/lib.rt:40:5
 loop-less : tie.Need-loop-less Inv-loop μ-loop
 loop-less c = search needs
 
--- src/lib.rt:40:5
 loop-again : tie.Need-loop-again Inv-loop μ-loop
 loop-again c = number-go (c .before .before .before .before .before .before .args .sample .now) _ _ _ (c .before .before .before .before .loop .inv) (c .before .before .before .loop-test .taken) _ (c .before .if1 .left) (c .shifted .ensures)
 
--- src/lib.rt:35:1
 returns-2 : tie.Need-returns-2 Inv-loop μ-loop
 returns-2 c = number-end (c .before .before .before .args .sample .now) _ _ _ (c .before .loop .inv) (c .loop-test .left)
 

@@ -6,43 +6,33 @@ use Rattle.replay.proofs.stored.part_at.Tie as tie
 use Rattle.replay.proofs.stored.part_at.Reads as reads
 use Rattle.replay.proofs.stored.part_at.Lts as lts
 
--- src/lib.rt:63:29
 sub-if2 : tie.Need-sub-if2
 sub-if2 c = search needs
 
--- src/lib.rt:64:32
 add-result : tie.Need-add-result
 add-result c = search needs
 
--- src/lib.rt:64:20
 sub-result : tie.Need-sub-result
 sub-result c = search needs
 
--- src/lib.rt:64:20
 part-result-start : tie.Need-part-result-start
 part-result-start c = search needs
 
--- src/lib.rt:64:20
 part-result-end : tie.Need-part-result-end
 part-result-end c = search needs
 
--- src/lib.rt:64:13
 returns : tie.Need-returns
 returns c = part-in (c .before .before .before .args .sample .now) (c .before .before .before .args .at) (c .before .before .before .args .size) (omega (arith, c .before .before .if1 .taken, c .before .if2 .taken))
 
--- src/lib.rt:66:9
 slice-aggregate-result : tie.Need-slice-aggregate-result
 slice-aggregate-result c = search needs
 
--- src/lib.rt:66:9
 returns-2 : tie.Need-returns-2
 returns-2 c = part-out (c .before .before .before .args .sample .now) (c .before .before .before .args .at) (c .before .before .before .args .size) (omega (arith, c .before .before .if1 .taken, c .before .if2 .left))
 
--- src/lib.rt:68:5
 slice-aggregate-result-2 : tie.Need-slice-aggregate-result-2
 slice-aggregate-result-2 c = search needs
 
--- src/lib.rt:59:1
 returns-3 : tie.Need-returns-3
 returns-3 c = part-out (c .before .before .args .sample .now) (c .before .before .args .at) (c .before .before .args .size) (omega (arith, c .before .if1 .left))
 

@@ -15,39 +15,30 @@ Inv-loop sample at out₀ next₀ i₀ out next i = Numbered sample at out₀ ou
 abbrev μ-loop : tie.MeasureT-loop
 μ-loop sample at out₀ next₀ i₀ out next i = length out₀ - i
 
--- src/lib.rt:90:5
 loop-holds : tie.Need-loop-holds Inv-loop μ-loop
 loop-holds c = numbered-start _ _ _
 
--- src/lib.rt:91:13
 number-at-requires : tie.Need-number-at-requires Inv-loop μ-loop
 number-at-requires c κs = search needs
 
--- src/lib.rt:93:9
 mul-out : tie.Need-mul-out Inv-loop μ-loop
 mul-out c = search needs
 
--- src/lib.rt:93:9
 slice-write-out : tie.Need-slice-write-out Inv-loop μ-loop
 slice-write-out c = search needs
 
--- src/lib.rt:94:9
 add-i : tie.Need-add-i Inv-loop μ-loop
 add-i c = search needs
 
--- src/lib.rt:90:5
 loop-less : tie.Need-loop-less Inv-loop μ-loop
 loop-less c = search needs
 
--- src/lib.rt:90:5
 loop-again : tie.Need-loop-again Inv-loop μ-loop
 loop-again c = numbered-more _ _ _ _ _ _ (c .before .before .loop .inv) _ (c .before .loop-test .taken) (c .number-at .ensures)
 
--- src/lib.rt:84:1
 same-length : tie.Need-same-length Inv-loop μ-loop
 same-length c = c .before .loop .inv .front .long
 
--- src/lib.rt:84:1
 returns : tie.Need-returns Inv-loop μ-loop
 returns c = (numbered-place _ _ _ _ _ _ (c .before .loop .inv) (c .loop-test .left), numbered-all _ _ _ _ _ _ (c .before .loop .inv) (c .loop-test .left))
 

@@ -14,31 +14,24 @@ Inv-loop sample cases table words₀ other others t₀ left₀ words t left = le
 abbrev μ-loop : tie.MeasureT-loop
 μ-loop sample cases table words₀ other others t₀ left₀ words t left = left
 
--- src/tables.rt:208:5
 loop-holds : tie.Need-loop-holds Inv-loop μ-loop
 loop-holds c = refl
 
--- src/tables.rt:209:9
 one-case-requires : tie.Need-one-case-requires Inv-loop μ-loop
 one-case-requires c κs = search needs
 
--- src/tables.rt:210:9
 sub-left : tie.Need-sub-left Inv-loop μ-loop
 sub-left c = search needs
 
--- src/tables.rt:208:5
 loop-less : tie.Need-loop-less Inv-loop μ-loop
 loop-less c = search needs
 
--- src/tables.rt:208:5
 loop-again : tie.Need-loop-again Inv-loop μ-loop
 loop-again c = c .before .before .one-case .kept .1 .1 .1 .0 ∙ c .before .before .before .before .before .loop .inv
 
--- src/tables.rt:197:1
 same-length : tie.Need-same-length Inv-loop μ-loop
 same-length c = c .before .loop .inv
 
--- src/tables.rt:197:1
 returns : tie.Need-returns Inv-loop μ-loop
 returns c = search needs
 

@@ -10,47 +10,36 @@ use Rattle.replay.proofs.stored.number_at.Reads as number-at-reads
 use Rattle.replay.proofs.tables.cases_of.Reads as cases-of-reads
 use Rattle.replay.proofs.tables.table_at.Reads as table-at-reads
 
--- src/tables.rt:217:9
 table-at-requires : tie.Need-table-at-requires
 table-at-requires c κs = search needs
 
--- src/tables.rt:218:9
 table-at-requires-2 : tie.Need-table-at-requires-2
 table-at-requires-2 c κs = search needs
 
--- src/tables.rt:219:9
 number-at-requires : tie.Need-number-at-requires
 number-at-requires c κs = search needs
 
--- src/tables.rt:233:9
 slice-relend-prefix-cases-of : tie.Need-slice-relend-prefix-cases-of
 slice-relend-prefix-cases-of c = search needs
 
--- src/tables.rt:233:9
 slice-aggregate-cases-of : tie.Need-slice-aggregate-cases-of
 slice-aggregate-cases-of c = sym (length-take-le _ (c .before .before .before .before .before .before .before .before .table-at .last .1 .1 .0) (c .before .before .before .before .before .before .before .before .table-at .ensures))
 
--- src/tables.rt:235:9
 slice-reshare-prefix-cases-of : tie.Need-slice-reshare-prefix-cases-of
 slice-reshare-prefix-cases-of c = search needs
 
--- src/tables.rt:235:9
 slice-aggregate-cases-of-2 : tie.Need-slice-aggregate-cases-of-2
 slice-aggregate-cases-of-2 c = sym (length-take-le _ (c .before .before .before .before .before .table-at2 .last .1 .1 .0) (c .before .before .before .before .before .table-at2 .ensures))
 
--- src/tables.rt:228:5
 cases-of-requires : tie.Need-cases-of-requires
 cases-of-requires c κs = search needs
 
--- src/tables.rt:216:1
 same-length : tie.Need-same-length
 same-length c = search needs
 
--- src/tables.rt:216:1
 same-length-2 : tie.Need-same-length-2
 same-length-2 c = search needs
 
--- src/tables.rt:216:1
 returns : tie.Need-returns
 returns c = search needs
 

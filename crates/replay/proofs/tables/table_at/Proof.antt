@@ -10,51 +10,39 @@ use Rattle.replay.proofs.stored.least.Reads as least-reads
 use Rattle.replay.proofs.stored.number_at.Reads as number-at-reads
 use Rattle.replay.proofs.stored.words_at.Reads as words-at-reads
 
--- src/tables.rt:21:9
 number-at-requires : tie.Need-number-at-requires
 number-at-requires c κs = search needs
 
--- src/tables.rt:22:34
 after-part-requires : tie.Need-after-part-requires
 after-part-requires c κs = search needs
 
--- src/tables.rt:22:9
 number-at-requires-2 : tie.Need-number-at-requires-2
 number-at-requires-2 c κs = search needs
 
--- src/tables.rt:23:35
 after-part-requires-2 : tie.Need-after-part-requires-2
 after-part-requires-2 c κs = search needs
 
--- src/tables.rt:23:9
 number-at-requires-3 : tie.Need-number-at-requires-3
 number-at-requires-3 c κs = search needs
 
--- src/tables.rt:24:19
 cast-least : tie.Need-cast-least
 cast-least c = search needs
 
--- src/tables.rt:24:9
 least-requires : tie.Need-least-requires
 least-requires c κs = search needs
 
--- src/tables.rt:25:45
 slice-relend-prefix-words-at : tie.Need-slice-relend-prefix-words-at
 slice-relend-prefix-words-at c = search needs
 
--- src/tables.rt:25:45
 slice-aggregate-words-at : tie.Need-slice-aggregate-words-at
 slice-aggregate-words-at c = front-long _ _ (c .before .before .before .before .before .before .before .before .before .before .args .words .now) (c .before .least .ensures)
 
--- src/tables.rt:25:9
 words-at-requires : tie.Need-words-at-requires
 words-at-requires c κs = search needs
 
--- src/tables.rt:18:1
 same-length : tie.Need-same-length
 same-length c = search needs
 
--- src/tables.rt:18:1
 returns : tie.Need-returns
 returns c = search needs
 

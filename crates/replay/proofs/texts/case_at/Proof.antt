@@ -8,27 +8,21 @@ use Rattle.replay.proofs.texts.case_at.Lts as lts
 use Rattle.replay.proofs.stored.after_part.Reads as after-part-reads
 use Rattle.replay.proofs.stored.number_at.Reads as number-at-reads
 
--- src/texts.rt:21:9
 number-at-requires : tie.Need-number-at-requires
 number-at-requires c κs = search needs
 
--- src/texts.rt:22:9
 number-at-requires-2 : tie.Need-number-at-requires-2
 number-at-requires-2 c κs = search needs
 
--- src/texts.rt:23:36
 after-part-requires : tie.Need-after-part-requires
 after-part-requires c κs = search needs
 
--- src/texts.rt:23:9
 number-at-requires-3 : tie.Need-number-at-requires-3
 number-at-requires-3 c κs = search needs
 
--- src/texts.rt:24:9
 number-at-requires-4 : tie.Need-number-at-requires-4
 number-at-requires-4 c κs = search needs
 
--- src/texts.rt:18:1
 returns : tie.Need-returns
 returns c = case-made _ _ _ _ _ _ _ (c .before .before .before .before .number-at .ensures) (c .before .before .before .number-at2 .ensures) (c .before .before .after-part .ensures) (c .before .number-at3 .ensures) (c .number-at4 .ensures)
 

@@ -9,39 +9,30 @@ use Rattle.arrow_types.proofs.arrow_types_read.Reads as arrow-types-read-reads
 use Rattle.datatype.proofs.equal_words.Reads as equal-words-reads
 use Rattle.replay.proofs.stored.fill.Reads as fill-reads
 
--- src/texts.rt:59:5
 fill-requires : tie.Need-fill-requires
 fill-requires c κs = search needs
 
--- src/texts.rt:61:8
 arrow-types-read-requires : tie.Need-arrow-types-read-requires
 arrow-types-read-requires c κs = search needs
 
--- src/texts.rt:62:9
 same-length : tie.Need-same-length
 same-length c = search needs
 
--- src/texts.rt:62:9
 returns : tie.Need-returns
 returns c = other-status _ _ _ _ (c .before .before .before .before .before .before .before .before .before .before .before .before .before .args .rows .now) (c .before .before .before .before .before .before .before .before .fill .last .0) _ (c .before .before .before .before .before .before .before .before .fill .ensures) _ _ (c .before .before .before .arrow-types-read .ensures .0) (c .before .before .before .arrow-types-read .ensures .1 .0) (c .before .before .before .arrow-types-read .ensures .1 .1) (c .if1 .taken)
 
--- src/texts.rt:65:9
 same-length-2 : tie.Need-same-length-2
 same-length-2 c = search needs
 
--- src/texts.rt:65:9
 returns-2 : tie.Need-returns-2
 returns-2 c = other-value _ _ _ _ (c .before .before .before .before .before .before .before .before .before .before .before .before .before .before .args .rows .now) (c .before .before .before .before .before .before .before .before .before .fill .last .0) _ (c .before .before .before .before .before .before .before .before .before .fill .ensures) _ _ (c .before .before .before .before .arrow-types-read .ensures .0) (c .before .before .before .before .arrow-types-read .ensures .1 .0) (c .before .before .before .before .arrow-types-read .ensures .1 .1) (c .before .if1 .left) (c .if2 .taken)
 
--- src/texts.rt:67:5
 equal-words-requires : tie.Need-equal-words-requires
 equal-words-requires c κs = search needs
 
--- src/texts.rt:56:1
 same-length-3 : tie.Need-same-length-3
 same-length-3 c = search needs
 
--- src/texts.rt:56:1
 returns-3 : tie.Need-returns-3
 returns-3 c = same-left _ _ _ _ (c .before .before .before .before .before .before .before .before .before .before .before .before .before .before .before .before .args .rows .now) (c .before .before .before .before .before .before .before .before .before .before .before .fill .last .0) _ (c .before .before .before .before .before .before .before .before .before .before .before .fill .ensures) _ _ (c .before .before .before .before .before .before .arrow-types-read .ensures .0) (c .before .before .before .before .before .before .arrow-types-read .ensures .1 .0) (c .before .before .before .before .before .before .arrow-types-read .ensures .1 .1) (c .before .before .before .if1 .left) _ (c .before .before .if2 .left) (c .equal-words .ensures)
 

@@ -11,43 +11,33 @@ use Rattle.replay.proofs.stored.least.Reads as least-reads
 use Rattle.replay.proofs.stored.words_at.Reads as words-at-reads
 use Rattle.replay.proofs.texts.rest.Reads as rest-reads
 
--- src/texts.rt:50:16
 rest-requires : tie.Need-rest-requires
 rest-requires c κs = search needs
 
--- src/texts.rt:50:5
 fill-requires : tie.Need-fill-requires
 fill-requires c κs = search needs
 
--- src/texts.rt:51:25
 cast-least : tie.Need-cast-least
 cast-least c = search needs
 
--- src/texts.rt:51:19
 mul-least : tie.Need-mul-least
 mul-least c = search needs
 
--- src/texts.rt:51:9
 least-requires : tie.Need-least-requires
 least-requires c κs = search needs
 
--- src/texts.rt:52:33
 slice-relend-prefix-words-at : tie.Need-slice-relend-prefix-words-at
 slice-relend-prefix-words-at c = search needs
 
--- src/texts.rt:52:33
 slice-aggregate-words-at : tie.Need-slice-aggregate-words-at
 slice-aggregate-words-at c = front-long _ _ (c .before .before .before .before .before .fill .last .0) (c .before .least .ensures)
 
--- src/texts.rt:52:5
 words-at-requires : tie.Need-words-at-requires
 words-at-requires c κs = search needs
 
--- src/texts.rt:46:1
 same-length : tie.Need-same-length
 same-length c = search needs
 
--- src/texts.rt:46:1
 returns : tie.Need-returns
 returns c = (left-place _ _ (c .before .before .before .before .before .before .before .before .before .before .before .before .before .args .left .now) (c .before .before .before .before .before .before .before .before .fill .last .0) _ _ _ (c .before .before .before .before .before .before .before .before .fill .ensures) (c .before .before .before .before .before .before .before .before .before .rest .ensures) refl (c .before .before .before .before .least .ensures) _ (c .before .before .words-at .ensures .0), left-made _ _ (c .before .before .before .before .before .before .before .before .before .before .before .before .before .args .left .now) (c .before .before .before .before .before .before .before .before .fill .last .0) _ _ _ (c .before .before .before .before .before .before .before .before .fill .ensures) (c .before .before .before .before .before .before .before .before .before .rest .ensures) refl (c .before .before .before .before .least .ensures) _ (c .before .before .words-at .ensures .1))
 

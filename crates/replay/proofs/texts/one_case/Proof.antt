@@ -10,31 +10,24 @@ use Rattle.replay.proofs.stored.part_at.Reads as part-at-reads
 use Rattle.replay.proofs.texts.gives.Reads as gives-reads
 use Rattle.replay.proofs.texts.left_words.Reads as left-words-reads
 
--- src/texts.rt:74:9
 left-words-requires : tie.Need-left-words-requires
 left-words-requires c κs = search needs
 
--- src/texts.rt:75:9
 part-at-requires : tie.Need-part-at-requires
 part-at-requires c κs = search needs
 
--- src/texts.rt:76:9
 gives-requires : tie.Need-gives-requires
 gives-requires c κs = search needs
 
--- src/texts.rt:77:5
 counted-requires : tie.Need-counted-requires
 counted-requires c κs = search needs
 
--- src/texts.rt:71:1
 same-length : tie.Need-same-length
 same-length c = search needs
 
--- src/texts.rt:71:1
 same-length-2 : tie.Need-same-length-2
 same-length-2 c = search needs
 
--- src/texts.rt:71:1
 returns : tie.Need-returns
 returns c = one-case _ _ _ _ (c .before .before .before .before .before .before .before .before .before .before .before .before .before .before .args .rows .now) (c .before .before .before .before .before .before .before .before .before .before .before .before .before .before .args .left .now) _ _ _ _ (c .before .before .before .before .before .before .part-at .ensures) (c .before .before .before .before .before .before .before .before .before .left-words .ensures .0) (c .before .before .before .before .before .before .before .before .before .left-words .ensures .1) (c .before .before .before .gives .ensures) (c .counted .ensures)
 

@@ -14,39 +14,30 @@ Inv-loop sample rows₀ left₀ t₀ cases₀ rows left t cases = Turn sample ro
 abbrev μ-loop : tie.MeasureT-loop
 μ-loop sample rows₀ left₀ t₀ cases₀ rows left t cases = cases
 
--- src/texts.rt:94:9
 number-at-requires : tie.Need-number-at-requires Inv-loop μ-loop
 number-at-requires c κs = search needs
 
--- src/texts.rt:102:5
 loop-holds : tie.Need-loop-holds Inv-loop μ-loop
 loop-holds c = turn-first _ _ _ _ (c .number-at .ensures)
 
--- src/texts.rt:103:9
 read-one-requires : tie.Need-read-one-requires Inv-loop μ-loop
 read-one-requires c κs = search needs
 
--- src/texts.rt:104:9
 sub-cases : tie.Need-sub-cases Inv-loop μ-loop
 sub-cases c = search needs
 
--- src/texts.rt:102:5
 loop-less : tie.Need-loop-less Inv-loop μ-loop
 loop-less c = search needs
 
--- src/texts.rt:102:5
 loop-again : tie.Need-loop-again Inv-loop μ-loop
 loop-again c = turn-next (c .before .before .before .before .before .before .before .before .before .before .before .before .before .args .sample .now) (c .before .before .before .before .before .before .before .before .before .before .before .before .before .args .rows .now) (c .before .before .before .before .before .before .before .before .before .before .before .before .before .args .left .now) _ _ _ _ (c .before .before .before .before .before .before .before .before .loop .inv) _ _ _ (c .before .before .before .before .before .before .before .loop-test .taken) (c .before .before .before .before .read-one .ensures) (c .before .before .before .before .read-one .kept .1 .1 .0) (c .before .before .before .before .read-one .kept .1 .1 .1 .0)
 
--- src/texts.rt:91:1
 same-length : tie.Need-same-length Inv-loop μ-loop
 same-length c = c .before .loop .inv .rows-long
 
--- src/texts.rt:91:1
 same-length-2 : tie.Need-same-length-2 Inv-loop μ-loop
 same-length-2 c = c .before .loop .inv .left-long
 
--- src/texts.rt:91:1
 returns : tie.Need-returns Inv-loop μ-loop
 returns c = turn-last (c .before .before .before .before .before .before .args .sample .now) (c .before .before .before .before .before .before .args .rows .now) (c .before .before .before .before .before .before .args .left .now) _ _ _ _ (c .before .loop .inv) (c .loop-test .left)
 

@@ -9,51 +9,39 @@ use Rattle.replay.proofs.stored.least.Reads as least-reads
 use Rattle.replay.proofs.texts.case_at.Reads as case-at-reads
 use Rattle.replay.proofs.texts.one_case.Reads as one-case-reads
 
--- src/texts.rt:84:9
 case-at-requires : tie.Need-case-at-requires
 case-at-requires c κs = search needs
 
--- src/texts.rt:85:9
 least-requires : tie.Need-least-requires
 least-requires c κs = search needs
 
--- src/texts.rt:86:22
 cast-least : tie.Need-cast-least
 cast-least c = search needs
 
--- src/texts.rt:86:9
 least-requires-2 : tie.Need-least-requires-2
 least-requires-2 c κs = search needs
 
--- src/texts.rt:87:31
 slice-relend-prefix-one-case : tie.Need-slice-relend-prefix-one-case
 slice-relend-prefix-one-case c = search needs
 
--- src/texts.rt:87:31
 slice-aggregate-one-case : tie.Need-slice-aggregate-one-case
 slice-aggregate-one-case c = rows-front (c .before .before .before .before .before .before .before .before .args .sample .now) (c .before .before .before .before .before .before .before .before .args .t) (c .before .before .before .before .before .before .before .before .args .t) (c .before .before .before .before .case-at .result) (c .before .before .before .before .before .before .before .before .args .rows .now) (c .before .before .before .before .before .before .before .before .args .left .now) _ _ (c .before .before .before .least .ensures) (c .before .least2 .ensures)
 
--- src/texts.rt:87:50
 slice-relend-prefix-one-case-2 : tie.Need-slice-relend-prefix-one-case-2
 slice-relend-prefix-one-case-2 c = search needs
 
--- src/texts.rt:87:50
 slice-aggregate-one-case-2 : tie.Need-slice-aggregate-one-case-2
 slice-aggregate-one-case-2 c = left-front (c .before .before .before .before .before .before .before .before .before .args .sample .now) (c .before .before .before .before .before .before .before .before .before .args .t) (c .before .before .before .before .before .before .before .before .before .args .t) (c .before .before .before .before .before .case-at .result) (c .before .before .before .before .before .before .before .before .before .args .rows .now) (c .before .before .before .before .before .before .before .before .before .args .left .now) _ _ (c .before .before .before .before .least .ensures) (c .before .before .least2 .ensures)
 
--- src/texts.rt:87:5
 one-case-requires : tie.Need-one-case-requires
 one-case-requires c κs = search needs
 
--- src/texts.rt:81:1
 same-length : tie.Need-same-length
 same-length c = search needs
 
--- src/texts.rt:81:1
 same-length-2 : tie.Need-same-length-2
 same-length-2 c = search needs
 
--- src/texts.rt:81:1
 returns : tie.Need-returns
 returns c = one-read (c .before .before .before .before .before .before .before .before .before .before .before .before .before .before .args .sample .now) (c .before .before .before .before .before .before .before .before .before .before .before .before .before .before .args .t) _ (c .before .before .before .before .before .before .before .before .before .before .case-at .result) (c .before .before .before .before .before .before .before .before .before .before .before .before .before .before .args .rows .now) (c .before .before .before .before .before .before .before .before .before .before .before .before .before .before .args .left .now) _ _ (c .before .before .before .before .before .before .before .before .before .least .ensures) (c .before .before .before .before .before .before .before .least2 .ensures) (c .before .before .before .before .before .before .before .before .before .before .case-at .ensures) (c .before .before .before .before .one-case .ensures)
 

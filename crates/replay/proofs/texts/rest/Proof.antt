@@ -6,11 +6,9 @@ use Rattle.replay.proofs.texts.rest.Tie as tie
 use Rattle.replay.proofs.texts.rest.Reads as reads
 use Rattle.replay.proofs.texts.rest.Lts as lts
 
--- src/texts.rt:40:9
 returns : tie.Need-returns
 returns c = rest-unread _ (c .if1 .taken)
 
--- src/texts.rt:36:1
 returns-2 : tie.Need-returns-2
 returns-2 c = rest-zero _ (c .if1 .left)
 

@@ -8,15 +8,12 @@ use Rattle.tokenizer.proofs.tokenizer.is_plain.Tie as tie
 use Rattle.tokenizer.proofs.tokenizer.is_plain.Reads as reads
 use Rattle.tokenizer.proofs.tokenizer.is_plain.Lts as lts
 
--- src/tokenizer.rt:106:9
 returns : tie.Need-returns
 returns c = λ e. plain-byte (c .before .args .quote) (c .before .args .b) (eqb-false _ _ (not-true _ e)) (λ f. let t = c .if1 .taken in omega arith)
 
--- src/tokenizer.rt:109:9
 returns-2 : tie.Need-returns-2
 returns-2 c = λ e. never e
 
--- src/tokenizer.rt:102:1
 returns-3 : tie.Need-returns-3
 returns-3 c = λ e. plain-byte _ _ (eqb-false _ _ (not-true _ e)) (c .if2 .left)
 

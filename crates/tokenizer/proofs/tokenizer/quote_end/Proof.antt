@@ -22,43 +22,33 @@ Inv-loop text from quote i₀ i = (i ≤ length text) × (quoteEnd text quote fa
 abbrev μ-loop : tie.MeasureT-loop
 μ-loop text from quote i₀ i = length text - i
 
--- src/tokenizer.rt:120:5
 loop-holds : tie.Need-loop-holds Inv-loop μ-loop
 loop-holds c = (search needs, refl)
 
--- src/tokenizer.rt:121:17
 shared-slice-read-b : tie.Need-shared-slice-read-b Inv-loop μ-loop
 shared-slice-read-b c = search needs
 
--- src/tokenizer.rt:122:13
 is-plain-requires : tie.Need-is-plain-requires Inv-loop μ-loop
 is-plain-requires c κs = search needs
 
--- src/tokenizer.rt:124:17
 returns : tie.Need-returns Inv-loop μ-loop
 returns c = sym (c .before .before .before .before .before .loop .inv .1 ∙ mark-stop _ _ _ (c .before .before .before .before .loop-test .taken) (c .if2 .taken))
 
--- src/tokenizer.rt:126:13
 escaped-end-requires : tie.Need-escaped-end-requires Inv-loop μ-loop
 escaped-end-requires c κs = search needs
 
--- src/tokenizer.rt:126:13
 returns-2 : tie.Need-returns-2 Inv-loop μ-loop
 returns-2 c = c .escaped-end .ensures ∙ sym (c .before .before .before .before .before .before .loop .inv .1)
 
--- src/tokenizer.rt:128:9
 add-i : tie.Need-add-i Inv-loop μ-loop
 add-i c = search needs
 
--- src/tokenizer.rt:120:5
 loop-less : tie.Need-loop-less Inv-loop μ-loop
 loop-less c = search needs
 
--- src/tokenizer.rt:120:5
 loop-again : tie.Need-loop-again Inv-loop μ-loop
 loop-again c = (search needs, c .before .before .before .before .loop .inv .1 ∙ plain-go _ _ _ (c .before .before .before .loop-test .taken) (c .before .is-plain .ensures (not-false _ (c .if1 .left))))
 
--- src/tokenizer.rt:115:1
 returns-3 : tie.Need-returns-3 Inv-loop μ-loop
 returns-3 c = sym (c .before .loop .inv .1 ∙ quote-out _ _ _ _ (c .loop-test .left) (c .before .loop .inv .0))
 

@@ -8,15 +8,12 @@ use Rattle.tokenizer.proofs.tokenizer.string_end.Reads as reads
 use Rattle.tokenizer.proofs.tokenizer.string_end.Lts as lts
 use Rattle.tokenizer.proofs.tokenizer.quote_end.Reads as quote-end-reads
 
--- src/tokenizer.rt:138:9
 returns : tie.Need-returns
 returns c = quote-past _ _ _ (let t = c .if1 .taken in omega arith)
 
--- src/tokenizer.rt:140:5
 quote-end-requires : tie.Need-quote-end-requires
 quote-end-requires c κs = search needs
 
--- src/tokenizer.rt:134:1
 returns-2 : tie.Need-returns-2
 returns-2 c = c .quote-end .ensures
 

@@ -5,47 +5,37 @@ use Rattle.type_line.proofs.tree.answer_tree.Statement.{statement}
 use Rattle.type_line.proofs.tree.answer_tree.Tie as tie
 use Rattle.type_line.proofs.tree.answer_tree.Reads as reads
 use Rattle.type_line.proofs.tree.answer_tree.Lts as lts
-use Rattle.datatype.proofs.levels.depth.Reads as depth-reads
+use Rattle.row_table.proofs.levels.depth.Reads as depth-reads
 use Rattle.type_line.proofs.tree.print_tree.Reads as print-tree-reads
 use Rattle.type_line.proofs.write.put_no.Reads as put-no-reads
 
--- src/tree.rt:35:41
 slice-aggregate-depth : tie.Need-slice-aggregate-depth
 slice-aggregate-depth c = search needs
 
--- src/tree.rt:35:11
 depth-requires : tie.Need-depth-requires
 depth-requires c κs = search needs
 
--- src/tree.rt:36:24
 enum-known-n : tie.Need-enum-known-n
 enum-known-n c = search needs
 
--- src/tree.rt:36:30
 put-no-requires : tie.Need-put-no-requires
 put-no-requires c κs = search needs
 
--- src/tree.rt:37:23
 enum-known-levels : tie.Need-enum-known-levels
 enum-known-levels c = search needs
 
--- src/tree.rt:37:34
 print-tree-requires : tie.Need-print-tree-requires
 print-tree-requires c κs = (c .before .before .before .before .before .before .before .before .before .pre, table-levels _ _ _ (c .before .before .before .before .depth .ensures) _ (c .before .before .levels .given .1) .few, table-levels _ _ _ (c .before .before .before .before .depth .ensures) _ (c .before .before .levels .given .1) .flat)
 
--- src/tree.rt:31:1
 same-length : tie.Need-same-length
 same-length c = search needs
 
--- src/tree.rt:31:1
 returns : tie.Need-returns
 returns c = table-refused _ _ _ (c .before .before .before .before .before .before .before .depth .ensures) _ (c .before .before .before .before .before .n .given .1) _ _ _ (c .before .before .put-no .ensures)
 
--- src/tree.rt:31:1
 same-length-2 : tie.Need-same-length-2
 same-length-2 c = search needs
 
--- src/tree.rt:31:1
 returns-2 : tie.Need-returns-2
 returns-2 c = table-printed _ _ _ (c .before .before .before .before .before .before .before .depth .ensures) _ (c .before .before .before .before .before .levels .given .1) _ _ _ (c .before .before .print-tree .ensures)
 

@@ -11,59 +11,45 @@ use Rattle.type_line.proofs.write.head_length.Reads as head-length-read
 use Rattle.type_line.proofs.write.put_frame.Reads as put-frame-reads
 use Rattle.type_line.proofs.write.put_no.Reads as put-no-reads
 
--- src/tree.rt:23:9
 head-length-requires : tie.Need-head-length-requires
 head-length-requires c κs = search needs
 
--- src/tree.rt:24:51
 slice-aggregate-print-data-type : tie.Need-slice-aggregate-print-data-type
 slice-aggregate-print-data-type c = search needs
 
--- src/tree.rt:24:69
 sub-print-data-type : tie.Need-sub-print-data-type
 sub-print-data-type c = search needs
 
--- src/tree.rt:24:69
 part-print-data-type-start : tie.Need-part-print-data-type-start
 part-print-data-type-start c = search needs
 
--- src/tree.rt:24:69
 part-print-data-type-end : tie.Need-part-print-data-type-end
 part-print-data-type-end c = search needs
 
--- src/tree.rt:24:11
 print-data-type-requires : tie.Need-print-data-type-requires
 print-data-type-requires c κs = search needs
 
--- src/tree.rt:25:26
 enum-known-n : tie.Need-enum-known-n
 enum-known-n c = search needs
 
--- src/tree.rt:25:32
 put-no-requires : tie.Need-put-no-requires
 put-no-requires c κs = search needs
 
--- src/tree.rt:26:25
 enum-known-n-2 : tie.Need-enum-known-n-2
 enum-known-n-2 c = search needs
 
--- src/tree.rt:26:31
 put-frame-requires : tie.Need-put-frame-requires
 put-frame-requires c κs = tree-room _ _ _ _ _ _ (c .before .before .before .before .before .before .before .before .before .head-length .ensures) (c .before .before .before .before .before .before .before .before .before .before .before .before .before .pre .0) _ _ _ refl refl _ (c .before .before .before .before .before .before .print-data-type .ensures .0) (c .before .before .before .before .before .before .print-data-type .ensures .1) _ (c .before .before .n2 .given .1)
 
--- src/tree.rt:18:1
 same-length : tie.Need-same-length
 same-length c = search needs
 
--- src/tree.rt:18:1
 returns : tie.Need-returns
 returns c = tree-refused _ _ _ _ _ _ (c .before .before .before .before .before .before .before .before .before .before .before .before .head-length .ensures) (c .before .before .before .before .before .before .before .before .before .before .before .before .before .before .before .before .pre .0) _ _ _ refl refl _ (c .before .before .before .before .before .before .before .before .before .print-data-type .ensures .0) (c .before .before .before .before .before .before .before .before .before .print-data-type .ensures .1) _ (c .before .before .before .before .before .n .given .1) _ _ (c .before .before .put-no .ensures)
 
--- src/tree.rt:18:1
 same-length-2 : tie.Need-same-length-2
 same-length-2 c = search needs
 
--- src/tree.rt:18:1
 returns-2 : tie.Need-returns-2
 returns-2 c = tree-printed _ _ _ _ _ _ (c .before .before .before .before .before .before .before .before .before .before .before .before .head-length .ensures) (c .before .before .before .before .before .before .before .before .before .before .before .before .before .before .before .before .pre .0) _ _ _ refl refl _ (c .before .before .before .before .before .before .before .before .before .print-data-type .ensures .0) (c .before .before .before .before .before .before .before .before .before .print-data-type .ensures .1) _ (c .before .before .before .before .before .n2 .given .1) _ _ (c .before .before .put-frame .ensures)
 

@@ -6,19 +6,15 @@ use Rattle.type_line.proofs.write.digit_count.Tie as tie
 use Rattle.type_line.proofs.write.digit_count.Reads as reads
 use Rattle.type_line.proofs.write.digit_count.Lts as lts
 
--- src/write.rt:58:9
 returns : tie.Need-returns
 returns c = one-digit _ (c .if1 .taken)
 
--- src/write.rt:61:9
 returns-2 : tie.Need-returns-2
 returns-2 c = two-digits _ (omega arith) (c .if2 .taken)
 
--- src/write.rt:64:9
 returns-3 : tie.Need-returns-3
 returns-3 c = three-digits _ (omega arith) (c .if3 .taken)
 
--- src/write.rt:53:1
 returns-4 : tie.Need-returns-4
 returns-4 c = four-digits _ (omega arith) (omega arith)
 

@@ -7,23 +7,18 @@ use Rattle.type_line.proofs.write.head_length.Reads as reads
 use Rattle.type_line.proofs.write.head_length.Lts as lts
 use Rattle.type_line.proofs.write.digit_count.Reads as digit-count-reads
 
--- src/write.rt:74:9
 digit-count-requires : tie.Need-digit-count-requires
 digit-count-requires c κs = search needs
 
--- src/write.rt:74:5
 add-result : tie.Need-add-result
 add-result c = record { fits = omega (arith, c .digit-count .ensures, digits-at-most 3 (c .before .args .rows) (omega arith)) }
 
--- src/write.rt:74:29
 digit-count-requires-2 : tie.Need-digit-count-requires-2
 digit-count-requires-2 c κs = search needs
 
--- src/write.rt:74:5
 add-result-2 : tie.Need-add-result-2
 add-result-2 c = record { fits = omega (arith, c .before .digit-count .ensures, c .digit-count2 .ensures, digits-at-most 3 (c .before .before .args .rows) (omega arith), digits-at-most 1 (c .before .before .args .levels) (omega arith)) }
 
--- src/write.rt:70:1
 returns : tie.Need-returns
 returns c = head-length _ _ _ _ (omega arith) (omega arith) (c .before .digit-count .ensures) (c .digit-count2 .ensures)
 

@@ -8,23 +8,18 @@ use Rattle.type_line.proofs.write.put_frame.Lts as lts
 use Rattle.type_line.proofs.write.put_byte.Reads as put-byte-reads
 use Rattle.type_line.proofs.write.put_head.Reads as put-head-reads
 
--- src/write.rt:94:9
 put-head-requires : tie.Need-put-head-requires
 put-head-requires c κs = search needs
 
--- src/write.rt:95:19
 add-put-byte : tie.Need-add-put-byte
 add-put-byte c = search needs
 
--- src/write.rt:95:5
 put-byte-requires : tie.Need-put-byte-requires
 put-byte-requires c κs = search needs
 
--- src/write.rt:90:1
 same-length : tie.Need-same-length
 same-length c = search needs
 
--- src/write.rt:90:1
 returns : tie.Need-returns
 returns c = frame _ _ _ _ _ _ _ (c .before .before .before .before .before .before .before .before .before .pre) (c .before .before .before .before .before .before .put-head .ensures) (c .before .before .put-byte .ensures)
 

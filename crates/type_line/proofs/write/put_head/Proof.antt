@@ -9,31 +9,24 @@ use Rattle.type_line.proofs.write.put_byte.Reads as put-byte-reads
 use Rattle.type_line.proofs.write.put_digits.Reads as put-digits-reads
 use Rattle.type_line.proofs.write.put_word.Reads as put-word-reads
 
--- src/write.rt:82:9
 put-word-requires : tie.Need-put-word-requires
 put-word-requires c κs = omega (arith, c .before .before .pre, head-size (c .before .before .args .rows) (c .before .before .args .levels))
 
--- src/write.rt:83:9
 put-digits-requires : tie.Need-put-digits-requires
 put-digits-requires c κs = omega (arith, c .before .before .before .before .before .before .pre, head-size (c .before .before .before .before .before .before .args .rows) (c .before .before .before .before .before .before .args .levels), c .before .before .before .put-word .ensures .place, c .before .before .before .put-word .kept .0)
 
--- src/write.rt:84:9
 put-byte-requires : tie.Need-put-byte-requires
 put-byte-requires c κs = omega (arith, c .before .before .before .before .before .before .before .before .before .before .pre, head-size (c .before .before .before .before .before .before .before .before .before .before .args .rows) (c .before .before .before .before .before .before .before .before .before .before .args .levels), c .before .before .before .before .before .before .before .put-word .ensures .place, c .before .before .before .before .before .before .before .put-word .kept .0, c .before .before .before .put-digits .ensures .place, c .before .before .before .put-digits .kept .0)
 
--- src/write.rt:85:9
 put-digits-requires-2 : tie.Need-put-digits-requires-2
 put-digits-requires-2 c κs = omega (arith, c .before .before .before .before .before .before .before .before .before .before .before .before .before .before .pre, head-size (c .before .before .before .before .before .before .before .before .before .before .before .before .before .before .args .rows) (c .before .before .before .before .before .before .before .before .before .before .before .before .before .before .args .levels), c .before .before .before .before .before .before .before .before .before .before .before .put-word .ensures .place, c .before .before .before .before .before .before .before .before .before .before .before .put-word .kept .0, c .before .before .before .before .before .before .before .put-digits .ensures .place, c .before .before .before .before .before .before .before .put-digits .kept .0, c .before .before .before .put-byte .ensures .place, c .before .before .before .put-byte .kept .0)
 
--- src/write.rt:86:5
 put-byte-requires-2 : tie.Need-put-byte-requires-2
 put-byte-requires-2 c κs = omega (arith, c .before .before .before .before .before .before .before .before .before .before .before .before .before .before .before .before .before .before .pre, head-size (c .before .before .before .before .before .before .before .before .before .before .before .before .before .before .before .before .before .before .args .rows) (c .before .before .before .before .before .before .before .before .before .before .before .before .before .before .before .before .before .before .args .levels), c .before .before .before .before .before .before .before .before .before .before .before .before .before .before .before .put-word .ensures .place, c .before .before .before .before .before .before .before .before .before .before .before .before .before .before .before .put-word .kept .0, c .before .before .before .before .before .before .before .before .before .before .before .put-digits .ensures .place, c .before .before .before .before .before .before .before .before .before .before .before .put-digits .kept .0, c .before .before .before .before .before .before .before .put-byte .ensures .place, c .before .before .before .before .before .before .before .put-byte .kept .0, c .before .before .before .put-digits2 .ensures .place, c .before .before .before .put-digits2 .kept .0)
 
--- src/write.rt:78:1
 same-length : tie.Need-same-length
 same-length c = search needs
 
--- src/write.rt:78:1
 returns : tie.Need-returns
 returns c = head-put _ _ _ _ _ _ _ _ _ _ _ _ _ (c .before .before .before .before .before .before .before .before .before .before .before .before .before .before .before .before .before .before .put-word .ensures) (c .before .before .before .before .before .before .before .before .before .before .before .before .before .before .put-digits .ensures) (c .before .before .before .before .before .before .before .before .before .before .put-byte .ensures) (c .before .before .before .before .before .before .put-digits2 .ensures) (c .before .before .put-byte2 .ensures)
 

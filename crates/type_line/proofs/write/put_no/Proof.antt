@@ -9,23 +9,18 @@ use Rattle.type_line.proofs.write.put_byte.Reads as put-byte-reads
 use Rattle.type_line.proofs.write.put_digits.Reads as put-digits-reads
 use Rattle.type_line.proofs.write.put_word.Reads as put-word-reads
 
--- src/write.rt:47:9
 put-word-requires : tie.Need-put-word-requires
 put-word-requires c κs = search needs
 
--- src/write.rt:48:9
 put-digits-requires : tie.Need-put-digits-requires
 put-digits-requires c κs = omega (arith, c .before .before .before .put-word .ensures .place, digits-at-most 9 (c .before .before .before .before .before .before .args .n) (omega arith), c .before .before .before .before .before .before .pre, c .before .before .before .put-word .kept .0)
 
--- src/write.rt:49:5
 put-byte-requires : tie.Need-put-byte-requires
 put-byte-requires c κs = omega (arith, c .before .before .before .put-digits .ensures .place, c .before .before .before .before .before .before .before .put-word .ensures .place, digits-at-most 9 (c .before .before .before .before .before .before .before .before .before .before .args .n) (omega arith), c .before .before .before .before .before .before .before .before .before .before .pre, c .before .before .before .before .before .before .before .put-word .kept .0, c .before .before .before .put-digits .kept .0)
 
--- src/write.rt:43:1
 same-length : tie.Need-same-length
 same-length c = search needs
 
--- src/write.rt:43:1
 returns : tie.Need-returns
 returns c = no-answers _ _ _ _ _ _ _ _ (omega arith) (c .before .before .before .before .before .before .before .before .before .before .before .before .before .pre) (c .before .before .before .before .before .before .before .before .before .before .put-word .ensures) (c .before .before .before .before .before .before .put-digits .ensures) (c .before .before .put-byte .ensures)
 

@@ -6,23 +6,18 @@ use Rattle.type_line.proofs.write.put_word.Tie as tie
 use Rattle.type_line.proofs.write.put_word.Reads as reads
 use Rattle.type_line.proofs.write.put_word.Lts as lts
 
--- src/write.rt:36:5
 slice-write-out : tie.Need-slice-write-out
 slice-write-out c = search needs
 
--- src/write.rt:37:5
 slice-write-out-2 : tie.Need-slice-write-out-2
 slice-write-out-2 c = simp length-set (omega arith)
 
--- src/write.rt:38:5
 slice-write-out-3 : tie.Need-slice-write-out-3
 slice-write-out-3 c = simp length-set (omega arith)
 
--- src/write.rt:32:1
 same-length : tie.Need-same-length
 same-length c = search needs
 
--- src/write.rt:32:1
 returns : tie.Need-returns
 returns c = search needs
 

@@ -8,55 +8,42 @@ use Rattle.type_lines.proofs.lines.answer_at.Reads as reads
 use Rattle.type_lines.proofs.lines.answer_at.Lts as lts
 use Rattle.type_line.proofs.answer_line.Reads as answer-line-reads
 
--- src/lines.rt:17:46
 sub-answer-line : tie.Need-sub-answer-line
 sub-answer-line c = search needs
 
--- src/lines.rt:17:46
 part-answer-line-start : tie.Need-part-answer-line-start
 part-answer-line-start c = search needs
 
--- src/lines.rt:17:46
 part-answer-line-end : tie.Need-part-answer-line-end
 part-answer-line-end c = search needs
 
--- src/lines.rt:17:11
 answer-line-requires : tie.Need-answer-line-requires
 answer-line-requires c κs = search needs
 
--- src/lines.rt:18:25
 enum-known-n : tie.Need-enum-known-n
 enum-known-n c = search needs
 
--- src/lines.rt:18:31
 add-result : tie.Need-add-result
 add-result c = record { fits = omega (arith, wrote-within _ _ (c .before .before .before .before .before .before .before .before .before .before .before .before .before .args .out .now) _ _ (c .before .before .before .before .before .before .before .before .before .before .before .before .before .args .wrote) (c .before .before .before .before .before .before .before .before .before .before .before .before .before .pre .0) (c .before .before .before .before .before .before .before .before .before .before .before .before .before .pre .1) refl _ (c .before .before .before .before .before .before .before .answer-line .ensures .0) (c .before .before .before .before .before .before .before .answer-line .ensures .1 .1) (c .before .before .before .before .before .before .before .answer-line .kept .1 .1 .0) _ (c .before .n .given .1)) }
 
--- src/lines.rt:19:29
 enum-told : tie.Need-enum-told
 enum-told c = search needs
 
--- src/lines.rt:13:1
 same-length : tie.Need-same-length
 same-length c = search needs
 
--- src/lines.rt:13:1
 same-length-2 : tie.Need-same-length-2
 same-length-2 c = search needs
 
--- src/lines.rt:13:1
 returns : tie.Need-returns
 returns c = wrote-at _ _ _ _ _ _ (c .before .before .before .before .before .before .before .before .before .before .before .before .before .pre .0) (c .before .before .before .before .before .before .before .before .before .before .before .before .before .pre .1) refl _ (c .before .before .before .before .before .before .before .answer-line .ensures .0) (c .before .before .before .before .before .before .before .answer-line .ensures .1 .1) (c .before .before .before .before .before .before .before .answer-line .kept .1 .1 .0) _ refl _ (c .before .n .given .1)
 
--- src/lines.rt:13:1
 same-length-3 : tie.Need-same-length-3
 same-length-3 c = search needs
 
--- src/lines.rt:13:1
 same-length-4 : tie.Need-same-length-4
 same-length-4 c = search needs
 
--- src/lines.rt:13:1
 returns-2 : tie.Need-returns-2
 returns-2 c = wrote-none _ _ _ _ (c .before .before .before .before .before .before .answer-line .last .1 .1 .0) _ (c .before .before .before .before .before .before .before .before .before .before .before .before .pre .0) (c .before .before .before .before .before .before .before .before .before .before .before .before .pre .1) refl (c .before .before .before .before .before .before .answer-line .result) (c .before .before .before .before .before .before .answer-line .ensures .0) (c .before .match .keys2) _
 

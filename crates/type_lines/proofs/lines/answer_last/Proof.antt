@@ -7,27 +7,21 @@ use Rattle.type_lines.proofs.lines.answer_last.Reads as reads
 use Rattle.type_lines.proofs.lines.answer_last.Lts as lts
 use Rattle.type_lines.proofs.lines.answer_at.Reads as answer-at-reads
 
--- src/lines.rt:100:9
 returns : tie.Need-returns
 returns c = ends-skipped _ _ _ (omega arith) (c .before .before .before .before .pre .2) _ (c .if1 .taken)
 
--- src/lines.rt:103:9
 returns-2 : tie.Need-returns-2
 returns-2 c = ends-empty _ _ _ (omega arith) (c .if2 .taken) _ (c .before .if1 .left)
 
--- src/lines.rt:105:5
 answer-at-requires : tie.Need-answer-at-requires
 answer-at-requires c κs = search needs
 
--- src/lines.rt:89:1
 same-length : tie.Need-same-length
 same-length c = search needs
 
--- src/lines.rt:89:1
 same-length-2 : tie.Need-same-length-2
 same-length-2 c = search needs
 
--- src/lines.rt:89:1
 returns-3 : tie.Need-returns-3
 returns-3 c = ends-line _ _ _ _ _ (c .before .before .before .before .before .before .before .if2 .left) (c .before .before .before .before .before .before .before .before .before .before .before .before .pre .2) _ (c .before .before .before .before .before .before .before .before .if1 .left) (c .before .before .before .before .answer-at .ensures)
 

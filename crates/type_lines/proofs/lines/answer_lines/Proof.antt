@@ -8,47 +8,36 @@ use Rattle.type_lines.proofs.lines.answer_lines.Lts as lts
 use Rattle.type_line.proofs.line_end.Reads as line-end-reads
 use Rattle.type_lines.proofs.lines.answer_whole.Reads as answer-whole-reads
 
--- src/lines.rt:75:13
 line-end-requires : tie.Need-line-end-requires
 line-end-requires c κs = search needs
 
--- src/lines.rt:77:13
 returns : tie.Need-returns
 returns c = skips-on _ _ _ (c .before .before .before .before .before .before .pre .1) (c .before .before .if1 .taken) _ (c .before .line-end .ensures) (c .if2 .taken)
 
--- src/lines.rt:83:36
 add-answer-whole : tie.Need-add-answer-whole
 add-answer-whole c = omega (arith, skips-inside _ _ _ (c .before .before .before .before .before .before .pre .1) (c .before .before .if1 .taken) _ (c .before .line-end .ensures) (c .if2 .left) .read)
 
--- src/lines.rt:83:9
 answer-whole-requires : tie.Need-answer-whole-requires
 answer-whole-requires c κs = (c .before .before .before .before .before .before .before .before .pre .0, skips-inside _ _ _ (c .before .before .before .before .before .before .before .before .pre .1) (c .before .before .before .before .if1 .taken) _ (c .before .before .before .line-end .ensures) (c .before .before .if2 .left))
 
--- src/lines.rt:83:9
 same-length : tie.Need-same-length
 same-length c = search needs
 
--- src/lines.rt:83:9
 same-length-2 : tie.Need-same-length-2
 same-length-2 c = search needs
 
--- src/lines.rt:83:9
 returns-2 : tie.Need-returns-2
 returns-2 c = (skips-past _ _ _ (c .before .before .before .before .before .before .before .before .before .before .before .before .before .pre .1) (c .before .before .before .before .before .before .before .before .before .if1 .taken) _ (c .before .before .before .before .before .before .before .before .line-end .ensures) (c .before .before .before .before .before .before .before .if2 .left) _ _ (c .before .before .before .before .answer-whole .ensures .0), c .before .before .before .before .answer-whole .ensures .1)
 
--- src/lines.rt:85:5
 answer-whole-requires-2 : tie.Need-answer-whole-requires-2
 answer-whole-requires-2 c κs = search needs
 
--- src/lines.rt:67:1
 same-length-3 : tie.Need-same-length-3
 same-length-3 c = search needs
 
--- src/lines.rt:67:1
 same-length-4 : tie.Need-same-length-4
 same-length-4 c = search needs
 
--- src/lines.rt:67:1
 returns-3 : tie.Need-returns-3
 returns-3 c = (goes-from _ _ _ _ _ (c .before .before .before .before .before .before .before .if1 .left) (c .before .before .before .before .answer-whole2 .ensures .0), c .before .before .before .before .answer-whole2 .ensures .1)
 

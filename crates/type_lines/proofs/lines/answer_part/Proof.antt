@@ -8,39 +8,30 @@ use Rattle.type_lines.proofs.lines.answer_part.Reads as reads
 use Rattle.type_lines.proofs.lines.answer_part.Lts as lts
 use Rattle.type_lines.proofs.lines.answer_at.Reads as answer-at-reads
 
--- src/lines.rt:29:8
 sub-if1 : tie.Need-sub-if1
 sub-if1 c = search needs
 
--- src/lines.rt:30:9
 returns : tie.Need-returns
 returns c = (goes-nowhere _ _ _ (record { read = omega arith; answers = omega arith }), left-short (c .before .before .before .before .args .input .now) (c .before .before .before .before .args .from) (c .before .before .before .before .pre .3) (c .if1 .taken))
 
--- src/lines.rt:36:26
 sub-answer-at : tie.Need-sub-answer-at
 sub-answer-at c = search needs
 
--- src/lines.rt:36:26
 part-answer-at-start : tie.Need-part-answer-at-start
 part-answer-at-start c = search needs
 
--- src/lines.rt:36:26
 part-answer-at-end : tie.Need-part-answer-at-end
 part-answer-at-end c = search needs
 
--- src/lines.rt:36:9
 answer-at-requires : tie.Need-answer-at-requires
 answer-at-requires c κs = search needs
 
--- src/lines.rt:25:1
 same-length : tie.Need-same-length
 same-length c = search needs
 
--- src/lines.rt:25:1
 same-length-2 : tie.Need-same-length-2
 same-length-2 c = search needs
 
--- src/lines.rt:25:1
 returns-2 : tie.Need-returns-2
 returns-2 c = (goes-long _ _ _ _ (c .before .before .before .before .before .before .before .before .before .before .before .before .pre .2) _ _ (c .before .before .before .before .before .before .before .before .before .before .before .before .pre .3) (c .before .before .before .before .before .before .before .before .if1 .left) (c .before .before .before .before .answer-at .ensures), left-none (c .before .before .before .before .before .before .before .before .before .before .before .before .args .input .now) (length (c .before .before .before .before .before .before .before .before .before .before .before .before .args .input .now)) (omega arith))
 

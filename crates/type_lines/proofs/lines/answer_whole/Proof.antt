@@ -18,71 +18,54 @@ Inv-loop input start had rows₀ out₀ from₀ wrote₀ rows out from wrote = R
 abbrev μ-loop : tie.MeasureT-loop
 μ-loop input start had rows₀ out₀ from₀ wrote₀ rows out from wrote = length input + 1 - from
 
--- src/lines.rt:51:5
 loop-holds : tie.Need-loop-holds Inv-loop μ-loop
 loop-holds c = reached-start _ _ _ _ _ (c .before .before .before .pre .0) (c .before .before .before .pre .1)
 
--- src/lines.rt:51:20
 sub-loop : tie.Need-sub-loop Inv-loop μ-loop
 sub-loop c = omega (arith, c .loop .inv .room .bytes)
 
--- src/lines.rt:52:13
 line-end-requires : tie.Need-line-end-requires Inv-loop μ-loop
 line-end-requires c κs = search needs
 
--- src/lines.rt:54:13
 answer-part-requires : tie.Need-answer-part-requires Inv-loop μ-loop
 answer-part-requires c κs = (c .before .before .before .before .before .loop .inv .room .words, omega (arith, c .before .before .before .before .before .loop .inv .room .bytes, c .before .before .before .before .loop-test .taken), c .before .before .before .before .before .loop .inv .goes .inside .read, no-end _ _ _ (c .before .before .before .before .before .loop .inv .goes .inside .read) (c .before .before .before .line-end .ensures) (c .before .before .if1 .taken))
 
--- src/lines.rt:54:13
 same-length : tie.Need-same-length Inv-loop μ-loop
 same-length c = c .before .before .before .before .answer-part .kept .1 .1 .1 .0 ∙ c .before .before .before .before .before .before .before .before .before .before .loop .inv .words
 
--- src/lines.rt:54:13
 same-length-2 : tie.Need-same-length-2 Inv-loop μ-loop
 same-length-2 c = c .before .before .before .before .answer-part .kept .1 .1 .1 .1 .0 ∙ c .before .before .before .before .before .before .before .before .before .before .loop .inv .bytes
 
--- src/lines.rt:54:13
 returns : tie.Need-returns Inv-loop μ-loop
 returns c = (goes-then _ _ _ _ _ (c .before .before .before .before .before .before .before .before .before .before .loop .inv .goes) _ _ (c .before .before .before .before .answer-part .ensures .0), halts-left _ _ _ (c .before .before .before .before .answer-part .ensures .1))
 
--- src/lines.rt:56:27
 sub-answer-at : tie.Need-sub-answer-at Inv-loop μ-loop
 sub-answer-at c = omega (arith, from-before _ _ _ (c .before .before .before .loop .inv .goes .inside .read) (c .before .line-end .ensures))
 
--- src/lines.rt:56:27
 part-answer-at-start : tie.Need-part-answer-at-start Inv-loop μ-loop
 part-answer-at-start c = from-before _ _ _ (c .before .before .before .loop .inv .goes .inside .read) (c .before .line-end .ensures)
 
--- src/lines.rt:56:27
 part-answer-at-end : tie.Need-part-answer-at-end Inv-loop μ-loop
 part-answer-at-end c = end-within _ _ _ (c .before .before .before .loop .inv .goes .inside .read) (c .before .line-end .ensures)
 
--- src/lines.rt:56:9
 answer-at-requires : tie.Need-answer-at-requires Inv-loop μ-loop
 answer-at-requires c κs = (c .before .before .before .before .before .before .loop .inv .room .words, omega (arith, c .before .before .before .before .before .before .loop .inv .room .bytes, c .before .before .before .before .before .loop-test .taken))
 
--- src/lines.rt:57:16
 add-from : tie.Need-add-from Inv-loop μ-loop
 add-from c = omega (arith, end-within _ _ _ (c .before .before .before .before .before .before .before .before .before .before .before .loop .inv .goes .inside .read) (c .before .before .before .before .before .before .before .before .before .line-end .ensures), c .before .before .before .before .before .before .before .before .if1 .left)
 
--- src/lines.rt:51:5
 loop-less : tie.Need-loop-less Inv-loop μ-loop
 loop-less c = omega (arith, from-before _ _ _ (c .before .before .before .before .before .before .before .before .before .before .before .loop .inv .goes .inside .read) (c .before .before .before .before .before .before .before .before .before .line-end .ensures), end-within _ _ _ (c .before .before .before .before .before .before .before .before .before .before .before .loop .inv .goes .inside .read) (c .before .before .before .before .before .before .before .before .before .line-end .ensures), c .before .before .before .before .before .before .before .before .if1 .left)
 
--- src/lines.rt:51:5
 loop-again : tie.Need-loop-again Inv-loop μ-loop
 loop-again c = reached-more _ _ _ _ _ _ _ _ _ (c .before .before .before .before .before .before .before .before .before .before .before .loop .inv) _ _ _ _ (c .before .before .before .before .before .before .before .before .before .line-end .ensures) (c .before .before .before .before .before .before .before .before .if1 .left) (c .before .before .before .before .answer-at .kept .1 .0) (c .before .before .before .before .answer-at .kept .1 .1 .0) (c .before .before .before .before .answer-at .ensures)
 
--- src/lines.rt:45:1
 same-length-3 : tie.Need-same-length-3 Inv-loop μ-loop
 same-length-3 c = c .before .loop .inv .words
 
--- src/lines.rt:45:1
 same-length-4 : tie.Need-same-length-4 Inv-loop μ-loop
 same-length-4 c = c .before .loop .inv .bytes
 
--- src/lines.rt:45:1
 returns-2 : tie.Need-returns-2 Inv-loop μ-loop
 returns-2 c = (c .before .loop .inv .goes, halts-short _ _ _ (c .loop-test .left) (c .before .loop .inv .room .bytes))
 

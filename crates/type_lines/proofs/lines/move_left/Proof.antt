@@ -13,43 +13,33 @@ Inv-loop input₀ from to size i₀ input i = Moving input₀ from to i input
 abbrev μ-loop : tie.MeasureT-loop
 μ-loop input₀ from to size i₀ input i = size - i
 
--- src/lines.rt:113:16
 sub-size : tie.Need-sub-size Inv-loop μ-loop
 sub-size c = search needs
 
--- src/lines.rt:115:5
 loop-holds : tie.Need-loop-holds Inv-loop μ-loop
 loop-holds c = moving-start _ _ _ (c .pre .0) (c .pre .1)
 
--- src/lines.rt:116:26
 add-input : tie.Need-add-input Inv-loop μ-loop
 add-input c = omega (arith, c .before .loop .inv .fits)
 
--- src/lines.rt:116:20
 slice-read-input : tie.Need-slice-read-input Inv-loop μ-loop
 slice-read-input c = omega (arith, c .before .before .loop .inv .fits, moving-length _ _ _ _ _ (c .before .before .loop .inv))
 
--- src/lines.rt:116:9
 slice-write-input : tie.Need-slice-write-input Inv-loop μ-loop
 slice-write-input c = omega (arith, c .before .before .loop .inv .fits, moving-length _ _ _ _ _ (c .before .before .loop .inv))
 
--- src/lines.rt:117:9
 add-i : tie.Need-add-i Inv-loop μ-loop
 add-i c = search needs
 
--- src/lines.rt:115:5
 loop-less : tie.Need-loop-less Inv-loop μ-loop
 loop-less c = search needs
 
--- src/lines.rt:115:5
 loop-again : tie.Need-loop-again Inv-loop μ-loop
 loop-again c = moving-more _ _ _ _ _ (c .before .before .loop .inv) (c .before .loop-test .taken)
 
--- src/lines.rt:109:1
 same-length : tie.Need-same-length Inv-loop μ-loop
 same-length c = moving-length _ _ _ _ _ (c .before .loop .inv)
 
--- src/lines.rt:109:1
 returns : tie.Need-returns Inv-loop μ-loop
 returns c = moving-all _ _ _ _ _ (c .before .loop .inv) (c .loop-test .left)
 

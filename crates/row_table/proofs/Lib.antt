@@ -1,0 +1,17 @@
+pub mod Runs
+pub mod SoundTree
+pub mod Boundary
+pub mod Clauses
+pub mod RuleLaws
+pub mod NameLaws
+pub mod IdLaws
+pub mod ChildLaws
+pub mod SoundLaws
+pub mod LevelLaws
+pub mod EqualLaws
+pub mod RowList
+pub mod LayoutLaws
+pub mod Equivalence
+pub mod Kindred
+pub mod Walks
+pub mod UnionLaws

@@ -1,0 +1,211 @@
+-- What the functions of `rules.rt` say of every kind: a rule of the table of shapes is one computed test.
+use mathlib.Core.Path.{_≡_, refl, sym, ap, _∙_}
+use mathlib.Core.Bool.{Bool, true, false, _&&_, _||_, and-true, false≢true}
+use Prim.Native.Nat.{ℕ, _+_, _≤_, _<_}
+use native.Mathlib.Omega.{arith}
+use lib.Dec.{T, leb, ltb, eqb, leb→le, ltb→lt, lt→ltb, eqb→eq}
+use borrow.Author.Tests.{le-leb, lt-leb, lt-ltb, le-ltb, ne-eqb, ltb-true, ltb-false}
+use Rattle.tokenizer.proofs.Basics.{and-l, and-r, both}
+use Rattle.datatype.specs.Kind.{Shape, leaf, timestamp, time, interval, fixed, list, fixedList, struct, union, dictionary, decimal, mapping, runEnds, kinds, shapeOf, unitFits, maxPrecision, decimalFits}
+use Rattle.row_table.specs.Sound.{Place, bare, field, unionField, rulesOf}
+use Rattle.row_table.specs.Check.{placeOf, belowOf, isDecimal, ownShape, numbersFit}
+use Rattle.datatype.proofs.Tests.{iff-eq, allBelow, below-at, sameBool, same-bool}
+use Rattle.datatype.proofs.KindLaws.{past-kinds}
+
+-- ---- the four decimals
+
+pub decimal-low : (k : ℕ) → k < 35 → false ≡ isDecimal k
+unfolding isDecimal
+decimal-low k h = rw (lt-leb 35 k h)
+
+pub decimal-high : (k : ℕ) → 35 ≤ k → leb k 38 ≡ isDecimal k
+unfolding isDecimal
+decimal-high k h = rw (le-leb 35 k h)
+
+-- exactly the decimals have the shape of a decimal
+abbrev decimalShape : Shape → Bool
+decimalShape leaf = false
+decimalShape timestamp = false
+decimalShape time = false
+decimalShape interval = false
+decimalShape fixed = false
+decimalShape list = false
+decimalShape fixedList = false
+decimalShape struct = false
+decimalShape union = false
+decimalShape dictionary = false
+decimalShape decimal = true
+decimalShape mapping = false
+decimalShape runEnds = false
+
+decimals : T (allBelow kinds (λ k. sameBool (decimalShape (shapeOf k)) (isDecimal k)))
+unfolding sameBool shapeOf isDecimal
+decimals = tt
+
+decimal-shape : (k : ℕ) → k < kinds → decimalShape (shapeOf k) ≡ isDecimal k
+decimal-shape k h = same-bool (decimalShape (shapeOf k)) (isDecimal k) (below-at kinds (λ i. sameBool (decimalShape (shapeOf i)) (isDecimal i)) decimals k h)
+
+is-decimal : (s : Shape) → decimalShape s ≡ true → s ≡ decimal
+is-decimal leaf e = absurd (false≢true e)
+is-decimal timestamp e = absurd (false≢true e)
+is-decimal time e = absurd (false≢true e)
+is-decimal interval e = absurd (false≢true e)
+is-decimal fixed e = absurd (false≢true e)
+is-decimal list e = absurd (false≢true e)
+is-decimal fixedList e = absurd (false≢true e)
+is-decimal struct e = absurd (false≢true e)
+is-decimal union e = absurd (false≢true e)
+is-decimal dictionary e = absurd (false≢true e)
+is-decimal decimal e = refl
+is-decimal mapping e = absurd (false≢true e)
+is-decimal runEnds e = absurd (false≢true e)
+
+small-precisions : T (allBelow kinds (λ k. leb (maxPrecision k) 76))
+unfolding maxPrecision
+small-precisions = tt
+
+-- ---- word 4
+
+-- the kinds whose word 4 has more than one value
+abbrev hasParam : ℕ → Bool
+hasParam k = eqb k 13 || eqb k 16 || eqb k 17 || eqb k 18 || eqb k 19 || eqb k 21 || eqb k 29 || eqb k 33 || eqb k 39 || isDecimal k
+
+one-param : T (allBelow kinds (λ k. hasParam k || eqb ((rulesOf (shapeOf k)) .params) 1))
+unfolding rulesOf shapeOf isDecimal
+one-param = tt
+
+module _ (k : ℕ) where
+  pub params-at : (n v : ℕ) → k ≡ n → v ≡ (rulesOf (shapeOf n)) .params → v ≡ (rulesOf (shapeOf k)) .params
+  params-at n v e h = rw e h
+
+  pub params-decimal : k < kinds → isDecimal k ≡ true → 256 ≡ (rulesOf (shapeOf k)) .params
+  unfolding rulesOf
+  params-decimal h e = rw (is-decimal (shapeOf k) (decimal-shape k h ∙ e))
+
+  pub params-one : k < kinds → (k ≡ 13 → ⊥) → (k ≡ 16 → ⊥) → (k ≡ 17 → ⊥) → (k ≡ 18 → ⊥) → (k ≡ 19 → ⊥) → (k ≡ 21 → ⊥) → (k ≡ 29 → ⊥) → (k ≡ 33 → ⊥) → (k ≡ 39 → ⊥)
+      → isDecimal k ≡ false → 1 ≡ (rulesOf (shapeOf k)) .params
+  params-one h a b c d e f g i j l =
+      let t : T (hasParam k || eqb ((rulesOf (shapeOf k)) .params) 1) = below-at kinds (λ m. hasParam m || eqb ((rulesOf (shapeOf m)) .params) 1) one-param k h in
+      sym (eqb→eq ((rulesOf (shapeOf k)) .params) 1 (rw (ne-eqb k 13 a, ne-eqb k 16 b, ne-eqb k 17 c, ne-eqb k 18 d, ne-eqb k 19 e, ne-eqb k 21 f, ne-eqb k 29 g, ne-eqb k 33 i, ne-eqb k 39 j, l) at t))
+
+-- ---- words 4 and 5
+
+-- a decimal's numbers have room
+decimal-room : (k p s : ℕ) → k < kinds → T (decimalFits k p s) → (p < 256) × (s < 256)
+unfolding decimalFits
+decimal-room k p s h t =
+    let a : Bool = leb 1 p in
+    let b : Bool = leb p (maxPrecision k) in
+    let c : Bool = leb s (128 + p) in
+    let small = leb→le (maxPrecision k) 76 (below-at kinds (λ i. leb (maxPrecision i) 76) small-precisions k h) in
+    let x = leb→le p (maxPrecision k) (and-r a b (and-l (a && b) c t)) in
+    let y = leb→le s (128 + p) (and-r (a && b) c t) in
+    (omega arith, omega arith)
+
+-- what a shape that is no decimal's asks of words 4 and 5
+plain-shape : (sh : Shape) (k p s : ℕ) → decimalShape sh ≡ false → (k ≡ 16 → ⊥) → (k ≡ 17 → ⊥)
+    → (ltb p ((rulesOf sh) .params) && ltb s ((rulesOf sh) .scales) && ownShape sh k p s) ≡ (ltb p ((rulesOf sh) .params) && ltb s 1)
+unfolding rulesOf unitFits
+plain-shape leaf k p s e a b = and-true _
+plain-shape timestamp k p s e a b = and-true _
+plain-shape time k p s e a b = rw (ne-eqb k 16 a, ne-eqb k 17 b) (and-true _)
+plain-shape interval k p s e a b = and-true _
+plain-shape fixed k p s e a b = and-true _
+plain-shape list k p s e a b = and-true _
+plain-shape fixedList k p s e a b = and-true _
+plain-shape struct k p s e a b = and-true _
+plain-shape union k p s e a b = and-true _
+plain-shape dictionary k p s e a b = and-true _
+plain-shape decimal k p s e a b = absurd (false≢true (sym e))
+plain-shape mapping k p s e a b = and-true _
+plain-shape runEnds k p s e a b = and-true _
+
+one-scale : (sh : Shape) → decimalShape sh ≡ false → (rulesOf sh) .scales ≡ 1
+unfolding rulesOf
+one-scale leaf e = refl
+one-scale timestamp e = refl
+one-scale time e = refl
+one-scale interval e = refl
+one-scale fixed e = refl
+one-scale list e = refl
+one-scale fixedList e = refl
+one-scale struct e = refl
+one-scale union e = refl
+one-scale dictionary e = refl
+one-scale decimal e = absurd (false≢true (sym e))
+one-scale mapping e = refl
+one-scale runEnds e = refl
+
+and-off : (a b : Bool) → (a && false && b) ≡ false
+and-off true b = refl
+and-off false b = refl
+
+module _ (k p s : ℕ) where
+  pub numbers-decimal : (d : Bool) → k < kinds → isDecimal k ≡ true → d ≡ decimalFits k p s → d ≡ numbersFit k p s
+  unfolding numbersFit rulesOf
+  numbers-decimal d h e f =
+      f ∙ rw (is-decimal (shapeOf k) (decimal-shape k h ∙ e))
+      (iff-eq (decimalFits k p s) (ltb p 256 && ltb s 256 && decimalFits k p s)
+      (λ t. let w = decimal-room k p s h t in both (ltb p 256 && ltb s 256) (decimalFits k p s) (both (ltb p 256) (ltb s 256) (lt→ltb p 256 (w .0)) (lt→ltb s 256 (w .1))) t)
+      (λ t. and-r (ltb p 256 && ltb s 256) (decimalFits k p s) t))
+
+  pub numbers-rest : (m : ℕ) → k < kinds → isDecimal k ≡ false → s ≤ 0 → (k ≡ 16 → ⊥) → (k ≡ 17 → ⊥) → m ≡ (rulesOf (shapeOf k)) .params → ltb p m ≡ numbersFit k p s
+  unfolding numbersFit
+  numbers-rest m h e z a b f = sym (plain-shape (shapeOf k) k p s (decimal-shape k h ∙ e) a b ∙ rw (← f, lt-ltb s 1 (omega arith)) (and-true _))
+
+  pub numbers-time32 : s ≤ 0 → k ≡ 16 → ltb p 2 ≡ numbersFit k p s
+  unfolding numbersFit rulesOf shapeOf unitFits
+  numbers-time32 z e = rw (e, lt-ltb s 1 (omega arith)) (iff-eq (ltb p 2) (ltb p 4 && true && ltb p 2) (λ t. both (ltb p 4 && true) (ltb p 2) (both (ltb p 4) true (let u = ltb→lt p 2 t in lt→ltb p 4 (omega arith)) tt) t) (λ t. and-r (ltb p 4 && true) (ltb p 2) t))
+
+  pub numbers-time64-low : s ≤ 0 → k ≡ 17 → p < 2 → false ≡ numbersFit k p s
+  unfolding numbersFit rulesOf shapeOf unitFits
+  numbers-time64-low z e l = rw (e, lt-ltb s 1 (omega arith), lt-ltb p 4 (omega arith), lt-leb 2 p l)
+
+  pub numbers-time64 : s ≤ 0 → k ≡ 17 → 2 ≤ p → ltb p 4 ≡ numbersFit k p s
+  unfolding numbersFit rulesOf shapeOf unitFits
+  numbers-time64 z e l = rw (e, lt-ltb s 1 (omega arith), le-leb 2 p l) (sym (and-true _ ∙ and-true _))
+
+  scales-one : (sh : Shape) → decimalShape sh ≡ false → 0 < s → (ltb p ((rulesOf sh) .params) && ltb s ((rulesOf sh) .scales) && ownShape sh k p s) ≡ false
+  scales-one sh e l = rw (one-scale sh e, le-ltb s 1 (omega arith)) (and-off (ltb p ((rulesOf sh) .params)) (ownShape sh k p s))
+
+  pub numbers-scaled : k < kinds → isDecimal k ≡ false → 0 < s → false ≡ numbersFit k p s
+  unfolding numbersFit
+  numbers-scaled h e l = sym (scales-one (shapeOf k) (decimal-shape k h ∙ e) l)
+
+-- ---- the place of a kind's children
+
+abbrev placeNumber : Place → ℕ
+placeNumber bare = 0
+placeNumber field = 1
+placeNumber unionField = 2
+
+field-below : T (allBelow kinds (λ k. eqb k 34 || eqb k 33 || eqb (placeNumber (belowOf k)) 1))
+unfolding rulesOf shapeOf
+field-below = tt
+
+place-number : (p : Place) (n : ℕ) → placeNumber p ≡ n → placeOf n ≡ p
+place-number bare n e = rw (← e)
+place-number field n e = rw (← e)
+place-number unionField n e = rw (← e)
+
+below-past : (k : ℕ) → kinds ≤ k → field ≡ belowOf k
+unfolding rulesOf
+below-past k h = ap (λ (sh : Shape). (rulesOf sh) .below) (sym (past-kinds k h))
+
+module _ (k : ℕ) where
+  pub below-bare : k ≡ 34 → placeOf 0 ≡ belowOf k
+  unfolding rulesOf shapeOf
+  below-bare e = rw e
+
+  pub below-union : k ≡ 33 → placeOf 2 ≡ belowOf k
+  unfolding rulesOf shapeOf
+  below-union e = rw e
+
+  pub below-field : (k ≡ 34 → ⊥) → (k ≡ 33 → ⊥) → placeOf 1 ≡ belowOf k
+  below-field a b = go (ltb k kinds) refl
+    where
+      go : (t : Bool) → ltb k kinds ≡ t → placeOf 1 ≡ belowOf k
+      go true e =
+          let t : T (eqb k 34 || eqb k 33 || eqb (placeNumber (belowOf k)) 1) = below-at kinds (λ i. eqb i 34 || eqb i 33 || eqb (placeNumber (belowOf i)) 1) field-below k (ltb-true k kinds e) in
+          place-number (belowOf k) 1 (eqb→eq (placeNumber (belowOf k)) 1 (rw (ne-eqb k 34 a, ne-eqb k 33 b) at t))
+      go false e = below-past k (ltb-false k kinds e)

@@ -1,0 +1,290 @@
+-- The walk of `sound.rt`: each place where it answers, and each turn of its loop.
+use mathlib.Core.Path.{_≡_, refl, sym, ap, _∙_, subst}
+use mathlib.Core.Bool.{Bool, true, false, false≢true}
+use mathlib.Core.List.{List}
+use mathlib.Core.Option.{Option, none, some}
+use Prim.Native.Nat.{ℕ, zero, suc, _+_, _-_, _*_, _/_, _≤_, _<_}
+use native.Mathlib.Omega.{arith}
+use lib.ListN.{length, getD}
+use lib.Dec.{T, ltb, eqb, ltb→lt}
+use borrow.Author.Tests.{le-leb, lt-leb, lt-ltb}
+use Rattle.tokenizer.specs.Text.{same}
+use Rattle.tokenizer.specs.Utf8.{isUtf8}
+use Rattle.tokenizer.proofs.Basics.{of-true}
+use Rattle.datatype.specs.Kind.{kinds, shapeOf}
+use Rattle.datatype.specs.Tree.{Forest, ∅, node, count, depth, Row, nameList, labels}
+use Rattle.datatype.specs.Table.{rowWords, wordsOf, tableOf, join, viewOf}
+use Rattle.row_table.specs.Sound.{Place, bare, idFits, rulesOf, rowsFit, placed, isSound}
+use Rattle.row_table.specs.Run.{sizeAt, rowAt, runAt, isRun, runOr, forestAt, Nests}
+use Rattle.row_table.specs.Check.{placeOf, belowOf, numbersFit, nameOk, zoneOk, ownFits, childrenFit, runFits}
+use Rattle.datatype.proofs.Table.{table-view}
+use Rattle.datatype.proofs.Same.{same-eq}
+use Rattle.datatype.proofs.Tests.{iff-eq, false-of}
+use Rattle.row_table.proofs.Runs.{run-step, run-none, no-rows, run-all, run-is, view-rows}
+use Rattle.row_table.proofs.SoundTree.{SoundTree, sound-tree, tree-sound, sound-count}
+use Rattle.row_table.proofs.Clauses.{own-of, Run, run-of, of-run, run-in, run-out}
+
+clash : (b : Bool) → b ≡ false → T b → ⊥
+clash true e t = false≢true (sym e)
+clash false e t = t
+
+-- ---- one row
+
+pub id-low : (place id : ℕ) → place < 2 → eqb id 0 ≡ idFits (placeOf place) id
+unfolding idFits
+id-low zero id h = refl
+id-low (suc zero) id h = refl
+id-low (suc (suc n)) id h = absurd (omega arith)
+
+pub id-union : (place id : ℕ) → 2 ≤ place → ltb id 128 ≡ idFits (placeOf place) id
+unfolding idFits
+id-union zero id h = absurd (omega arith)
+id-union (suc zero) id h = absurd (omega arith)
+id-union (suc (suc n)) id h = refl
+
+module _ (text : List ℕ) (place : Place) (r : Row) (k : ℕ) (ek : k ≡ r .kind) where
+  pub row-1 : kinds ≤ k → false ≡ ownFits text place r
+  row-1 h = false-of (ownFits text place r) (λ t. let u = ltb→lt (r .kind) kinds (own-of text place r ∅ t .kind) in omega arith)
+
+  pub row-2 : (p s : ℕ) → p ≡ r .param → s ≡ r .scale → numbersFit k p s ≡ false → false ≡ ownFits text place r
+  row-2 p s a b e = false-of (ownFits text place r) (λ t. clash (numbersFit (r .kind) (r .param) (r .scale)) (rw (← ek, ← a, ← b) e) (own-of text place r ∅ t .numbers))
+
+  pub row-3 : (id : ℕ) → id ≡ r .id → idFits place id ≡ false → false ≡ ownFits text place r
+  row-3 id a e = false-of (ownFits text place r) (λ t. clash (idFits place (r .id)) (rw (← a) e) (own-of text place r ∅ t .id))
+
+  pub row-4 : (role home start size : ℕ) → role ≡ r .role → home ≡ r .home → start ≡ r .start → size ≡ r .size → nameOk text place role home start size ≡ false
+      → false ≡ ownFits text place r
+  row-4 role home start size a b c d e =
+      false-of (ownFits text place r) (λ t. clash (nameOk text place (r .role) (r .home) (r .start) (r .size)) (rw (← a, ← b, ← c, ← d) e) (own-of text place r ∅ t .name))
+
+  pub row-5 : (p s id role home start size zs zz : ℕ) (z : Bool) → k < kinds → p ≡ r .param → s ≡ r .scale → numbersFit k p s ≡ true → id ≡ r .id → idFits place id ≡ true
+      → role ≡ r .role → home ≡ r .home → start ≡ r .start → size ≡ r .size → nameOk text place role home start size ≡ true
+      → zs ≡ r .zoneStart → zz ≡ r .zoneSize → z ≡ zoneOk text ((rulesOf (shapeOf k)) .zoned) zs zz → z ≡ ownFits text place r
+  unfolding ownFits
+  row-5 p s id role home start size zs zz z h a b en c ei d e f g em i j q =
+      rw (← ek, ← a, ← b, ← c, ← d, ← e, ← f, ← g, ← i, ← j, lt-ltb k kinds h, en, ei, em) q
+
+-- ---- a run that is taken apart into its first row and two runs
+
+module _ (text : List ℕ) (place : Place) (l : ℕ) (r : Row) where
+  join-own : (a b : Option (Forest Row)) → ownFits text place r ≡ false → runFits text place (suc l) (join r a b) ≡ false
+  unfolding runFits
+  join-own none b e = refl
+  join-own (some k) none e = refl
+  join-own (some k) (some n) e = sym (false-of (runFits text place (suc l) (some (node r k n))) (λ t. clash (ownFits text place r) e (run-out text place l r k n (run-of text place (suc l) (node r k n) t) .0)))
+
+  join-below : (a b : Option (Forest Row)) → runFits text (belowOf (r .kind)) l a ≡ false → runFits text place (suc l) (join r a b) ≡ false
+  unfolding runFits
+  join-below none b e = refl
+  join-below (some k) none e = refl
+  join-below (some k) (some n) e =
+      sym (false-of (runFits text place (suc l) (some (node r k n))) (λ t. clash (runFits text (belowOf (r .kind)) l (some k)) e (of-run text (belowOf (r .kind)) l k (run-out text place l r k n (run-of text place (suc l) (node r k n) t) .1))))
+
+  join-kids : (a b : Option (Forest Row)) → childrenFit (r .kind) (runOr a) ≡ false → runFits text place (suc l) (join r a b) ≡ false
+  unfolding runFits
+  join-kids none b e = refl
+  join-kids (some k) none e = refl
+  join-kids (some k) (some n) e = sym (false-of (runFits text place (suc l) (some (node r k n))) (λ t. clash (childrenFit (r .kind) k) e (run-out text place l r k n (run-of text place (suc l) (node r k n) t) .2)))
+
+  join-go : (a b : Option (Forest Row)) → ownFits text place r ≡ true → runFits text (belowOf (r .kind)) l a ≡ true → childrenFit (r .kind) (runOr a) ≡ true
+      → runFits text place (suc l) (join r a b) ≡ runFits text place (suc l) b
+  unfolding runFits
+  join-go none b o e c = absurd (false≢true e)
+  join-go (some k) none o e c = refl
+  join-go (some k) (some n) o e c =
+      iff-eq (runFits text place (suc l) (some (node r k n))) (runFits text place (suc l) (some n))
+      (λ t. of-run text place (suc l) n (run-out text place l r k n (run-of text place (suc l) (node r k n) t) .3))
+      (λ t. of-run text place (suc l) (node r k n) (run-in text place l r k n (of-true _ o) (run-of text (belowOf (r .kind)) l k (of-true _ e)) (of-true _ c) (run-of text place (suc l) n t)))
+
+-- a run that is sound is a run
+fits-run : (text : List ℕ) (place : Place) (level : ℕ) (o : Option (Forest Row)) → runFits text place level o ≡ true → T (isRun o)
+unfolding runFits
+fits-run text place level none e = false≢true e
+fits-run text place level (some f) e = tt
+
+-- rows need a level
+no-level : (text : List ℕ) (place : Place) (f : Forest Row) → 1 ≤ count f → runFits text place 0 (some f) ≡ false
+unfolding runFits
+no-level text place ∅ h = absurd (omega arith)
+no-level text place (node r k n) h = rw (lt-leb (depth (node r k n)) 0 (omega arith))
+
+-- ---- the loop over a run, in the code's terms
+
+module _ (text : List ℕ) (place : Place) (level : ℕ) (table : List ℕ) (at end : ℕ) (room : rowWords * end ≤ length table) (go : at < end) where
+  abbrev here : Bool
+  here = runFits text place level (runAt table at (end - at))
+
+  room-here : rowWords * (at + (end - at)) ≤ length table
+  room-here = omega arith
+
+  pub turn-level : level ≡ 0 → here ≡ false
+  turn-level e = rw e (by-run (runAt table at (end - at)) refl)
+    where
+      nothing : runFits text place 0 none ≡ false
+      nothing = unfold runFits in refl
+
+      by-run : (o : Option (Forest Row)) → runAt table at (end - at) ≡ o → runFits text place 0 o ≡ false
+      by-run none q = nothing
+      by-run (some f) q = no-level text place f (let c = run-is table at (end - at) f room-here q .size in omega arith)
+
+  module _ (s : ℕ) (is : s ≡ sizeAt table at) where
+    turn-none : (1 ≤ s → s ≤ end - at → ⊥) → here ≡ false
+    unfolding runFits
+    turn-none h = rw (run-none table at (end - at) room-here (omega arith) (rw is at h))
+
+    pub turn-empty : s ≡ 0 → here ≡ false
+    turn-empty e = turn-none (λ l h. omega arith)
+
+    pub turn-long : end - at < s → here ≡ false
+    turn-long e = turn-none (λ l h. omega arith)
+
+    module _ (some-rows : s ≡ 0 → ⊥) (within : s ≤ end - at) where
+      abbrev below : Option (Forest Row)
+      below = runAt table (at + 1) (at + s - (at + 1))
+
+      abbrev behind : Option (Forest Row)
+      behind = runAt table (at + s) (end - (at + s))
+
+      parts : runAt table at (end - at) ≡ join (rowAt table at) below behind
+      parts =
+          let a : at + s - (at + 1) ≡ s - 1 = omega arith in
+          let b : end - (at + s) ≡ end - at - s = omega arith in
+          rw (a, b, is) (run-step table at (end - at) room-here (omega arith) (omega arith) (omega arith))
+
+      module _ (some-level : level ≡ 0 → ⊥) where
+        deeper : level ≡ suc (level - 1)
+        deeper = omega arith
+
+        here-is : here ≡ runFits text place (suc (level - 1)) (join (rowAt table at) below behind)
+        here-is = ap (λ (n : ℕ). runFits text place n (runAt table at (end - at))) deeper ∙ ap (runFits text place (suc (level - 1))) parts
+
+        pub turn-row : ownFits text place (rowAt table at) ≡ false → here ≡ false
+        turn-row e = here-is ∙ join-own text place (level - 1) (rowAt table at) below behind e
+
+        module _ (k p : ℕ) (ek : k ≡ getD table (rowWords * at + 0) 0) (ep : placeOf p ≡ belowOf k) where
+          kind-is : k ≡ (rowAt table at) .kind
+          unfolding rowAt
+          kind-is = ek
+
+          place-is : placeOf p ≡ belowOf ((rowAt table at) .kind)
+          place-is = ep ∙ ap belowOf kind-is
+
+          pub turn-below : runFits text (placeOf p) (level - 1) below ≡ false → here ≡ false
+          turn-below e = here-is ∙ join-below text place (level - 1) (rowAt table at) below behind (rw (← place-is) e)
+
+          pub turn-nests : runFits text (placeOf p) (level - 1) below ≡ true → Nests table (at + 1) (at + s - (at + 1)) × (at + 1 ≤ at + s)
+          turn-nests e = (record { room = omega arith; whole = fits-run text (placeOf p) (level - 1) below e }, omega arith)
+
+          kids-are : childrenFit k (forestAt table (at + 1) (at + s - (at + 1))) ≡ childrenFit ((rowAt table at) .kind) (runOr below)
+          unfolding forestAt
+          kids-are = ap (λ (n : ℕ). childrenFit n (runOr below)) kind-is
+
+          pub turn-kids : childrenFit k (forestAt table (at + 1) (at + s - (at + 1))) ≡ false → here ≡ false
+          turn-kids e = here-is ∙ join-kids text place (level - 1) (rowAt table at) below behind (sym kids-are ∙ e)
+
+          pub turn-go : ownFits text place (rowAt table at) ≡ true → runFits text (placeOf p) (level - 1) below ≡ true → childrenFit k (forestAt table (at + 1) (at + s - (at + 1))) ≡ true
+              → here ≡ runFits text place level behind
+          turn-go o b c =
+              here-is ∙ join-go text place (level - 1) (rowAt table at) below behind o (rw (← place-is) b) (sym kids-are ∙ c)
+              ∙ ap (λ (n : ℕ). runFits text place n behind) (sym deeper)
+
+-- the loop ends
+pub turn-end : (text : List ℕ) (place : Place) (level : ℕ) (table : List ℕ) (at end : ℕ) → end ≤ at → runFits text place level (runAt table at (end - at)) ≡ true
+unfolding runFits placed labels rowsFit
+turn-end text place level table at end h = let e : end - at ≡ 0 = omega arith in rw (e, no-rows table at, le-leb 0 level (omega arith))
+
+-- ---- a whole table
+
+-- one root exactly where the root's subtree is the whole table
+one-tree : (f : Forest Row) (n : ℕ) → count f ≡ n → 1 ≤ n → getD (tableOf f) 1 0 ≡ n → (r : Row) × (k : Forest Row) × (f ≡ node r k ∅)
+unfolding tableOf wordsOf
+one-tree ∅ n c l e = absurd (omega arith)
+one-tree (node r k ∅) n c l e = (r, k, refl)
+one-tree (node r k (node q i j)) n c l e = absurd (omega arith)
+
+module _ (text names table : List ℕ) where
+  abbrev rows : ℕ
+  rows = length table / 11
+
+  abbrev sound : Bool
+  sound = isSound text names table
+
+  no : (SoundTree text names table → ⊥) → false ≡ sound
+  no f = false-of sound (λ t. f (sound-tree text names table t))
+
+  pub sound-long : 16384 < length text → false ≡ sound
+  sound-long h = no (λ s. let u = s .short in omega arith)
+
+  pub sound-names : same names nameList ≡ false → false ≡ sound
+  sound-names e = no (λ s. clash (same names nameList) e (rw (s .listed) tt))
+
+  pub sound-empty : rows ≡ 0 → false ≡ sound
+  sound-empty e = no (λ s. let u = sound-count text names table s in omega arith)
+
+  pub sound-many : 1024 < rows → false ≡ sound
+  sound-many e = no (λ s. let u = sound-count text names table s in let v = s .rows in omega arith)
+
+  pub sound-left : (length table ≡ 11 * rows → ⊥) → false ≡ sound
+  sound-left e = no (λ s. let u = sound-count text names table s in omega arith)
+
+  -- the root's subtree
+  root-size : (s : SoundTree text names table) → sizeAt table 0 ≡ suc (count (s .kids))
+  unfolding tableOf wordsOf
+  root-size s = ap (λ (t : List ℕ). getD t 1 0) (sym (table-view table (node (s .root) (s .kids) ∅) (s .view)))
+
+  pub sound-root : (n : ℕ) → n ≡ sizeAt table 0 → (n ≡ rows → ⊥) → false ≡ sound
+  sound-root n e d = no (λ s. let u = sound-count text names table s in let v = root-size s in d (omega arith))
+
+  pub sound-utf8 : isUtf8 text ≡ false → false ≡ sound
+  sound-utf8 e = no (λ s. clash (isUtf8 text) e (s .utf8))
+
+  module _ (short : length text ≤ 16384) (listed : same names nameList ≡ true) (some-rows : rows ≡ 0 → ⊥) (few : rows ≤ 1024) (whole : length table ≡ 11 * rows) (n : ℕ) (is : n ≡ sizeAt table 0) (root : n ≡ rows) (good : isUtf8 text ≡ true) where
+    names-are : names ≡ nameList
+    names-are = same-eq names nameList (of-true _ listed)
+
+    sound-in : (f : Forest Row) → viewOf table ≡ some f → Run text bare 64 f → SoundTree text names table
+    sound-in f v w = go (one-tree f rows (let c = view-rows table f v in omega arith) (omega arith) (ap (λ (t : List ℕ). getD t 1 0) (table-view table f v) ∙ sym is ∙ root))
+      where
+        with-root : (r : Row) (k : Forest Row) → viewOf table ≡ some (node r k ∅) → Run text bare 64 (node r k ∅) → SoundTree text names table
+        with-root r k v w =
+            let c = view-rows table (node r k ∅) v in
+            let d = w .flat in
+            record {
+              root = r;
+              kids = k;
+              view = v;
+              short = short;
+              utf8 = of-true _ good;
+              listed = names-are;
+              rows = omega arith;
+              levels = omega arith;
+              places = w .places;
+              fits = rw names-are (w .fits);
+            }
+
+        go : (r : Row) × (k : Forest Row) × (f ≡ node r k ∅) → SoundTree text names table
+        go x = with-root (x .0) (x .1) (v ∙ ap some (x .2)) (subst (λ (g : Forest Row). Run text bare 64 g) (x .2) w)
+
+    sound-out : (s : SoundTree text names table) → Run text bare 64 (node (s .root) (s .kids) ∅)
+    sound-out s = let d = s .levels in record { flat = omega arith; places = s .places; fits = rw names-are at (s .fits) }
+
+    view-fits : T (runFits text bare 64 (viewOf table)) → T sound
+    view-fits t = go (viewOf table) refl t
+      where
+        bad : T (runFits text bare 64 none) → ⊥
+        bad t = unfold runFits in t
+
+        go : (o : Option (Forest Row)) → viewOf table ≡ o → T (runFits text bare 64 o) → T sound
+        go none e t = absurd (bad t)
+        go (some f) e t = tree-sound text names table (sound-in f e (run-of text bare 64 f t))
+
+    fits-view : T sound → T (runFits text bare 64 (viewOf table))
+    fits-view t = go (sound-tree text names table t)
+      where
+        go : SoundTree text names table → T (runFits text bare 64 (viewOf table))
+        go s = rw (s .view) (of-run text bare 64 (node (s .root) (s .kids) ∅) (sound-out s))
+
+    pub sound-is : (r : Bool) → r ≡ runFits text bare 64 (runAt table 0 (rows - 0)) → r ≡ sound
+    sound-is r e =
+        let z : rows - 0 ≡ rows = omega arith in
+        e ∙ ap (λ (m : ℕ). runFits text bare 64 (runAt table 0 m)) z ∙ ap (runFits text bare 64) (run-all table rows whole) ∙ iff-eq (runFits text bare 64 (viewOf table)) sound view-fits fits-view

@@ -1,0 +1,133 @@
+-- Union ids of rows that stand side by side: what the loop over them holds, and what they are where the rows nest.
+use mathlib.Core.Path.{_≡_, refl, sym, ap, _∙_}
+use mathlib.Core.Bool.{Bool, true, false, not, _&&_, and-false}
+use mathlib.Core.List.{List, [], _∷_, map}
+use mathlib.Core.Option.{Option, none, some, Option·map}
+use Prim.Native.Nat.{ℕ, zero, suc, _+_, _*_, _-_, _/_, _≤_, _<_}
+use native.Mathlib.Decide.{decLt}
+use native.Mathlib.Omega.{arith}
+use lib.ListN.{length, getD}
+use lib.Dec.{leb, ltb}
+use borrow.Author.Tests.{le-leb, lt-leb, lt-ltb, le-ltb}
+use Rattle.tokenizer.specs.Text.{if_then_else_}
+use Rattle.datatype.specs.Kind.{has, idsFit}
+use Rattle.datatype.specs.Tree.{Forest, ∅, node, roots, Row}
+use Rattle.datatype.specs.Table.{rowWords}
+use Rattle.row_table.specs.Run.{sizeAt, rowAt, forestAt, Nests}
+use Rattle.row_table.specs.Ids.{isKept, keepId, freshIds}
+use Rattle.row_table.specs.UnionFields.{siblingIds, allFit, typeIdsFit}
+use Rattle.row_table.proofs.IdLaws.{Keeps, zeros, keeps-none, keeps-more, fresh-ids}
+use Rattle.row_table.proofs.Runs.{Turn, turn, forest-none}
+
+-- ids that are fresh behind those met
+abbrev allFresh : List ℕ → Option (List ℕ) → Bool
+allFresh met none = false
+allFresh met (some ids) = freshIds met ids
+
+all-fresh : (o : Option (List ℕ)) → allFit o ≡ allFresh [] o
+all-fresh none = refl
+all-fresh (some ids) = fresh-ids ids
+
+fresh-more : (met : List ℕ) (id : ℕ) (o : Option (List ℕ)) → allFresh met (Option·map (λ ids. id ∷ ids) o) ≡ (ltb id 128 && not (has id met) && allFresh (id ∷ met) o)
+unfolding freshIds
+fresh-more met id none = sym (and-false (ltb id 128 && not (has id met)))
+fresh-more met id (some ids) = refl
+
+-- before a turn: the ids met, and that the rest decides
+pub record Met (table : List ℕ) (first end : ℕ) (seen : List ℕ) (at : ℕ) : Type 0 where
+  pub ids : List ℕ
+  pub left : ℕ
+  pub keeps : Keeps seen ids
+  pub enough : end - at ≤ left
+  pub so : typeIdsFit table first end ≡ allFresh ids (siblingIds left table at end)
+
+module _ (table : List ℕ) (first end : ℕ) where
+  pub met-start : Met table first end zeros first
+  unfolding typeIdsFit
+  met-start = record { ids = []; left = end - first; keeps = keeps-none; enough = omega arith; so = all-fresh (siblingIds (end - first) table first end) }
+
+  module _ (seen : List ℕ) (at : ℕ) (m : Met table first end seen at) where
+    pub met-end : end ≤ at → true ≡ typeIdsFit table first end
+    met-end h = sym (m .so ∙ go (m .left))
+      where
+        go : (f : ℕ) → allFresh (m .ids) (siblingIds f table at end) ≡ true
+        go zero = unfold siblingIds freshIds in rw (le-leb end at h)
+        go (suc f) = unfold siblingIds freshIds in rw (le-leb end at h)
+
+    module _ (l : at < end) where
+      one-less : m .left ≡ suc (m .left - 1)
+      one-less = let e = m .enough in omega arith
+
+      turned : siblingIds (m .left) table at end
+          ≡ (if leb (rowWords * (at + 1)) (length table) && leb 1 (sizeAt table at) then Option·map (λ ids. getD table (rowWords * at + 3) 0 ∷ ids) (siblingIds (m .left - 1) table (at + sizeAt table at) end) else none)
+      unfolding siblingIds
+      turned = ap (λ (f : ℕ). siblingIds f table at end) one-less ∙ rw (lt-leb end at l)
+
+      pub met-outside : length table / 11 ≤ at → false ≡ typeIdsFit table first end
+      met-outside h = sym (m .so ∙ rw (turned, lt-leb (rowWords * (at + 1)) (length table) (omega arith)))
+
+      module _ (i : at < length table / 11) where
+        pub met-row : rowWords * (at + 1) ≤ length table
+        met-row = omega arith
+
+        module _ (s : ℕ) (q : s ≡ sizeAt table at) where
+          pub met-empty : s ≡ 0 → false ≡ typeIdsFit table first end
+          met-empty z = sym (m .so ∙ rw (turned, le-leb (rowWords * (at + 1)) (length table) met-row, ← q, z))
+
+          module _ (z : s ≡ 0 → ⊥) (id : ℕ) (e : id ≡ getD table (rowWords * at + 3) 0) where
+            next : typeIdsFit table first end ≡ (ltb id 128 && not (has id (m .ids)) && allFresh (id ∷ m .ids) (siblingIds (m .left - 1) table (at + s) end))
+            next =
+                m .so
+                ∙ rw (turned, le-leb (rowWords * (at + 1)) (length table) met-row, ← q, le-leb 1 s (omega arith), ← e)
+                (fresh-more (m .ids) id (siblingIds (m .left - 1) table (at + s) end))
+
+            pub met-big : 128 ≤ id → false ≡ typeIdsFit table first end
+            met-big h = sym (next ∙ rw (le-ltb id 128 h))
+
+            module _ (h : id < 128) where
+              pub met-twice : isKept seen id ≡ true → false ≡ typeIdsFit table first end
+              met-twice k = sym (next ∙ rw (lt-ltb id 128 h, ← m .keeps .same id h, k))
+
+              pub met-again : (seen′ : List ℕ) → isKept seen id ≡ false → seen′ ≡ keepId seen id → Met table first end seen′ (at + s)
+              met-again seen′ k c = record {
+                ids = id ∷ m .ids;
+                left = m .left - 1;
+                keeps = rw c (keeps-more seen (m .ids) (m .keeps) id h k);
+                enough = let w = m .enough in omega arith;
+                so = next ∙ rw (lt-ltb id 128 h, ← m .keeps .same id h, k);
+              }
+
+-- ---- where the rows nest, they are the ids of the trees
+
+abbrev rootIds : List ℕ → ℕ → ℕ → List ℕ
+rootIds table at end = map (λ r. r .id) (roots (forestAt table at (end - at)))
+
+sibling-step : (f : ℕ) (table : List ℕ) (at end : ℕ) → rowWords * (at + 1) ≤ length table → at < end → Turn table at end
+    → siblingIds f table (at + sizeAt table at) end ≡ some (rootIds table (at + sizeAt table at) end) → siblingIds (suc f) table at end ≡ some (rootIds table at end)
+unfolding siblingIds rowAt
+sibling-step f table at end m l t i =
+    rw (lt-leb end at l, le-leb (rowWords * (at + 1)) (length table) m, le-leb 1 (sizeAt table at) (t .some-rows), i, t .is)
+
+sibling-roots : (f : ℕ) (table : List ℕ) (at end : ℕ) → Nests table at (end - at) → at ≤ end → end - at ≤ f → siblingIds f table at end ≡ some (rootIds table at end)
+unfolding siblingIds
+sibling-roots zero table at end n l h =
+    let e : end - at ≡ 0 = omega arith in
+    rw (le-leb end at (omega arith), e, forest-none table at)
+sibling-roots (suc f) table at end n l h = elim (decLt at end) [ yes k ↦ more k (turn table at end n k) (λ a u v w. sibling-roots f table a end u v w) | no k ↦ over k ]
+  where
+    over : (at < end → ⊥) → siblingIds (suc f) table at end ≡ some (rootIds table at end)
+    over k =
+        let e : end - at ≡ 0 = omega arith in
+        unfold siblingIds in rw (le-leb end at (omega arith), e, forest-none table at)
+
+    more : at < end → Turn table at end → ((a : ℕ) → Nests table a (end - a) → a ≤ end → end - a ≤ f → siblingIds f table a end ≡ some (rootIds table a end))
+        → siblingIds (suc f) table at end ≡ some (rootIds table at end)
+    more k t ih =
+        let m = n .room in
+        let w = t .within in
+        let o = t .some-rows in
+        sibling-step f table at end (omega arith) k t (ih (at + sizeAt table at) (t .rest) (t .within) (omega arith))
+
+pub type-ids-fit : (table : List ℕ) (first end : ℕ) → Nests table first (end - first) → first ≤ end → typeIdsFit table first end ≡ idsFit (map (λ r. r .id) (roots (forestAt table first (end - first))))
+unfolding typeIdsFit
+type-ids-fit table first end n l = rw (sibling-roots (end - first) table first end n l (omega arith))

@@ -1,0 +1,93 @@
+use Prim.Native.Nat.{_-_}
+use Rattle.row_table.proofs.LevelLaws.{LevelsSo, levels-start, levels-end, levels-turn, levels-call, levels-again}
+use borrow.Author.Needs.{needs}
+use native.Mathlib.Omega.{arith}
+use Prim.Native.Nat.{ℕ, _<_}
+use borrow.Fn.Kinds.{In}
+use borrow.Fn.PlainCycle.{Measures, is, falls, and}
+use Rattle.row_table.proofs.levels.levels.Reads as levels
+use Rattle.row_table.proofs.levels.levels.Kinds as levels-kinds
+use Rattle.row_table.proofs.levels.+levels.Lts-levels as levels-lts
+use Rattle.row_table.proofs.levels.greater.Reads as greater-reads
+use Rattle.row_table.proofs.rows.subtree.Reads as subtree-reads
+use Rattle.row_table.proofs.levels.+levels.{statement}
+use Rattle.row_table.proofs.levels.+levels.Tie.{close}
+
+abbrev μ-levels : Measures 1 levels-kinds.ps ℕ
+μ-levels κs a = a .1 .0
+
+abbrev levels-at : ℕ → In 1 levels-kinds.ps
+levels-at t = and 1 levels-kinds.ps (is 1 levels-kinds.ps μ-levels t) levels.Pre
+
+abbrev levels-below : ℕ → In 1 levels-kinds.ps
+levels-below t = and 1 levels-kinds.ps (falls 1 levels-kinds.ps _<_ μ-levels t) levels.Pre
+
+abbrev Inv-loop : levels-lts.InvT-loop
+Inv-loop rows level start end deepest₀ at₀ deepest at = LevelsSo rows level start end deepest at
+
+abbrev μ-loop : levels-lts.MeasureT-loop
+μ-loop rows level start end deepest₀ at₀ deepest at = end - at
+
+-- what is known of the callees, of this function at levels below
+abbrev calls : ℕ → levels-lts.Claims
+calls t = (subtree-reads.Asked, subtree-reads.Learnt, levels-below t, levels.Post, greater-reads.Asked, greater-reads.Learnt)
+
+module _ (t : ℕ) where
+  loop-holds : levels-lts.Need-loop-holds (calls t) (levels-at t) levels.Post Inv-loop μ-loop
+  loop-holds c = levels-start _ _ _ _ (c .before .pre .1 .0) (c .before .pre .1 .1) (c .before .pre .1 .2)
+
+  subtree-requires : levels-lts.Need-subtree-requires (calls t) (levels-at t) levels.Post Inv-loop μ-loop
+  subtree-requires c κs = search needs
+
+  sub-levels : levels-lts.Need-sub-levels (calls t) (levels-at t) levels.Post Inv-loop μ-loop
+  sub-levels c = omega (arith, levels-call _ _ _ _ _ _ (c .before .before .loop .inv) (c .before .loop-test .taken) _ (c .subtree .ensures) .0)
+
+  add-levels : levels-lts.Need-add-levels (calls t) (levels-at t) levels.Post Inv-loop μ-loop
+  add-levels c = search needs
+
+  add-levels-2 : levels-lts.Need-add-levels-2 (calls t) (levels-at t) levels.Post Inv-loop μ-loop
+  add-levels-2 c = omega (arith, levels-turn _ _ _ _ _ _ (c .before .before .loop .inv) (c .before .loop-test .taken) .within, c .subtree .ensures)
+
+  levels-requires : levels-lts.Need-levels-requires (calls t) (levels-at t) levels.Post Inv-loop μ-loop
+  levels-requires c κs = (omega (arith, levels-call _ _ _ _ _ _ (c .before .before .loop .inv) (c .before .loop-test .taken) _ (c .subtree .ensures) .0), levels-call _ _ _ _ _ _ (c .before .before .loop .inv) (c .before .loop-test .taken) _ (c .subtree .ensures) .1)
+
+  add-greater : levels-lts.Need-add-greater (calls t) (levels-at t) levels.Post Inv-loop μ-loop
+  add-greater c = omega (arith, levels-call _ _ _ _ _ _ (c .before .before .before .loop .inv) (c .before .before .loop-test .taken) _ (c .before .subtree .ensures) .1 .2, c .levels .ensures)
+
+  greater-requires : levels-lts.Need-greater-requires (calls t) (levels-at t) levels.Post Inv-loop μ-loop
+  greater-requires c κs = search needs
+
+  add-at : levels-lts.Need-add-at (calls t) (levels-at t) levels.Post Inv-loop μ-loop
+  add-at c = omega (arith, levels-turn _ _ _ _ _ _ (c .before .before .before .before .loop .inv) (c .before .before .before .loop-test .taken) .within, c .before .before .subtree .ensures)
+
+  loop-less : levels-lts.Need-loop-less (calls t) (levels-at t) levels.Post Inv-loop μ-loop
+  loop-less c = omega (arith, levels-turn _ _ _ _ _ _ (c .before .before .before .before .loop .inv) (c .before .before .before .loop-test .taken) .some-rows, levels-turn _ _ _ _ _ _ (c .before .before .before .before .loop .inv) (c .before .before .before .loop-test .taken) .within, c .before .before .subtree .ensures)
+
+  loop-again : levels-lts.Need-loop-again (calls t) (levels-at t) levels.Post Inv-loop μ-loop
+  loop-again c = levels-again _ _ _ _ _ _ (c .before .before .before .before .loop .inv) (c .before .before .before .loop-test .taken) _ (c .before .before .subtree .ensures) _ _ (c .before .levels .ensures) (c .greater .ensures)
+
+  returns : levels-lts.Need-returns (calls t) (levels-at t) levels.Post Inv-loop μ-loop
+  returns c = levels-end _ _ _ _ _ _ (c .before .loop .inv) (c .loop-test .left)
+
+pub +levels-spec : {M : Type 1} → statement M
++levels-spec =
+    close
+    μ-levels
+    λ t. levels-lts.spec
+    (calls t)
+    (levels-at t)
+    levels.Post
+    Inv-loop
+    μ-loop
+    (loop-holds t)
+    (subtree-requires t)
+    (sub-levels t)
+    (add-levels t)
+    (add-levels-2 t)
+    (levels-requires t)
+    (add-greater t)
+    (greater-requires t)
+    (add-at t)
+    (loop-less t)
+    (loop-again t)
+    (returns t)

@@ -1,0 +1,9 @@
+pub mod Run
+pub mod Sound
+pub mod Check
+pub mod Ids
+pub mod UnionFields
+pub mod Equal
+pub mod Layout
+pub mod Scan
+pub mod Computed

@@ -1,0 +1,104 @@
+// What a kind asks of its children: how many there are, and what some shapes ask besides.
+ghost use mathlib.Core.Path.{_≡_};
+ghost use Prim.Native.Nat.{_-_, _≤_};
+ghost use lib.ListN.{length};
+ghost use lib.Dec.{eqb};
+ghost use Rattle.datatype.specs.Tree.{roots};
+ghost use Rattle.row_table.specs.Run.{Nests, forestAt};
+ghost use Rattle.row_table.specs.Check.{entriesOk, isList, childrenFit};
+use crate::ids::ids_fit;
+use crate::rows::subtree;
+use crate::rows::word;
+use datatype::kind::DICTIONARY;
+use datatype::kind::LARGE_LIST_VIEW;
+use datatype::kind::LIST;
+use datatype::kind::MAP;
+use datatype::kind::RUN_END_ENCODED;
+use datatype::kind::STRUCT;
+use datatype::kind::UNION;
+use datatype::rows::KIND;
+use datatype::rows::ROLE;
+
+// Whether rows first to end are one tree.
+fn one_child(rows: &[u32], first: usize, end: usize) -> bool
+    requires { ⌜ Nests (now rows) first (end - first) × (first ≤ end) ⌝ }
+    ensures { λ r. ⌜ r ≡ eqb (length (roots (forestAt (now (rows .entry)) first (end - first)))) 1 ⌝ }
+{
+    if first == end {
+        return false;
+    }
+    first + subtree(rows, first) == end
+}
+
+// Whether rows first to end are two trees.
+fn two_children(rows: &[u32], first: usize, end: usize) -> bool
+    requires { ⌜ Nests (now rows) first (end - first) × (first ≤ end) ⌝ }
+    ensures { λ r. ⌜ r ≡ eqb (length (roots (forestAt (now (rows .entry)) first (end - first)))) 2 ⌝ }
+{
+    if first == end {
+        return false;
+    }
+    one_child(rows, first + subtree(rows, first), end)
+}
+
+// Whether rows first to end begin with Map's entries: a non-null Struct of two whose first is non-null.
+fn entries_fit(rows: &[u32], first: usize, end: usize) -> bool
+    requires { ⌜ Nests (now rows) first (end - first) × (first ≤ end) ⌝ }
+    ensures { λ r. ⌜ r ≡ entriesOk (forestAt (now (rows .entry)) first (end - first)) ⌝ }
+{
+    if first == end {
+        return false;
+    }
+    if word(rows, first, ROLE) != 2 {
+        return false;
+    }
+    if word(rows, first, KIND) != STRUCT {
+        return false;
+    }
+    if !two_children(rows, first + 1, first + subtree(rows, first)) {
+        return false;
+    }
+    word(rows, first + 1, ROLE) == 2
+}
+
+// Whether a kind is one of the lists, of fixed size or not.
+fn is_list(kind: u32) -> bool
+    ensures { λ r. ⌜ r ≡ isList kind ⌝ }
+{
+    if kind < LIST {
+        return false;
+    }
+    kind <= LARGE_LIST_VIEW
+}
+
+// Whether rows first to end can be the children of a row of a kind.
+pub(crate) fn children_fit(rows: &[u32], kind: u32, first: usize, end: usize) -> bool
+    requires { ⌜ Nests (now rows) first (end - first) × (first ≤ end) ⌝ }
+    ensures { λ r. ⌜ r ≡ childrenFit kind (forestAt (now (rows .entry)) first (end - first)) ⌝ }
+{
+    if kind == STRUCT {
+        return true;
+    }
+    if kind == UNION {
+        return ids_fit(rows, first, end);
+    }
+    if kind == DICTIONARY {
+        return two_children(rows, first, end);
+    }
+    if is_list(kind) {
+        return one_child(rows, first, end);
+    }
+    if kind == MAP {
+        if !one_child(rows, first, end) {
+            return false;
+        }
+        return entries_fit(rows, first, end);
+    }
+    if kind == RUN_END_ENCODED {
+        if !two_children(rows, first, end) {
+            return false;
+        }
+        return word(rows, first, ROLE) == 2;
+    }
+    first == end
+}

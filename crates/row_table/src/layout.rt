@@ -1,0 +1,74 @@
+// The layout verdict: a dictionary key is Int8 to Int64, run ends are Int16 to Int64.
+ghost use mathlib.Core.Path.{_≡_};
+ghost use Rattle.tokenizer.specs.Answer.{done};
+ghost use Rattle.datatype.specs.Kind.{shapeOf};
+ghost use Rattle.row_table.specs.Equal.{wholeRows};
+ghost use Rattle.row_table.specs.Layout.{anything, kindAllowed, askedOfFirst, verdictOf, verdictMeans};
+ghost use Rattle.row_table.specs.Scan.{askedOf, scan};
+use crate::Verdict;
+use crate::rows::word;
+use crate::sound::is_sound;
+use datatype::kind::DICTIONARY;
+use datatype::kind::INT8;
+use datatype::kind::INT16;
+use datatype::kind::INT64;
+use datatype::kind::RUN_END_ENCODED;
+use datatype::rows::KIND;
+use datatype::rows::ROW_WORDS;
+
+// Whether a row that is asked something (0 anything, 1 a dictionary key, 2 run ends) may have a kind.
+fn kind_allowed(asked: u32, kind: u32) -> bool
+    ensures { λ r. ⌜ r ≡ kindAllowed (askedOf asked) kind ⌝ }
+{
+    if asked == 0 {
+        return true;
+    }
+    if INT64 < kind {
+        return false;
+    }
+    if asked == 1 {
+        return INT8 <= kind;
+    }
+    INT16 <= kind
+}
+
+// What is asked of the first child of a row of a kind.
+fn asked_of_first(kind: u32) -> u32
+    ensures { λ r. ⌜ askedOf r ≡ askedOfFirst (shapeOf kind) ⌝ }
+{
+    if kind == DICTIONARY {
+        return 1;
+    }
+    if kind == RUN_END_ENCODED {
+        return 2;
+    }
+    0
+}
+
+// The verdict of rows, in their order: a row's first child stands right behind it.
+fn scan_rows(rows: &[u32]) -> Verdict
+    ensures { λ r. ⌜ verdictMeans r ≡ done (scan anything 0 (wholeRows (now (rows .entry)))) ⌝ }
+{
+    let n = rows.len() / ROW_WORDS;
+    let mut asked: u32 = 0;
+    let mut i = 0;
+    while i < n {
+        let kind = word(rows, i, KIND);
+        if !kind_allowed(asked, kind) {
+            return Verdict::Row(i);
+        }
+        asked = asked_of_first(kind);
+        i += 1;
+    }
+    Verdict::Yes
+}
+
+// The layout verdict of a sound tree; 17 where the tree is not sound.
+pub fn verdict(text: &[u8], names: &[u8], rows: &[u32]) -> Verdict
+    ensures { λ r. ⌜ verdictMeans r ≡ verdictOf (now (text .entry)) (now (names .entry)) (now (rows .entry)) ⌝ }
+{
+    if is_sound(text, names, rows) {
+        return scan_rows(rows);
+    }
+    Verdict::Refused(17)
+}

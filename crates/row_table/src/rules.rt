@@ -1,0 +1,107 @@
+// What each kind asks of a row's numbers, and where its children stand.
+ghost use mathlib.Core.Path.{_≡_};
+ghost use Prim.Native.Nat.{_<_};
+ghost use Rattle.datatype.specs.Kind.{kinds, shapeOf};
+ghost use Rattle.row_table.specs.Sound.{rulesOf};
+ghost use Rattle.row_table.specs.Check.{placeOf, belowOf, isDecimal, numbersFit};
+use datatype::Decimal;
+use datatype::kind::DECIMAL32;
+use datatype::kind::DECIMAL256;
+use datatype::kind::DICTIONARY;
+use datatype::kind::DURATION;
+use datatype::kind::FIXED_SIZE_BINARY;
+use datatype::kind::FIXED_SIZE_LIST;
+use datatype::kind::INTERVAL;
+use datatype::kind::MAP;
+use datatype::kind::TIME32;
+use datatype::kind::TIME64;
+use datatype::kind::TIMESTAMP;
+use datatype::kind::UNION;
+
+// Whether a kind is one of the four decimals.
+fn is_decimal(kind: u32) -> bool
+    ensures { λ r. ⌜ r ≡ isDecimal kind ⌝ }
+{
+    if kind < DECIMAL32 {
+        return false;
+    }
+    kind <= DECIMAL256
+}
+
+// How many values word 4 has in rows of a kind.
+fn params(kind: u32) -> u32
+    requires { ⌜ kind < kinds ⌝ }
+    ensures { λ r. ⌜ r ≡ (rulesOf (shapeOf kind)) .params ⌝ }
+{
+    if kind == TIMESTAMP {
+        return 4;
+    }
+    if kind == TIME32 {
+        return 4;
+    }
+    if kind == TIME64 {
+        return 4;
+    }
+    if kind == DURATION {
+        return 4;
+    }
+    if kind == INTERVAL {
+        return 3;
+    }
+    if kind == FIXED_SIZE_BINARY {
+        return 2147483648;
+    }
+    if kind == FIXED_SIZE_LIST {
+        return 2147483648;
+    }
+    if kind == UNION {
+        return 2;
+    }
+    if kind == MAP {
+        return 2;
+    }
+    if is_decimal(kind) {
+        return 256;
+    }
+    1
+}
+
+// Whether words 4 and 5 are those of a kind.
+pub(crate) fn numbers_fit(kind: u32, param: u32, scale: u32) -> bool
+    requires { ⌜ kind < kinds ⌝ }
+    ensures { λ r. ⌜ r ≡ numbersFit kind param scale ⌝ }
+{
+    if is_decimal(kind) {
+        let decimal = Decimal {
+            precision: param,
+            scale,
+        };
+        return decimal.fits(kind);
+    }
+    if 0 < scale {
+        return false;
+    }
+    if kind == TIME32 {
+        return param < 2;
+    }
+    if kind == TIME64 {
+        if param < 2 {
+            return false;
+        }
+        return param < 4;
+    }
+    param < params(kind)
+}
+
+// The place of a kind's children: 0 bare, 1 fields, 2 fields of a union.
+pub(crate) fn below(kind: u32) -> u32
+    ensures { λ r. ⌜ placeOf r ≡ belowOf kind ⌝ }
+{
+    if kind == DICTIONARY {
+        return 0;
+    }
+    if kind == UNION {
+        return 2;
+    }
+    1
+}
