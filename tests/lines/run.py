@@ -8,6 +8,7 @@
 import os
 import pathlib
 import random
+import re
 import subprocess
 import sys
 import threading
@@ -92,6 +93,27 @@ class Whole(unittest.TestCase):
         self.assertEqual(answers(deep), b"ok 64 64 " + deep + b"\n")
         wide = b"Struct(" + b", ".join([b'"a": Int8'] * 1023) + b")"
         self.assertEqual(answers(wide), b"ok 1024 2 " + wide + b"\n")
+
+
+class Page(unittest.TestCase):
+    """README.md's table of refusals: each number with a sample."""
+
+    MADE = {
+        1: b" " * 16385,
+        2: b"\xff",
+        3: b"List(" * 64,
+        4: b"Struct(" + b'"a": Int8,' * 1024 + b")",
+        19: b'Struct("' + b"\t" * 9000 + b'": Int8)',
+    }
+
+    def test_refusals(self):
+        page = (ROOT / "README.md").read_text(encoding="utf8")
+        samples = {int(n): text for n, text in re.findall(r"^\| (\d+) \| .* \| `([^`]*)` \|$", page, re.M)}
+        samples = {n: text.encode() for n, text in samples.items()} | self.MADE
+        self.assertEqual(sorted(samples), [n for n in range(1, 20) if n != 17])
+        for number, text in samples.items():
+            with self.subTest(number=number):
+                self.assertEqual(answers(text + b"\n"), b"no %d\n" % number)
 
 
 class Long(unittest.TestCase):
