@@ -4,6 +4,7 @@
 mod check;
 mod generate;
 mod known;
+mod lines;
 mod model;
 mod oracle;
 mod prints;
@@ -33,6 +34,8 @@ compare prints FILE [seed=N]
     writes trees with what they print, for the same
 compare show
     reads one text from standard input and shows what model and Rust say
+compare lines
+    answers the lines of standard input with the Rust, as the port's line program does
 compare speed
     reads texts and prints them with port and Rust, and says how long each takes (with the feature
     subject)
@@ -65,6 +68,7 @@ fn command(arguments: &[String]) -> Result<ExitCode, String> {
             }
         }
         "show" => show(),
+        "lines" => lines::run(),
         #[cfg(feature = "subject")]
         "speed" => Ok(speed::run()),
         other => Err(format!("unknown command {other}")),
