@@ -1,6 +1,6 @@
 -- What the private functions promise; nothing here has to be believed, since no public function's contract cites it.
 use mathlib.Core.Path.{_≡_}
-use mathlib.Core.List.{List, [], _∷_, _++_}
+use mathlib.Core.List.{List, _∷_, _++_}
 use Prim.Native.Nat.{ℕ, _+_, _/_, _≤_}
 use lib.ListN.{length, take, drop}
 use lib.Seq.{sets}

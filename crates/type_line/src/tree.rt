@@ -1,5 +1,4 @@
 // The answer to a text that was read: its tree's rows, depth and printed text, or the refusal of the printer.
-ghost use mathlib.Core.Path.{_≡_};
 ghost use Prim.Native.Nat.{_≤_, _/_};
 ghost use lib.ListN.{length};
 ghost use Rattle.datatype.specs.Tree.{nameList};

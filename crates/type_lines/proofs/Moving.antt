@@ -1,10 +1,10 @@
 -- Moving a part of a buffer to its front.
 use mathlib.Core.Path.{_≡_, refl, sym, ap, _∙_}
-use mathlib.Core.List.{List, [], _∷_, _++_, append-assoc}
+use mathlib.Core.List.{List, _++_}
 use Prim.Native.Nat.{ℕ, suc, _+_, _-_, _≤_, _<_}
 use native.Mathlib.Omega.{arith}
 use lib.ListN.{length, take, drop, getD, set, length-append, length-drop}
-use lib.Seq.{take-all, take-suc, drop-cons, take-at, set-at, append-snoc, length-take-le, getD-drop, getD-take, getD-append-add, drop-append-add}
+use lib.Seq.{take-all, take-suc, drop-cons, take-at, set-at, append-snoc, length-take-le, getD-drop, getD-take, getD-append-add}
 use Rattle.type_lines.specs.Run.{Moved}
 
 -- The first i bytes of the part stand at the front, and behind them nothing has changed.

@@ -4,6 +4,7 @@
 mod check;
 mod generate;
 mod known;
+mod lines;
 mod model;
 mod oracle;
 mod prints;
@@ -37,6 +38,8 @@ compare service [seed=N] [texts=N]
     compares the crate that services use with the Rust (with the feature subject)
 compare show
     reads one text from standard input and shows what model and Rust say
+compare lines
+    answers the lines of standard input with the Rust, as the port's line program does
 compare speed
     reads texts and prints them with port and Rust, and says how long each takes (with the feature
     subject)
@@ -69,6 +72,7 @@ fn command(arguments: &[String]) -> Result<ExitCode, String> {
             }
         }
         "show" => show(),
+        "lines" => lines::run(),
         #[cfg(feature = "subject")]
         "service" => Ok(service::run(&settings(rest, &["seed", "texts"])?)),
         #[cfg(feature = "subject")]

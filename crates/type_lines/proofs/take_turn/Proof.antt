@@ -1,5 +1,4 @@
 use Rattle.type_lines.proofs.Turns.{counted, ended, inside-filled, within-filled, turn-more, turn-left}
-use native.Mathlib.Omega.{arith}
 use borrow.Author.Needs.{needs}
 use Rattle.type_lines.proofs.take_turn.Statement.{statement}
 use Rattle.type_lines.proofs.take_turn.Tie as tie

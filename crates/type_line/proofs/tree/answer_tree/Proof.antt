@@ -1,5 +1,4 @@
 use Rattle.type_line.proofs.Trees.{table-refused, table-levels, table-printed}
-use native.Mathlib.Omega.{arith}
 use borrow.Author.Needs.{needs}
 use Rattle.type_line.proofs.tree.answer_tree.Statement.{statement}
 use Rattle.type_line.proofs.tree.answer_tree.Tie as tie

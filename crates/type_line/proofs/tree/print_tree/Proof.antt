@@ -1,6 +1,5 @@
 use mathlib.Core.Path.{refl}
 use Rattle.type_line.proofs.Trees.{tree-room, tree-refused, tree-printed}
-use native.Mathlib.Omega.{arith}
 use borrow.Author.Needs.{needs}
 use Rattle.type_line.proofs.tree.print_tree.Statement.{statement}
 use Rattle.type_line.proofs.tree.print_tree.Tie as tie

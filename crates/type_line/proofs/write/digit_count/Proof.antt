@@ -1,5 +1,4 @@
 use Rattle.type_line.proofs.Writing.{one-digit, two-digits, three-digits, four-digits}
-use borrow.Author.Needs.{needs}
 use native.Mathlib.Omega.{arith}
 use Rattle.type_line.proofs.write.digit_count.Statement.{statement}
 use Rattle.type_line.proofs.write.digit_count.Tie as tie

@@ -1,5 +1,4 @@
 use Rattle.type_line.proofs.Writing.{frame}
-use native.Mathlib.Omega.{arith}
 use borrow.Author.Needs.{needs}
 use Rattle.type_line.proofs.write.put_frame.Statement.{statement}
 use Rattle.type_line.proofs.write.put_frame.Tie as tie

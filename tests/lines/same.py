@@ -1,0 +1,36 @@
+#!/usr/bin/env python3
+"""Compares the answers of the line program with those of `compare lines`, which tells no refusal's number.
+
+    python3 tests/lines/same.py PORT RUST
+
+Prints how many lines both accepted with the same bytes, how many both refused, and how many differ, with the first
+that does. The exit status is 1 if any does.
+"""
+
+import collections
+import itertools
+import sys
+
+
+def verdict(port, rust):
+    if port is None or rust is None:
+        return "different"
+    if port.startswith(b"no ") and rust == b"no ?\n":
+        return "refused by both"
+    return "accepted by both, same bytes" if port == rust and port.startswith(b"ok ") else "different"
+
+
+def main():
+    counts = collections.Counter({"accepted by both, same bytes": 0, "refused by both": 0, "different": 0})
+    with open(sys.argv[1], "rb") as ports, open(sys.argv[2], "rb") as rusts:
+        for number, (port, rust) in enumerate(itertools.zip_longest(ports, rusts), 1):
+            found = verdict(port, rust)
+            if found == "different" and not counts[found]:
+                print(f"line {number}: {port!r} and {rust!r}")
+            counts[found] += 1
+    for found, count in counts.items():
+        print(f"{count:>9} {found}")
+    return 1 if counts["different"] else 0
+
+
+sys.exit(main())
