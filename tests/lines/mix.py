@@ -49,12 +49,16 @@ def refused_text(draw):
     )
 
 
-def main():
-    lines = int(sys.argv[1]) if len(sys.argv) > 1 else 1_000_000
-    draw = random.Random(int(sys.argv[2]) if len(sys.argv) > 2 else 1)
+def mixed(lines, seed=1):
+    """Each line with the function that made it."""
+    draw = random.Random(seed)
     kinds = [columns_text] * 4 + [zone_text] * 3 + [refused_text] * 3
     for _ in range(lines):
-        print(draw.choice(kinds)(draw))
+        kind = draw.choice(kinds)
+        yield kind, kind(draw)
 
 
-main()
+if __name__ == "__main__":
+    lines = int(sys.argv[1]) if len(sys.argv) > 1 else 1_000_000
+    for _, text in mixed(lines, int(sys.argv[2]) if len(sys.argv) > 2 else 1):
+        print(text)

@@ -20,9 +20,10 @@ def verdict(port, rust):
     return "accepted by both, same bytes" if port == rust and port.startswith(b"ok ") else "different"
 
 
-def main():
+def compare(port_path, rust_path):
+    """Prints the counts, and answers how many lines differ."""
     counts = collections.Counter({"accepted by both, same bytes": 0, "refused by both": 0, "different": 0})
-    with open(sys.argv[1], "rb") as ports, open(sys.argv[2], "rb") as rusts:
+    with open(port_path, "rb") as ports, open(rust_path, "rb") as rusts:
         for number, (port, rust) in enumerate(itertools.zip_longest(ports, rusts), 1):
             found = verdict(port, rust)
             if found == "different" and not counts[found]:
@@ -30,7 +31,8 @@ def main():
             counts[found] += 1
     for found, count in counts.items():
         print(f"{count:>9} {found}")
-    return 1 if counts["different"] else 0
+    return counts["different"]
 
 
-sys.exit(main())
+if __name__ == "__main__":
+    sys.exit(1 if compare(sys.argv[1], sys.argv[2]) else 0)
