@@ -1,4 +1,5 @@
--- How the code finds the end of a word and of a quoted string; nothing here has to be believed.
+-- Where a word and a quoted string end. `quoteEnd` is what the public `string_end` answers; the rest is how the code
+-- finds its way, and need not be believed.
 use mathlib.Core.Bool.{Bool, not, _&&_}
 use mathlib.Core.List.{List}
 use mathlib.Core.Option.{Option, none, some}
