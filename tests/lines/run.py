@@ -194,13 +194,7 @@ class Failures(unittest.TestCase):
             self.assertEqual(done.stderr, b"type_lines: writing standard output: No space left on device\n")
 
     def test_folder(self):
-        folder = os.open(ROOT, os.O_RDONLY)
-        try:
-            done = subprocess.run([PROGRAM], stdin=folder, capture_output=True, timeout=SECONDS)
-        finally:
-            os.close(folder)
-        self.assertEqual(done.stdout, b"")
-        self.assertEqual(done.stderr, b"type_lines: reading standard input: Is a directory\n")
+        self.assert_read_fails(os.open(ROOT, os.O_RDONLY), b"", b"Is a directory")
 
     def test_input_breaks_off(self):
         # a terminal whose other end is closed: the read behind its last byte fails, and the whole lines are answered
@@ -211,12 +205,16 @@ class Failures(unittest.TestCase):
         tty.setraw(far)
         os.write(far, b"Int8\nInt33\nInt")
         os.close(far)
+        self.assert_read_fails(near, b"ok 1 1 Int8\nno 8\n", b"Input/output error")
+
+    def assert_read_fails(self, source, answered, why):
+        """The whole lines that could be read are answered, and the message says why no more could; closes the source."""
         try:
-            done = subprocess.run([PROGRAM], stdin=near, capture_output=True, timeout=SECONDS)
+            done = subprocess.run([PROGRAM], stdin=source, capture_output=True, timeout=SECONDS)
         finally:
-            os.close(near)
-        self.assertEqual(done.stdout, b"ok 1 1 Int8\nno 8\n")
-        self.assertEqual(done.stderr, b"type_lines: reading standard input: Input/output error\n")
+            os.close(source)
+        self.assertEqual(done.stdout, answered)
+        self.assertEqual(done.stderr, b"type_lines: reading standard input: " + why + b"\n")
 
 
 if __name__ == "__main__":

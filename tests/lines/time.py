@@ -40,10 +40,10 @@ def main():
     for name, sort in SORTS:
         texts = [text for kind, text in mixed if sort in (None, kind)]
         lines = FILES / "lines"
-        lines.write_text("".join(text + "\n" for text in texts), encoding="utf8")
+        size = lines.write_text("".join(text + "\n" for text in texts), encoding="ascii")
         rounds = [(seconds(RUST, lines, rust), seconds(PORT, lines, port)) for _ in range(ROUNDS)]
         slow, fast = (min(times) for times in zip(*rounds))
-        print(f"| {name}, {len(texts):,} | {slow:.2f} | {fast:.2f} | {slow / fast:.1f} |", flush=True)
+        print(f"| {name}, {len(texts):,} lines, {size:,} bytes | {slow:.2f} | {fast:.2f} | {slow / fast:.1f} |", flush=True)
         if sort is None:
             different += same.compare(port, rust)
     return 1 if different else 0
