@@ -5,6 +5,7 @@ ghost use Rattle.type_line.specs.Line.{lineEnd, lineAnswered, lineRows, 
 mod tree;
 mod write;
 
+use datatype::rows::ROW_WORDS;
 use datatype_parse::Parsed;
 
 // The words that 1,024 rows take.
@@ -52,7 +53,7 @@ pub fn answer_line(line: &[u8], rows: &mut [u32], out: &mut [u8]) -> Answered
     match datatype_parse::parse_data_type(line, rows) {
         Parsed::Refused(n) => Answered::Bytes(write::put_no(out, n)),
         Parsed::Rows(n) => {
-            let words = 11 * n;
+            let words = ROW_WORDS * n;
             Answered::Bytes(tree::answer_tree(line, &rows[..words], out))
         }
     }
