@@ -6,8 +6,8 @@ use native.Mathlib.Omega.{arith}
 use Rattle.tokenizer.specs.Answer.{Out, refused, done, _>>=_}
 use Rattle.tokenizer.specs.Token.{lparen, rparen, comma, colon, doubleQuoted}
 use Rattle.datatype.specs.Tree.{node}
-use Rattle.datatype_parse.specs.Parse.{Tree, Fields, Item, end, last, more, rowsIn, idOf, fieldsFrom, itemsBy, need, stands, afterRole, numberIn, fieldAt, structItem, unionField, unionItem, typeWith, typeAt}
-use Rattle.datatype_parse.proofs.Holds.{Holds, Refuses, holds-bind, holds-if, refuses-bind, bind-ext}
+use Rattle.parser.specs.Parse.{Tree, Fields, Item, end, last, more, rowsIn, idOf, fieldsFrom, itemsBy, need, stands, afterRole, numberIn, fieldAt, structItem, unionField, unionItem, typeWith, typeAt}
+use Rattle.parser.proofs.Holds.{Holds, Refuses, holds-bind, holds-if, refuses-bind, bind-ext}
 
 -- a turn that reads no field
 abbrev NoField : Item → Type 0

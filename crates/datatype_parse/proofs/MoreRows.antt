@@ -15,7 +15,7 @@ use Rattle.datatype.specs.Kind.{Shape, leaf, timestamp, time, interval, fixed, 
 use Rattle.datatype.specs.Tree.{Forest, Row, count}
 use Rattle.datatype.specs.Table.{rowWords, tableOf, rowsLent}
 use Rattle.datatype.proofs.Table.{length-table}
-use Rattle.datatype_parse.specs.Parse.{Name, Tree, Fields, Item, end, last, more, rowsIn, idOf, need, signedByteAt, lengthAt, afterRole, item, run-ends, values, fieldsFrom, itemsBy, stands, roleAt, fieldAt, defaultField, listField, structItem, unionField, unionItem, namedRunEnds, defaultRunEnds, runEndFields, entriesAt, fixedListField, listAt, fixedSizeListAt, structAt, unionAt, dictionaryAt, mapAt, runEndEncodedAt, shapeAt, typeWith, typeAt, textOver, wholeText, parse, rowCount, parseAnswer, filled, parseRows}
+use Rattle.parser.specs.Parse.{Name, Tree, Fields, Item, end, last, more, rowsIn, idOf, need, signedByteAt, lengthAt, afterRole, item, run-ends, values, fieldsFrom, itemsBy, stands, roleAt, fieldAt, defaultField, listField, structItem, unionField, unionItem, namedRunEnds, defaultRunEnds, runEndFields, entriesAt, fixedListField, listAt, fixedSizeListAt, structAt, unionAt, dictionaryAt, mapAt, runEndEncodedAt, shapeAt, typeWith, typeAt, textOver, wholeText, parse, rowCount, parseAnswer, filled, parseRows}
 
 -- The second answer is the first one's, where that is no refusal.
 pub Keeps : {A : Type 0} → Out A → Out A → Type 0

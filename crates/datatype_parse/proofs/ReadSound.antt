@@ -18,8 +18,8 @@ use Rattle.row_table.specs.Sound.{bare, field, unionField, arityFits, rulesOf, 
 use Rattle.row_table.specs.Check.{zoneOk}
 use Rattle.datatype.proofs.Table.{view-table}
 use Rattle.row_table.proofs.SoundTree.{SoundTree, tree-sound}
-use Rattle.datatype_parse.specs.Parse.{bareRow, Tree, rowsIn, single, pair, itemsBy, need, lengthAt, listField, structItem, unionItem, runEndFields, entriesAt, fixedListField, listAt, fixedSizeListAt, structAt, unionAt, dictionaryAt, mapAt, runEndEncodedAt, shapeAt, typeWith, typeAt, textOver, wholeText, parse, rowCount, parseAnswer, filled, parseRows}
-use Rattle.datatype_parse.proofs.Holds.{Holds, holds-bind, holds-then, holds-if}
+use Rattle.parser.specs.Parse.{bareRow, Tree, rowsIn, single, pair, itemsBy, need, lengthAt, listField, structItem, unionItem, runEndFields, entriesAt, fixedListField, listAt, fixedSizeListAt, structAt, unionAt, dictionaryAt, mapAt, runEndEncodedAt, shapeAt, typeWith, typeAt, textOver, wholeText, parse, rowCount, parseAnswer, filled, parseRows}
+use Rattle.parser.proofs.Holds.{Holds, holds-bind, holds-then, holds-if}
 use Rattle.datatype_parse.proofs.TokenFacts.{holds-when, need-value, Limited, number-limited, limit-most}
 use Rattle.datatype_parse.proofs.SoundRows.{idsAllow, Asked, ids, Fits, Typed, fits-more, fits-type}
 use Rattle.datatype_parse.proofs.SoundLeaves.{Whole, closed, leaf-sound, timestamp-sound, time-sound, interval-sound, fixed-sound, decimal-sound}

@@ -11,9 +11,9 @@ use Rattle.tokenizer.specs.Token.{lparen, rparen, comma, colon, doubleQuoted, x
 use Rattle.datatype.specs.Tree.{roots}
 use Rattle.row_table.specs.Sound.{Place, bare, field, unionField, twoChildren, arityFits, idFits}
 use Rattle.row_table.specs.Check.{entriesOk, firstNonNull}
-use Rattle.datatype_parse.specs.Parse.{Name, item, run-ends, values, textName, Tree, Fields, rowsIn, single, pair, Item, end, last, more, fieldsFrom, itemsBy, idOf, need, stands, roleAt, afterRole, signedByteAt, closeAt, listNameAt, fieldAt, defaultField, listField, structItem, unionItem, namedRunEnds, defaultRunEnds, runEndFields, entriesAt, fixedListField}
-use Rattle.datatype_parse.specs.Parse as P
-use Rattle.datatype_parse.proofs.Holds.{Holds, holds-bind, holds-then, holds-if}
+use Rattle.parser.specs.Parse.{Name, item, run-ends, values, textName, Tree, Fields, rowsIn, single, pair, Item, end, last, more, fieldsFrom, itemsBy, idOf, need, stands, roleAt, afterRole, signedByteAt, closeAt, listNameAt, fieldAt, defaultField, listField, structItem, unionItem, namedRunEnds, defaultRunEnds, runEndFields, entriesAt, fixedListField}
+use Rattle.parser.specs.Parse as P
+use Rattle.parser.proofs.Holds.{Holds, holds-bind, holds-then, holds-if}
 use Rattle.datatype_parse.proofs.TokenFacts.{holds-when, role-some, Part, need-part, list-name-part}
 use Rattle.datatype_parse.proofs.SoundRows.{isField, idsAllow, field-id, union-id, Found, found-text, Fits, Typed, fits-none, fits-more, fits-field}
 

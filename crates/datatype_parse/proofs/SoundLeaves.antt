@@ -12,8 +12,8 @@ use Rattle.datatype.specs.Kind.{Shape, leaf, timestamp, time, interval, fixed, 
 use Rattle.datatype.specs.Tree.{Forest, ∅, node, Row}
 use Rattle.row_table.specs.Sound.{bare, arityFits, rulesOf}
 use Rattle.row_table.specs.Check.{zoneOk}
-use Rattle.datatype_parse.specs.Parse.{bareRow, Tree, scaleOf, need, lengthAt, precisionAt, signedByteAt, unitAt, closeAt, zoneAt, timestampAt, timeAt, intervalAt, fixedSizeBinaryAt, scaleAt, decimalAt}
-use Rattle.datatype_parse.proofs.Holds.{Holds, holds-bind, holds-then}
+use Rattle.parser.specs.Parse.{bareRow, Tree, scaleOf, need, lengthAt, precisionAt, signedByteAt, unitAt, closeAt, zoneAt, timestampAt, timeAt, intervalAt, fixedSizeBinaryAt, scaleAt, decimalAt}
+use Rattle.parser.proofs.Holds.{Holds, holds-bind, holds-then}
 use Rattle.datatype_parse.proofs.TokenFacts.{holds-when, need-value, Limited, number-limited, unit-value, limit-most, scale-most, Zoned, zone-zoned}
 use Rattle.datatype_parse.proofs.SoundRows.{run-empty, Asked, Fits, Typed, fits-type}
 

@@ -26,8 +26,8 @@ use Rattle.tokenizer.proofs.Utf8Laws.{state-append, step-ascii}
 use Rattle.datatype.specs.Kind.{unitFits}
 use Rattle.row_table.specs.Check.{boundary, partFits, zoneOk}
 use Rattle.row_table.proofs.Boundary.{boundary-low, part-utf8}
-use Rattle.datatype_parse.specs.Parse.{Zone, refusalOf, scaleOf, need, stands, roleAt, numberIn, unitAt, listNameAt, someZone, zoneString, zoneAt}
-use Rattle.datatype_parse.proofs.Holds.{Holds, holds-bind, holds-then, holds-if}
+use Rattle.parser.specs.Parse.{Zone, refusalOf, scaleOf, need, stands, roleAt, numberIn, unitAt, listNameAt, someZone, zoneString, zoneAt}
+use Rattle.parser.proofs.Holds.{Holds, holds-bind, holds-then, holds-if}
 
 -- a choice whose first side is taken only where a test passes
 pub holds-when : {A : Type 0} (P : A → Type 0) (b : Bool) (x y : Out A) → (T b → Holds P x) → Holds P y → Holds P (if b then x else y)

@@ -25,10 +25,10 @@ use Rattle.tokenizer.proofs.Tokens.{token-end}
 use Rattle.datatype.specs.Tree.{Forest, ∅, node, count, Row}
 use Rattle.datatype.specs.Table.{rowWords, tableOf, rowsLent}
 use Rattle.datatype.proofs.Table.{length-table}
-use Rattle.datatype_parse.specs.Parse.{Tree, single, stands, typeAt, textOver, wholeText, parse, rowCount, parseAnswer, filled, parseRows, parsedMeans}
-use Rattle.datatype_parse.specs.Steps.{Room, Stored}
+use Rattle.parser.specs.Parse.{Tree, single, stands, typeAt, textOver, wholeText, parse, rowCount, parseAnswer, filled, parseRows, parsedMeans}
+use Rattle.parser.specs.Steps.{Room, Stored}
 use Rattle.datatype_parse.specs.declared.Parsed.the-variants.{Rows, Refused}
-use Rattle.datatype_parse.proofs.Answers.{GotTree}
+use Rattle.parser.proofs.Answers.{GotTree}
 
 -- ---- the end of the text
 

@@ -1,5 +1,5 @@
 use Rattle.datatype_parse.proofs.Whole.{lent-room, read-refused, too-long, not-utf8, type-refused, trailing, read-done}
-use Rattle.datatype_parse.proofs.Answers.{got-tree, lost-tree}
+use Rattle.parser.proofs.Answers.{got-tree, lost-tree}
 use borrow.Author.Tests.{not-true, not-false}
 use Prim.Native.Nat.{ℕ}
 use lib.ListN.{replicate}

@@ -1,0 +1,14 @@
+pub mod Holds
+pub mod Stores
+pub mod Answers
+pub mod Looks
+pub mod WordLaws
+pub mod TokenLaws
+pub mod Zones
+pub mod Values
+pub mod Readers
+pub mod Parents
+pub mod FieldLaws
+pub mod Loops
+pub mod Types
+pub mod Entries

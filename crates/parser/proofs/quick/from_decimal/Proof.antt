@@ -1,0 +1,76 @@
+-- `from_decimal` meets its contract: each answer is its callee's. That a word is the one of its kind is computed.
+use Rattle.tokenizer.specs.Words.{words}
+use Rattle.tokenizer.specs.Token.{isSeparator, wordOf, isDigit, wordKind}
+use native.Mathlib.Omega.{arith}
+use borrow.Author.Needs.{needs}
+use Rattle.parser.proofs.quick.from_decimal.Statement.{statement}
+use Rattle.parser.proofs.quick.from_decimal.Tie as tie
+use Rattle.parser.proofs.quick.from_decimal.Reads as reads
+use Rattle.parser.proofs.quick.from_decimal.Lts as lts
+use Rattle.parser.proofs.quick.byte_at.Reads as byte-at-reads
+use Rattle.parser.proofs.quick.if_type.Reads as if-type-reads
+
+add-byte-at : tie.Need-add-byte-at
+add-byte-at c = search needs
+
+byte-at-requires : tie.Need-byte-at-requires
+byte-at-requires c κs = search needs
+
+slice-aggregate-if-type : tie.Need-slice-aggregate-if-type
+slice-aggregate-if-type c = search needs
+
+if-type-requires : tie.Need-if-type-requires
+unfolding wordOf isSeparator wordKind isDigit words
+if-type-requires c κs = search needs
+
+slice-aggregate-if-type-2 : tie.Need-slice-aggregate-if-type-2
+slice-aggregate-if-type-2 c = search needs
+
+if-type-requires-2 : tie.Need-if-type-requires-2
+unfolding wordOf isSeparator wordKind isDigit words
+if-type-requires-2 c κs = search needs
+
+slice-aggregate-if-type-3 : tie.Need-slice-aggregate-if-type-3
+slice-aggregate-if-type-3 c = search needs
+
+if-type-requires-3 : tie.Need-if-type-requires-3
+unfolding wordOf isSeparator wordKind isDigit words
+if-type-requires-3 c κs = search needs
+
+slice-aggregate-if-type-4 : tie.Need-slice-aggregate-if-type-4
+slice-aggregate-if-type-4 c = search needs
+
+if-type-requires-4 : tie.Need-if-type-requires-4
+unfolding wordOf isSeparator wordKind isDigit words
+if-type-requires-4 c κs = search needs
+
+returns : tie.Need-returns
+returns c = search needs
+
+returns-2 : tie.Need-returns-2
+returns-2 c = search needs
+
+returns-3 : tie.Need-returns-3
+returns-3 c = search needs
+
+returns-4 : tie.Need-returns-4
+returns-4 c = search needs
+
+pub from-decimal-spec : {M : Type 1} → statement M
+from-decimal-spec =
+    tie.close
+    (tie.spec
+    add-byte-at
+    byte-at-requires
+    slice-aggregate-if-type
+    if-type-requires
+    slice-aggregate-if-type-2
+    if-type-requires-2
+    slice-aggregate-if-type-3
+    if-type-requires-3
+    slice-aggregate-if-type-4
+    if-type-requires-4
+    returns
+    returns-2
+    returns-3
+    returns-4)

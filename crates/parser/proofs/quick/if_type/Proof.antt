@@ -1,0 +1,18 @@
+-- `if_type` meets its contract.
+use Rattle.parser.proofs.WordLaws.{found-as}
+use native.Mathlib.Omega.{arith}
+use borrow.Author.Needs.{needs}
+use Rattle.parser.proofs.quick.if_type.Statement.{statement}
+use Rattle.parser.proofs.quick.if_type.Tie as tie
+use Rattle.parser.proofs.quick.if_type.Reads as reads
+use Rattle.parser.proofs.quick.if_type.Lts as lts
+use Rattle.parser.proofs.quick.behind_word.Reads as behind-word-reads
+
+behind-word-requires : tie.Need-behind-word-requires
+behind-word-requires c κs = search needs
+
+returns : tie.Need-returns
+returns c = found-as _ _ _ _ _ (c .before .before .before .pre .1 .1) (c .behind-word .ensures (c .before .before .before .pre .1 .0))
+
+pub if-type-spec : {M : Type 1} → statement M
+if-type-spec = tie.close (tie.spec behind-word-requires returns)

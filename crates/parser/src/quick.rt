@@ -1,0 +1,256 @@
+// Listed words where one is looked for: the text is compared with the one word that a byte or two of it point to. Who
+// finds nothing here asks `next_token`.
+ghost use mathlib.Core.Path.{_≡_};
+ghost use mathlib.Core.Bool.{true};
+ghost use mathlib.Core.List.{[]};
+ghost use Prim.Native.Nat.{ℕ, _+_, _<_, _≤_};
+ghost use lib.ListN.{length, drop, getD};
+ghost use Rattle.tokenizer.specs.Token.{wordOf, wordKind};
+ghost use Rattle.parser.specs.Sought.{isPlain, Found};
+ghost use Rattle.tokenizer.specs.declared.TokenKind.the-variants.{DataType, TimeUnit};
+use tokenizer::is_separator;
+
+// The value of a word that was found, and the place behind it; the place is 0 where none was.
+pub struct Word {
+    pub value: u32,
+    pub next: usize,
+}
+
+// Whether some bytes stand at a place.
+fn has_bytes(text: &[u8], at: usize, part: &[u8]) -> bool
+    requires { ⌜ at ≤ length (now text) ⌝ }
+    ensures fits { λ r. ⌜ (r ≡ true → at + length (now (part .entry)) ≤ length (now (text .entry))) ⌝ }
+    ensures equal { λ r. ⌜ (r ≡ true → (k : ℕ) → k < length (now (part .entry)) → getD (now (text .entry)) (at + k) 0 ≡ getD (now (part .entry)) k 0) ⌝ }
+{
+    if text.len() - at < part.len() {
+        return false;
+    }
+    let mut i = 0;
+    while i < part.len() {
+        if text[at + i] != part[i] {
+            return false;
+        }
+        i += 1;
+    }
+    true
+}
+
+// Whether no byte of a word stands at a place.
+fn ends_word(text: &[u8], at: usize) -> bool
+    ensures { λ r. ⌜ (r ≡ true → wordOf (drop at (now (text .entry))) ≡ []) ⌝ }
+{
+    if at >= text.len() {
+        return true;
+    }
+    is_separator(text[at])
+}
+
+// The place behind a word that stands at a place, or 0 where it does not.
+pub(crate) fn behind_word(text: &[u8], at: usize, word: &[u8]) -> usize
+    ensures { λ r. ⌜ (isPlain (now (word .entry)) ≡ true → Found (wordKind (now (word .entry))) (now (text .entry)) at r) ⌝ }
+{
+    if at > text.len() {
+        return 0;
+    }
+    if !has_bytes(text, at, word) {
+        return 0;
+    }
+    let end = at + word.len();
+    if ends_word(text, end) {
+        return end;
+    }
+    0
+}
+
+// The byte at a place, or 0 behind the text's end.
+fn byte_at(text: &[u8], at: usize) -> u8 {
+    if at < text.len() {
+        return text[at];
+    }
+    0
+}
+
+// The word of a kind of type, if it stands at a place.
+fn if_type(text: &[u8], at: usize, word: &[u8], kind: u32) -> Word
+    requires { ⌜ at < length (now text) ⌝ }
+    requires { ⌜ (isPlain (now word) ≡ true) × (wordKind (now word) ≡ DataType kind) ⌝ }
+    ensures { λ r. ⌜ Found (DataType (r .value)) (now (text .entry)) at (r .next) ⌝ }
+{
+    Word {
+        value: kind,
+        next: behind_word(text, at, word),
+    }
+}
+
+fn from_b(text: &[u8], at: usize) -> Word
+    requires { ⌜ at < length (now text) ⌝ }
+    ensures { λ r. ⌜ Found (DataType (r .value)) (now (text .entry)) at (r .next) ⌝ }
+{
+    match byte_at(text, at + 6) {
+        110 => if_type(text, at, b"Boolean", 1),
+        86 => if_type(text, at, b"BinaryView", 23),
+        _ => if_type(text, at, b"Binary", 20),
+    }
+}
+
+fn from_decimal(text: &[u8], at: usize) -> Word
+    requires { ⌜ at < length (now text) ⌝ }
+    ensures { λ r. ⌜ Found (DataType (r .value)) (now (text .entry)) at (r .next) ⌝ }
+{
+    match byte_at(text, at + 7) {
+        51 => if_type(text, at, b"Decimal32", 35),
+        54 => if_type(text, at, b"Decimal64", 36),
+        49 => if_type(text, at, b"Decimal128", 37),
+        _ => if_type(text, at, b"Decimal256", 38),
+    }
+}
+
+fn from_d(text: &[u8], at: usize) -> Word
+    requires { ⌜ at < length (now text) ⌝ }
+    ensures { λ r. ⌜ Found (DataType (r .value)) (now (text .entry)) at (r .next) ⌝ }
+{
+    match byte_at(text, at + 4) {
+        51 => if_type(text, at, b"Date32", 14),
+        54 => if_type(text, at, b"Date64", 15),
+        116 => if_type(text, at, b"Duration", 18),
+        105 => if_type(text, at, b"Dictionary", 34),
+        _ => from_decimal(text, at),
+    }
+}
+
+fn from_fixed(text: &[u8], at: usize) -> Word
+    requires { ⌜ at < length (now text) ⌝ }
+    ensures { λ r. ⌜ Found (DataType (r .value)) (now (text .entry)) at (r .next) ⌝ }
+{
+    match byte_at(text, at + 9) {
+        66 => if_type(text, at, b"FixedSizeBinary", 21),
+        _ => if_type(text, at, b"FixedSizeList", 29),
+    }
+}
+
+fn from_f(text: &[u8], at: usize) -> Word
+    requires { ⌜ at < length (now text) ⌝ }
+    ensures { λ r. ⌜ Found (DataType (r .value)) (now (text .entry)) at (r .next) ⌝ }
+{
+    match byte_at(text, at + 5) {
+        49 => if_type(text, at, b"Float16", 10),
+        51 => if_type(text, at, b"Float32", 11),
+        54 => if_type(text, at, b"Float64", 12),
+        _ => from_fixed(text, at),
+    }
+}
+
+fn from_i(text: &[u8], at: usize) -> Word
+    requires { ⌜ at < length (now text) ⌝ }
+    ensures { λ r. ⌜ Found (DataType (r .value)) (now (text .entry)) at (r .next) ⌝ }
+{
+    match byte_at(text, at + 3) {
+        56 => if_type(text, at, b"Int8", 2),
+        49 => if_type(text, at, b"Int16", 3),
+        51 => if_type(text, at, b"Int32", 4),
+        54 => if_type(text, at, b"Int64", 5),
+        _ => if_type(text, at, b"Interval", 19),
+    }
+}
+
+fn from_large(text: &[u8], at: usize) -> Word
+    requires { ⌜ at < length (now text) ⌝ }
+    ensures { λ r. ⌜ Found (DataType (r .value)) (now (text .entry)) at (r .next) ⌝ }
+{
+    match byte_at(text, at + 9) {
+        86 => if_type(text, at, b"LargeListView", 31),
+        114 => if_type(text, at, b"LargeBinary", 22),
+        _ => match byte_at(text, at + 5) {
+            85 => if_type(text, at, b"LargeUtf8", 25),
+            _ => if_type(text, at, b"LargeList", 30),
+        },
+    }
+}
+
+fn from_l(text: &[u8], at: usize) -> Word
+    requires { ⌜ at < length (now text) ⌝ }
+    ensures { λ r. ⌜ Found (DataType (r .value)) (now (text .entry)) at (r .next) ⌝ }
+{
+    match byte_at(text, at + 4) {
+        86 => if_type(text, at, b"ListView", 28),
+        101 => from_large(text, at),
+        _ => if_type(text, at, b"List", 27),
+    }
+}
+
+fn from_t(text: &[u8], at: usize) -> Word
+    requires { ⌜ at < length (now text) ⌝ }
+    ensures { λ r. ⌜ Found (DataType (r .value)) (now (text .entry)) at (r .next) ⌝ }
+{
+    match byte_at(text, at + 4) {
+        115 => if_type(text, at, b"Timestamp", 13),
+        51 => if_type(text, at, b"Time32", 16),
+        _ => if_type(text, at, b"Time64", 17),
+    }
+}
+
+fn from_u(text: &[u8], at: usize) -> Word
+    requires { ⌜ at < length (now text) ⌝ }
+    ensures { λ r. ⌜ Found (DataType (r .value)) (now (text .entry)) at (r .next) ⌝ }
+{
+    match byte_at(text, at + 4) {
+        56 => if_type(text, at, b"UInt8", 6),
+        49 => if_type(text, at, b"UInt16", 7),
+        51 => if_type(text, at, b"UInt32", 8),
+        54 => if_type(text, at, b"UInt64", 9),
+        86 => if_type(text, at, b"Utf8View", 26),
+        110 => if_type(text, at, b"Union", 33),
+        _ => if_type(text, at, b"Utf8", 24),
+    }
+}
+
+// The word of a type at a place.
+pub(crate) fn type_word(text: &[u8], at: usize) -> Word
+    ensures { λ r. ⌜ Found (DataType (r .value)) (now (text .entry)) at (r .next) ⌝ }
+{
+    if at >= text.len() {
+        return Word { value: 0, next: 0 };
+    }
+    match text[at] {
+        66 => from_b(text, at),
+        68 => from_d(text, at),
+        70 => from_f(text, at),
+        73 => from_i(text, at),
+        76 => from_l(text, at),
+        77 => if_type(text, at, b"Map", 39),
+        78 => if_type(text, at, b"Null", 0),
+        82 => if_type(text, at, b"RunEndEncoded", 40),
+        83 => if_type(text, at, b"Struct", 32),
+        84 => from_t(text, at),
+        85 => from_u(text, at),
+        _ => Word { value: 0, next: 0 },
+    }
+}
+
+// A unit of time, if its word stands at a place.
+fn if_unit(text: &[u8], at: usize, word: &[u8], unit: u32) -> Word
+    requires { ⌜ at < length (now text) ⌝ }
+    requires { ⌜ (isPlain (now word) ≡ true) × (wordKind (now word) ≡ TimeUnit unit) ⌝ }
+    ensures { λ r. ⌜ Found (TimeUnit (r .value)) (now (text .entry)) at (r .next) ⌝ }
+{
+    Word {
+        value: unit,
+        next: behind_word(text, at, word),
+    }
+}
+
+// A unit of time in its short form at a place.
+pub(crate) fn unit_word(text: &[u8], at: usize) -> Word
+    ensures { λ r. ⌜ Found (TimeUnit (r .value)) (now (text .entry)) at (r .next) ⌝ }
+{
+    if at >= text.len() {
+        return Word { value: 0, next: 0 };
+    }
+    match text[at] {
+        115 => if_unit(text, at, b"s", 0),
+        109 => if_unit(text, at, b"ms", 1),
+        117 => if_unit(text, at, b"us", 2),
+        110 => if_unit(text, at, b"ns", 3),
+        _ => Word { value: 0, next: 0 },
+    }
+}
