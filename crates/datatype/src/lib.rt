@@ -9,4 +9,5 @@ pub use field::equal_bytes;
 pub use field::name;
 pub use field::zone;
 pub use kind::Decimal;
+pub use words::clear_words;
 pub use words::equal_words;

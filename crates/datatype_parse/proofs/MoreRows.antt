@@ -15,7 +15,8 @@ use Rattle.datatype.specs.Kind.{Shape, leaf, timestamp, time, interval, fixed, 
 use Rattle.datatype.specs.Tree.{Forest, Row, count}
 use Rattle.datatype.specs.Table.{rowWords, tableOf, rowsLent}
 use Rattle.datatype.proofs.Table.{length-table}
-use Rattle.parser.specs.Parse.{Name, Tree, Fields, Item, end, last, more, rowsIn, idOf, need, signedByteAt, lengthAt, afterRole, item, run-ends, values, fieldsFrom, itemsBy, stands, roleAt, fieldAt, defaultField, listField, structItem, unionField, unionItem, namedRunEnds, defaultRunEnds, runEndFields, entriesAt, fixedListField, listAt, fixedSizeListAt, structAt, unionAt, dictionaryAt, mapAt, runEndEncodedAt, shapeAt, typeWith, typeAt, textOver, wholeText, parse, rowCount, parseAnswer, filled, parseRows}
+use Rattle.parser.specs.Parse.{Name, Tree, Fields, Item, end, last, more, rowsIn, idOf, need, signedByteAt, lengthAt, afterRole, item, run-ends, values, fieldsFrom, itemsBy, stands, roleAt, fieldAt, defaultField, listField, structItem, unionField, unionItem, namedRunEnds, defaultRunEnds, runEndFields, entriesAt, fixedListField, listAt, fixedSizeListAt, structAt, unionAt, dictionaryAt, mapAt, runEndEncodedAt, shapeAt, typeWith, typeAt, firstType}
+use Rattle.datatype_parse.specs.Parse.{parse, rowCount, parseAnswer, filled, parseRows}
 
 -- The second answer is the first one's, where that is no refusal.
 pub Keeps : {A : Type 0} → Out A → Out A → Type 0
@@ -198,13 +199,13 @@ unfolding typeAt
 type-up text zero at r s h = keeps-refused _ _
 type-up text (suc level) at r s h = with-up text (λ a k. typeAt text level a k) (type-up text level) at r s h
 
-pub whole-up : (text : List ℕ) (r s : ℕ) → r ≤ s → Keeps (wholeText text r) (wholeText text s)
-unfolding wholeText
-whole-up text r s h = keeps-bind _ _ _ _ (type-up text 64 0 r s h) (λ t. keeps-same _)
+pub first-up : (text : List ℕ) (r s : ℕ) → r ≤ s → Keeps (firstType text r) (firstType text s)
+unfolding firstType
+first-up text r s h = keeps-if (leb (length text) 16384) _ _ _ _ (keeps-if (isUtf8 text) _ _ _ _ (type-up text 64 0 r s h) (keeps-same _)) (keeps-same _)
 
 pub parse-up : (text : List ℕ) (r s : ℕ) → r ≤ s → Keeps (parse text r) (parse text s)
 unfolding parse
-parse-up text r s h = keeps-if (leb (length text) 16384) _ _ _ _ (keeps-if (isUtf8 text) _ _ _ _ (whole-up text r s h) (keeps-same _)) (keeps-same _)
+parse-up text r s h = keeps-bind _ _ _ _ (first-up text r s h) (λ t. keeps-same _)
 
 -- A text accepted with some rows lent is accepted with more, with the same tree.
 pub more-rows : (text : List ℕ) (r s : ℕ) (tree : Forest Row) → r ≤ s → parse text r ≡ done tree → parse text s ≡ done tree

@@ -18,7 +18,8 @@ use Rattle.row_table.specs.Sound.{bare, field, unionField, arityFits, rulesOf, 
 use Rattle.row_table.specs.Check.{zoneOk}
 use Rattle.datatype.proofs.Table.{view-table}
 use Rattle.row_table.proofs.SoundTree.{SoundTree, tree-sound}
-use Rattle.parser.specs.Parse.{bareRow, Tree, rowsIn, single, pair, itemsBy, need, lengthAt, listField, structItem, unionItem, runEndFields, entriesAt, fixedListField, listAt, fixedSizeListAt, structAt, unionAt, dictionaryAt, mapAt, runEndEncodedAt, shapeAt, typeWith, typeAt, textOver, wholeText, parse, rowCount, parseAnswer, filled, parseRows}
+use Rattle.parser.specs.Parse.{bareRow, Tree, rowsIn, single, pair, itemsBy, need, lengthAt, listField, structItem, unionItem, runEndFields, entriesAt, fixedListField, listAt, fixedSizeListAt, structAt, unionAt, dictionaryAt, mapAt, runEndEncodedAt, shapeAt, typeWith, typeAt, firstType}
+use Rattle.datatype_parse.specs.Parse.{textOver, parse, rowCount, parseAnswer, filled, parseRows}
 use Rattle.parser.proofs.Holds.{Holds, holds-bind, holds-then, holds-if}
 use Rattle.datatype_parse.proofs.TokenFacts.{holds-when, need-value, Limited, number-limited, limit-most}
 use Rattle.datatype_parse.proofs.SoundRows.{idsAllow, Asked, ids, Fits, Typed, fits-more, fits-type}
@@ -144,18 +145,26 @@ pub record Read (text : List ℕ) (rows : ℕ) (f : Forest Row) : Type 0 where
   pub utf8 : T (isUtf8 text)
   pub fits : Fits text bare 64 rows (node root kids ∅)
 
-whole-read : (text : List ℕ) (rows : ℕ) → length text ≤ 16384 → T (isUtf8 text) → Holds (Read text rows) (wholeText text rows)
-unfolding wholeText
-whole-read text rows short good =
-    holds-then (Typed text bare 64 rows) (Read text rows) (typeAt text 64 0 rows) _ (type-sound text good 64 0 rows) λ t w.
-    holds-if (Read text rows) (textOver text (t .next)) _ _
-    (record { root = t .row; kids = t .kids; is = refl; short = short; utf8 = good; fits = w }) tt
+-- the same of the type that the text begins with
+abbrev Begun : List ℕ → ℕ → Tree → Type 0
+Begun text rows t = Read text rows (single t)
+
+begun : (text : List ℕ) (rows : ℕ) → length text ≤ 16384 → T (isUtf8 text) → (o : Out Tree) → Holds (Typed text bare 64 rows) o → Holds (Begun text rows) o
+begun text rows short good (refused x) w = tt
+begun text rows short good (done t) w = record { root = t .row; kids = t .kids; is = refl; short = short; utf8 = good; fits = w }
+
+first-read : (text : List ℕ) (rows : ℕ) → Holds (Begun text rows) (firstType text rows)
+unfolding firstType
+first-read text rows =
+    holds-when (Begun text rows) (leb (length text) 16384) _ (refuse 1)
+    (λ l. holds-when (Begun text rows) (isUtf8 text) (typeAt text 64 0 rows) (refuse 2)
+    (λ u. begun text rows (leb→le (length text) 16384 l) u (typeAt text 64 0 rows) (type-sound text u 64 0 rows)) tt) tt
 
 pub parse-read : (text : List ℕ) (rows : ℕ) → Holds (Read text rows) (parse text rows)
 unfolding parse
 parse-read text rows =
-    holds-when (Read text rows) (leb (length text) 16384) _ (refuse 1)
-    (λ l. holds-when (Read text rows) (isUtf8 text) (wholeText text rows) (refuse 2) (λ u. whole-read text rows (leb→le (length text) 16384 l) u) tt) tt
+    holds-then (Begun text rows) (Read text rows) (firstType text rows) _ (first-read text rows) λ t w.
+    holds-if (Read text rows) (textOver text (t .next)) _ _ w tt
 
 read-tree : (text : List ℕ) (rows : ℕ) (f : Forest Row) → rows ≤ 1024 → Read text rows f → SoundTree text nameList (tableOf f)
 read-tree text rows f few r =

@@ -1,18 +1,14 @@
--- A whole text: the end of it, the buffer, and each return of the public reader as a law.
-use mathlib.Core.Path.{_≡_, refl, sym, ap, _∙_}
+-- A whole text: the end of it, and each return of the public reader as a law.
+use mathlib.Core.Path.{_≡_, sym, ap, _∙_}
 use mathlib.Core.Bool.{Bool, true, false, not, _&&_}
-use mathlib.Core.List.{List, [], _∷_, _++_, append-nil}
+use mathlib.Core.List.{List, _∷_}
 use mathlib.Core.Option.{Option, none, some}
-use Prim.Native.Nat.{ℕ, zero, suc, _+_, _*_, _/_, _≤_, _<_, min}
+use Prim.Native.Nat.{ℕ, zero, suc, _+_, _≤_, _<_}
 use native.Mathlib.Omega.{arith}
-use lib.ListN.{length, getD, drop, take, set, replicate, length-set, drop-of-length-le, length-replicate}
-use lib.Seq.{sets, sets-eq, length-sets}
-use lib.Dec.{T, leb, eqb}
-use borrow.Author.Tests.{le-leb, lt-leb, eq-eqb}
-use borrow.Author.Fill.{fill-none, fill-more}
+use lib.ListN.{length, getD, drop, replicate}
+use lib.Dec.{T, eqb}
 use Rattle.tokenizer.specs.Text.{if_then_else_}
 use Rattle.tokenizer.specs.Answer.{Out, refused, done, refuse, _>>=_}
-use Rattle.tokenizer.specs.Utf8.{isUtf8}
 use Rattle.tokenizer.specs.Places.{afterSpaces}
 use Rattle.tokenizer.specs.Words.{words}
 use Rattle.tokenizer.specs.Token.{tokenAt, sortOf, valueOf, wordOf, wordKind, noToken, untilQuote, stringToken}
@@ -22,13 +18,14 @@ use Rattle.tokenizer.specs.declared.TokenKind.the-variants.{DoubleQuotedString,
 use Rattle.tokenizer.proofs.Basics.{is-false}
 use Rattle.tokenizer.proofs.Marks as Marks
 use Rattle.tokenizer.proofs.Tokens.{token-end}
-use Rattle.datatype.specs.Tree.{Forest, ∅, node, count, Row}
-use Rattle.datatype.specs.Table.{rowWords, tableOf, rowsLent}
-use Rattle.datatype.proofs.Table.{length-table}
-use Rattle.parser.specs.Parse.{Tree, single, stands, typeAt, textOver, wholeText, parse, rowCount, parseAnswer, filled, parseRows, parsedMeans}
-use Rattle.parser.specs.Steps.{Room, Stored}
+use Rattle.datatype.specs.Tree.{Forest, count, Row}
+use Rattle.datatype.specs.Table.{rowsLent}
+use Rattle.parser.specs.Parse.{Tree, single, rowsIn, stands, firstType, readOf, rowsOf}
+use Rattle.parser.specs.declared.Read.{Read}
+use Rattle.parser.specs.declared.Read.the-variants as R
+use Rattle.datatype_parse.specs.Parse.{textOver, parse, rowCount, parseAnswer, filled, parseRows, parsedMeans}
+use Rattle.datatype_parse.specs.declared.Parsed.{Parsed}
 use Rattle.datatype_parse.specs.declared.Parsed.the-variants.{Rows, Refused}
-use Rattle.parser.proofs.Answers.{GotTree}
 
 -- ---- the end of the text
 
@@ -66,94 +63,56 @@ module _ (text : List ℕ) (at p : ℕ) (e : p ≡ afterSpaces text at) where
             word = λ i f. rw (Marks.word-first text q i f) (word-goes-on (getD text q 0) (wordOf (drop (suc q) text)));
           })
 
--- ---- the buffer
-
-pub lent-whole : (words : ℕ) → words / 11 < 1024 → words / 11 ≡ rowsLent words
-unfolding rowsLent
-lent-whole words h = omega arith
-
-pub lent-most : (words : ℕ) → 1024 ≤ words / 11 → 1024 ≡ rowsLent words
-unfolding rowsLent
-lent-most words h = omega arith
-
-pub lent-room : (text rows : List ℕ) (left : ℕ) → left ≡ rowsLent (length rows) → length text ≤ 16384 → Room text rows 0 left
-unfolding rowsLent
-lent-room text rows left e h = record { short = h; small = omega arith; fits = omega arith }
-
--- a buffer whose first words are 0
-pub record Cleared (before now : List ℕ) (i : ℕ) : Type 0 where
-  pub long : length now ≡ length before
-  pub within : i ≤ length before
-  pub zeros : now ≡ replicate i 0 ++ drop i before
-
-module _ (before : List ℕ) where
-  pub cleared-start : Cleared before before 0
-  cleared-start = record { long = refl; within = omega arith; zeros = fill-none before 0 }
-
-  module _ (now : List ℕ) (i : ℕ) (c : Cleared before now i) where
-    pub cleared-more : i < length now → Cleared before (set now i 0) (i + 1)
-    cleared-more h =
-        let l = c .long in
-        record {
-          long = length-set now i 0 ∙ c .long;
-          within = omega arith;
-          zeros = ap (λ (x : List ℕ). set x i 0) (c .zeros) ∙ fill-more i 0 before (omega arith);
-        }
-
-    pub cleared-length : length now ≡ length before
-    cleared-length = c .long
-
-    pub cleared-all : length now ≤ i → now ≡ replicate (length before) 0
-    cleared-all h =
-        let l = c .long in
-        let w = c .within in
-        let e : i ≡ length before = omega arith in
-        c .zeros ∙ ap (λ (x : List ℕ). replicate i 0 ++ x) (drop-of-length-le before {i = i} (omega arith)) ∙ append-nil (replicate i 0) ∙ ap (λ (n : ℕ). replicate n 0) e
-
 -- ---- what the public reader answers and leaves
 
-module _ (text before : List ℕ) where
-  abbrev rows : ℕ
-  rows = rowsLent (length before)
+module _ (text before after : List ℕ) (r : Read) where
+  -- a tree, from the type that the text begins with
+  abbrev ended : Out Tree → Out (Forest Row)
+  ended o = o >>= (λ t. if textOver text (t .next) then done (single t) else refuse 16)
 
-  module _ (x : ℕ) (after : List ℕ) (e : parse text rows ≡ refuse x) (w : after ≡ replicate (length before) 0) where
-    pub read-refused : (parsedMeans (Refused x) ≡ parseAnswer text before) × (after ≡ parseRows text before)
-    unfolding parsedMeans parseAnswer parseRows
-    read-refused = (rw e, rw e w)
+  abbrev Ends : Parsed → Out Tree → Type 0
+  Ends a o = (parsedMeans a ≡ rowCount (ended o)) × (after ≡ filled before (ended o))
 
-  pub too-long : 16384 < length text → parse text rows ≡ refuse 1
-  unfolding parse
-  too-long h = rw (lt-leb (length text) 16384 h)
+  refused-ends : (o : Out Tree) (x : ℕ) → r ≡ readOf o → after ≡ rowsOf before o → r ≡ R.Refused x → Ends (Refused x) o
+  unfolding readOf rowsOf parsedMeans
+  refused-ends (refused y) x e w h = let z : x ≡ y .number = cc in ((λ j. refused (record { number = z j })), w)
+  refused-ends (done t) x e w h = absurd (let z : _≡_ {A = ℕ} 0 1 = cc in omega arith)
 
-  module _ (short : length text ≤ 16384) where
-    pub not-utf8 : isUtf8 text ≡ false → parse text rows ≡ refuse 2
-    unfolding parse
-    not-utf8 u = rw (le-leb (length text) 16384 short, u)
+  module _ (n k : ℕ) (h : r ≡ R.Tree n k) (over : Bool) (l : over ≡ textOver text n) where
+    over-ends : (o : Out Tree) → r ≡ readOf o → after ≡ rowsOf before o → over ≡ true → Ends (Rows k) o
+    unfolding readOf rowsOf parsedMeans
+    over-ends (refused y) e w b = absurd (let z : _≡_ {A = ℕ} 0 1 = cc in omega arith)
+    over-ends (done t) e w b =
+        let z : t .next ≡ n = cc in
+        let c : k ≡ rowsIn t = cc in
+        let d : k ≡ count (single t) = omega arith in
+        let o : textOver text (t .next) ≡ true = ap (textOver text) z ∙ sym l ∙ b in
+        (rw o (ap (λ (i : ℕ). done i) d), rw o w)
 
-    module _ (u : isUtf8 text ≡ true) (left : ℕ) (l : left ≡ rows) where
-      whole : parse text rows ≡ wholeText text left
-      unfolding parse
-      whole = rw (le-leb (length text) 16384 short, u, l)
+    more-ends : (o : Out Tree) → r ≡ readOf o → after ≡ replicate (length before) 0 → over ≡ false → Ends (Refused 16) o
+    unfolding readOf parsedMeans
+    more-ends (refused y) e w b = absurd (let z : _≡_ {A = ℕ} 0 1 = cc in omega arith)
+    more-ends (done t) e w b =
+        let z : t .next ≡ n = cc in
+        let o : textOver text (t .next) ≡ false = ap (textOver text) z ∙ sym l ∙ b in
+        (rw o, rw o w)
 
-      pub type-refused : (x : ℕ) → typeAt text 64 0 left ≡ refuse x → parse text rows ≡ refuse x
-      unfolding wholeText
-      type-refused x e = whole ∙ rw e
+  abbrev first : Out Tree
+  first = firstType text (rowsLent (length before))
 
-      module _ (n k : ℕ) (after : List ℕ) (g : GotTree (typeAt text 64 0 left) n k 0 left before after) (over : Bool) (o : over ≡ textOver text n) where
-        pub trailing : over ≡ false → parse text rows ≡ refuse 16
-        unfolding wholeText
-        trailing z = whole ∙ rw (g .is, ← o, z)
+  abbrev Meant : Parsed → Type 0
+  Meant a = (parsedMeans a ≡ parseAnswer text before) × (after ≡ parseRows text before)
 
-        complete : over ≡ true → parse text rows ≡ done (node (g .row) (g .kids) ∅)
-        unfolding wholeText
-        complete z = whole ∙ rw (g .is, ← o, z)
+  module _ (e : r ≡ readOf first) where
+    pub read-refused : (x : ℕ) → after ≡ rowsOf before first → r ≡ R.Refused x → Meant (Refused x)
+    unfolding parse parseAnswer parseRows
+    read-refused x w h = refused-ends first x e w h
 
-        pub read-done : over ≡ true → (parsedMeans (Rows k) ≡ parseAnswer text before) × (after ≡ parseRows text before)
-        unfolding parsedMeans parseAnswer parseRows rowsLent
-        read-done z =
-            let f : Forest Row = node (g .row) (g .kids) ∅ in
-            let c : k ≡ count f = let r = g .rows in omega arith in
-            let m = g .stored .room in
-            let fits : 0 + length (tableOf f) ≤ length before = omega (arith, length-table f) in
-            let e : 0 + length (tableOf f) ≡ length (tableOf f) = omega arith in
-            (rw (complete z) (ap (λ (i : ℕ). done i) c), rw (complete z) (g .stored .rows ∙ sets-eq (tableOf f) before 0 fits ∙ ap (λ (i : ℕ). tableOf f ++ drop i before) e))
+    module _ (n k : ℕ) (h : r ≡ R.Tree n k) (over : Bool) (l : over ≡ textOver text n) where
+      pub read-done : after ≡ rowsOf before first → over ≡ true → Meant (Rows k)
+      unfolding parse parseAnswer parseRows
+      read-done w b = over-ends n k h over l first e w b
+
+      pub trailing : after ≡ replicate (length before) 0 → over ≡ false → Meant (Refused 16)
+      unfolding parse parseAnswer parseRows
+      trailing w b = more-ends n k h over l first e w b

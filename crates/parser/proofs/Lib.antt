@@ -12,3 +12,4 @@ pub mod FieldLaws
 pub mod Loops
 pub mod Types
 pub mod Entries
+pub mod FirstType

@@ -1,6 +1,6 @@
 -- The reader (document 01, 'Types' and 'Numbers a caller may get'). A definition for each `parse_` function of the Rust.
 -- A place is a number of bytes into the text. What is met first, from left to right, decides.
-use mathlib.Core.Bool.{Bool, true, false, _&&_}
+use mathlib.Core.Bool.{Bool, true, false}
 use mathlib.Core.List.{List, [], _∷_, _++_, map}
 use Prim.Native.Nat.{ℕ, zero, suc, _+_, _-_, _%_, _^_}
 use lib.ListN.{length, drop, replicate}
@@ -13,9 +13,9 @@ use Rattle.tokenizer.specs.declared.Token.{Token}
 use Rattle.tokenizer.specs.declared.TokenKind.{TokenKind}
 use Rattle.datatype.specs.Kind.{Shape, leaf, timestamp, time, interval, fixed, list, fixedList, struct, union, dictionary, decimal, mapping, runEnds, shapeOf, unitFits, decimalFits, entriesRefusal, idsFit}
 use Rattle.datatype.specs.Tree.{Forest, ∅, node, count, roots, Row}
-use Rattle.datatype.specs.Table.{tableOf, rowsLent}
-use Rattle.parser.specs.declared.Parsed.{Parsed}
-use Rattle.parser.specs.declared.Parsed.the-variants.{Rows, Refused}
+use Rattle.datatype.specs.Table.{tableOf}
+use Rattle.parser.specs.declared.Read.{Read}
+use Rattle.parser.specs.declared.Read.the-variants as R
 
 -- ---- rows
 
@@ -425,42 +425,21 @@ module _ (text : List ℕ) where
   typeAt zero at rows = refuse 3
   typeAt (suc level) at rows = typeWith (λ a r. typeAt level a r) at rows
 
-  -- The text ends here, but for spaces.
-  unfoldable pub textOver : ℕ → Bool
-  textOver at = stands noToken at && eqb (valueOf ((tokenAt text at) .kind)) 5
+-- ---- the type that a text begins with
 
-  -- The whole text is a type: nothing but spaces follows it.
-  unfoldable pub wholeText : ℕ → Out (Forest Row)
-  wholeText rows = do
-    t ← typeAt 64 0 rows
-    if textOver (t .next) then done (single t) else refuse 16
-
--- ---- the public reader
-
--- The tree of a text, with so many rows lent, or the refusal.
-unfoldable pub parse : List ℕ → ℕ → Out (Forest Row)
-parse text rows =
-    let tree = wholeText text rows in
+-- The whole text is judged first: its length (1), then its bytes (2). So many rows are lent.
+unfoldable pub firstType : List ℕ → ℕ → Out Tree
+firstType text rows =
+    let tree = typeAt text 64 0 rows in
     let utf8 = if isUtf8 text then tree else refuse 2 in
     if leb (length text) 16384 then utf8 else refuse 1
 
--- What reading a text into lent words answers: the row count, or the refusal.
-abbrev pub rowCount : Out (Forest Row) → Out ℕ
-rowCount (refused r) = refused r
-rowCount (done f) = done (count f)
-
-unfoldable pub parseAnswer : List ℕ → List ℕ → Out ℕ
-parseAnswer text before = rowCount (parse text (rowsLent (length before)))
+-- What the code answers for it: the place behind it and the row count, or the refusal.
+unfoldable pub readOf : Out Tree → Read
+readOf (refused r) = R.Refused (r .number)
+readOf (done t) = R.Tree (t .next) (rowsIn t)
 
 -- What the lent words hold behind it: the rows, and past them what they held before; all zeros on a refusal.
-abbrev pub filled : List ℕ → Out (Forest Row) → List ℕ
-filled before (refused r) = replicate (length before) 0
-filled before (done f) = tableOf f ++ drop (length (tableOf f)) before
-
-unfoldable pub parseRows : List ℕ → List ℕ → List ℕ
-parseRows text before = filled before (parse text (rowsLent (length before)))
-
--- What the code's answer means.
-unfoldable pub parsedMeans : Parsed → Out ℕ
-parsedMeans (Rows n) = done n
-parsedMeans (Refused n) = refuse n
+unfoldable pub rowsOf : List ℕ → Out Tree → List ℕ
+rowsOf before (refused r) = replicate (length before) 0
+rowsOf before (done t) = tableOf (single t) ++ drop (length (tableOf (single t))) before

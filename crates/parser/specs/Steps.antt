@@ -76,7 +76,7 @@ pub record Stored (f : Forest Row) (row left : ℕ) (before after : List ℕ) : 
   pub room : count f ≤ left
   pub rows : after ≡ sets before (rowWords * row) (tableOf f)
 
--- A type or a field. The rows are left open on a refusal: the public reader clears them.
+-- A type or a field. The rows are left open on a refusal: the public function clears them.
 unfoldable pub Meets : Out Tree → ℕ → ℕ → List ℕ → Read → List ℕ → Type 0
 Meets (refused x) row left before r after = r ≡ R.Refused (x .number)
 Meets (done t) row left before r after = (r ≡ R.Tree (t .next) (rowsIn t)) × Stored (single t) row left before after

@@ -1,13 +1,13 @@
-// The type reader: a text becomes rows, or is refused. The functions are named after those of the Rust's `Parser`. A
+// The readers of types: text becomes rows, or is refused. The functions are named after those of the Rust's `Parser`. A
 // parent's row is written behind its children's. `row` is the next free row, `left` how many rows there are from it on,
 // `level` how many levels are left.
 
 ghost use mathlib.Core.Path.{_≡_};
 ghost use Prim.Native.Nat.{suc, _+_, _<_};
-ghost use lib.ListN.{length, replicate};
+ghost use lib.ListN.{length};
 ghost use Rattle.datatype.specs.Kind.{shapeOf};
 ghost use Rattle.datatype.specs.Table.{rowsLent};
-ghost use Rattle.parser.specs.Parse.{textOver, parseAnswer, parseRows, parsedMeans, fieldAt, listField, itemsBy, namedRunEnds, defaultRunEnds, fixedListField, listAt, fixedSizeListAt, structAt, unionAt, dictionaryAt, mapAt, runEndEncodedAt, shapeAt, typeAt, unionItem};
+ghost use Rattle.parser.specs.Parse.{fieldAt, listField, itemsBy, namedRunEnds, defaultRunEnds, fixedListField, listAt, fixedSizeListAt, structAt, unionAt, dictionaryAt, mapAt, runEndEncodedAt, shapeAt, typeAt, unionItem, firstType, readOf, rowsOf};
 ghost use Rattle.parser.specs.Steps.{Room, Meets, MeetsFields, MeetsTurn, itemOf};
 use crate::leaves::close;
 use crate::leaves::parse_decimal;
@@ -32,6 +32,7 @@ use crate::tokens::parse_type_word;
 use crate::tokens::parse_union_mode;
 use crate::tokens::parse_unsigned;
 use crate::tokens::peek_double_quoted;
+use datatype::clear_words;
 use datatype::kind::STRUCT;
 use datatype::kind::UNION;
 
@@ -40,13 +41,7 @@ mod quick;
 mod rows;
 mod tokens;
 
-// The rows that a text has filled, or the refusal's number.
-pub enum Parsed {
-    Rows(usize),
-    Refused(u32),
-}
-
-// ---- answers of the reader's own functions; specs/Steps.antt says what each means
+// ---- answers; specs/Steps.antt says what each means
 
 // The place behind a token that is needed.
 pub enum Step {
@@ -624,18 +619,7 @@ fn parse_next_type(
     }
 }
 
-// ---- a whole text
-
-// Sets every word to 0.
-fn clear(rows: &mut [u32])
-    ensures { λ _. ⌜ now (rows .exit) ≡ replicate (length (now (rows .entry))) 0 ⌝ }
-{
-    let mut i = 0;
-    while i < rows.len() {
-        rows[i] = 0;
-        i += 1;
-    }
-}
+// ---- the type that a text begins with
 
 // How many rows so many words hold: whole rows, and 1,024 at the most.
 fn rows_lent(words: usize) -> usize
@@ -648,41 +632,26 @@ fn rows_lent(words: usize) -> usize
     1024
 }
 
-// Whether nothing but spaces is left of a text.
-fn text_over(text: &[u8], at: usize) -> bool
-    ensures { λ r. ⌜ r ≡ textOver (now (text .entry)) at ⌝ }
-{
-    if tokenizer::skip_spaces(text, at) < text.len() {
-        return false;
-    }
-    true
-}
-
-// Reads a type text into lent rows: the row count, or the refusal's number. A refused text leaves the rows all zeros.
-pub fn parse_data_type(text: &[u8], rows: &mut [u32]) -> Parsed
-    ensures answer { λ r. ⌜ parsedMeans r ≡ parseAnswer (now (text .entry)) (now (rows .entry)) ⌝ }
-    ensures contents { λ r. ⌜ now (rows .exit) ≡ parseRows (now (text .entry)) (now (rows .entry)) ⌝ }
+// Reads the type that a text begins with into lent rows: the place behind it and how many rows it fills, or the
+// refusal's number. A refusal leaves the rows all zeros.
+pub fn parse_first_type(text: &[u8], rows: &mut [u32]) -> Read
+    ensures answer { λ r. ⌜ r ≡ readOf (firstType (now (text .entry)) (rowsLent (length (now (rows .entry))))) ⌝ }
+    ensures contents { λ r. ⌜ now (rows .exit) ≡ rowsOf (now (rows .entry)) (firstType (now (text .entry)) (rowsLent (length (now (rows .entry))))) ⌝ }
 {
     if text.len() > 16384 {
-        clear(rows);
-        return Parsed::Refused(1);
+        clear_words(rows);
+        return Read::Refused(1);
     }
     if !tokenizer::is_utf8(text) {
-        clear(rows);
-        return Parsed::Refused(2);
+        clear_words(rows);
+        return Read::Refused(2);
     }
     let left = rows_lent(rows.len());
     match parse_next_type(text, rows, 0, 0, left, 64) {
+        Read::Tree(next, used) => Read::Tree(next, used),
         Read::Refused(n) => {
-            clear(rows);
-            Parsed::Refused(n)
-        }
-        Read::Tree(next, used) => {
-            if text_over(text, next) {
-                return Parsed::Rows(used);
-            }
-            clear(rows);
-            Parsed::Refused(16)
+            clear_words(rows);
+            Read::Refused(n)
         }
     }
 }

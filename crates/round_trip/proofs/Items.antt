@@ -13,9 +13,9 @@ use Rattle.tokenizer.specs.declared.TokenKind.the-variants.{RParen}
 use Rattle.tokenizer.proofs.Basics.{skip}
 use Rattle.datatype.specs.Tree.{Forest, ∅, node, count, roots, Label, labels}
 use Rattle.row_table.specs.Sound.{field, unionField}
-use Rattle.datatype_parse.specs.Parse as P
-use Rattle.datatype_parse.specs.Parse.{Tree, Item, end, last, more, single, idOf, stands, itemsBy, fieldAt, structItem, unionItem}
-use Rattle.datatype_parse.proofs.TokenLaws.{here}
+use Rattle.parser.specs.Parse as P
+use Rattle.parser.specs.Parse.{Tree, Item, end, last, more, single, idOf, stands, itemsBy, fieldAt, structItem, unionItem}
+use Rattle.parser.proofs.TokenLaws.{here}
 use Rattle.datatype_display.specs.Display.{digits, fieldText, structText, unionText, shown}
 use Rattle.round_trip.proofs.Tokens.{mark-stop, comma-stop}
 use Rattle.round_trip.proofs.PlainRows.{PlainRows, FieldRow, field-row, union-row, field-id, union-id}

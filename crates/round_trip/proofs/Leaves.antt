@@ -15,7 +15,7 @@ use Rattle.tokenizer.proofs.Basics.{skip, is-true}
 use Rattle.datatype.specs.Kind.{leaf, timestamp, time, interval, fixed, decimal, unitFits, decimalFits}
 use Rattle.datatype.specs.Tree.{Forest, ∅, node, roots, Label, nameList, zoneOf, labels}
 use Rattle.row_table.specs.Sound.{arityFits, noChild, rulesOf, zoneFits, shapeFits}
-use Rattle.datatype_parse.specs.Parse.{Zone, Tree, bareRow, scaleOf, unitAt, zoneString, zoneAt, timestampAt, timeAt, intervalAt, fixedSizeBinaryAt, scaleAt, decimalAt}
+use Rattle.parser.specs.Parse.{Zone, Tree, bareRow, scaleOf, unitAt, zoneString, zoneAt, timestampAt, timeAt, intervalAt, fixedSizeBinaryAt, scaleAt, decimalAt}
 use Rattle.datatype_display.specs.Display.{digits, unitText, intervalText, scaleText, zoneText, quoted, shapeText, shown}
 use Rattle.round_trip.specs.Plain.{isPlain}
 use Rattle.round_trip.proofs.Tokens.{Stop, mark-stop, comma-stop, isListedWord, isWordOf, WordOf, word-is}

@@ -13,7 +13,7 @@ use Rattle.tokenizer.specs.Token.{isSeparator, isDigit, tokenAt, doubleQuoted, 
 use Rattle.tokenizer.proofs.Basics.{skip, of-true, and-l, and-r}
 use Rattle.datatype.specs.Tree.{Forest, ∅, node, count, Label, nameOf, labels}
 use Rattle.datatype.proofs.Same.{same-eq}
-use Rattle.datatype_parse.specs.Parse.{Tree, run-ends, values, pair, stands, namedRunEnds, defaultRunEnds, runEndFields}
+use Rattle.parser.specs.Parse.{Tree, run-ends, values, pair, stands, namedRunEnds, defaultRunEnds, runEndFields}
 use Rattle.datatype_display.specs.Display.{nullityText, fieldText, defaultNames, runEndText, typeText, shown}
 use Rattle.round_trip.proofs.Tokens.{mark-stop, comma-stop, isListedWord, isWordOf, word-is}
 use Rattle.round_trip.proofs.PlainRows.{FieldRow}

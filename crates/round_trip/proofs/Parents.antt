@@ -13,7 +13,7 @@ use Rattle.tokenizer.proofs.Basics.{skip, is-true}
 use Rattle.datatype.specs.Kind.{list, fixedList, struct, union, dictionary, mapping, runEnds, entriesRefusal, idsFit}
 use Rattle.datatype.specs.Tree.{Forest, ∅, node, count, roots, Label, nameList, labels}
 use Rattle.row_table.specs.Sound.{arityFits, rulesOf, shapeFits, rolesOf, idsOf}
-use Rattle.datatype_parse.specs.Parse.{Tree, single, pair, itemsBy, listField, structItem, unionItem, runEndFields, entriesAt, fixedListField, listAt, fixedSizeListAt, structAt, unionAt, dictionaryAt, mapAt, runEndEncodedAt}
+use Rattle.parser.specs.Parse.{Tree, single, pair, itemsBy, listField, structItem, unionItem, runEndFields, entriesAt, fixedListField, listAt, fixedSizeListAt, structAt, unionAt, dictionaryAt, mapAt, runEndEncodedAt}
 use Rattle.datatype_display.specs.Display.{digits, modeText, sortedText, fieldText, listFieldText, structText, unionText, runEndText, shapeText, typeText, shown}
 use Rattle.round_trip.proofs.Tokens.{Stop, mark-stop, comma-stop, isListedWord, isWordOf, WordOf, word-is}
 use Rattle.round_trip.proofs.PlainRows.{ShapeRow, field-row, field-id, bareLabel, bare-is, no-zone}

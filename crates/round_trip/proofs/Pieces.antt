@@ -19,8 +19,8 @@ use Rattle.tokenizer.specs.declared.TokenKind.the-variants.{LParen, RParen, Com
 use Rattle.tokenizer.proofs.Basics.{skip, skip-word}
 use Rattle.datatype.specs.Tree.{Forest, Row, part}
 use Rattle.row_table.specs.Sound.{isName}
-use Rattle.datatype_parse.specs.Parse.{need, stands, numberIn, closeAt}
-use Rattle.datatype_parse.proofs.TokenLaws.{here}
+use Rattle.parser.specs.Parse.{need, stands, numberIn, closeAt}
+use Rattle.parser.proofs.TokenLaws.{here}
 use Rattle.datatype_display.specs.Display.{digits, quoted}
 use Rattle.round_trip.specs.Plain.{isPlain}
 use Rattle.round_trip.proofs.Tokens.{Stop, WordOf, listed-token, number-token, minus-token, until-double, until-single, escaped-plain}

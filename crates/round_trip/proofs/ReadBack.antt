@@ -4,15 +4,18 @@ use mathlib.Core.Bool.{true}
 use mathlib.Core.List.{List, [], _++_, append-nil}
 use Prim.Native.Nat.{ℕ, zero, suc, _≤_}
 use native.Mathlib.Omega.{arith}
-use lib.ListN.{drop}
+use lib.ListN.{length, drop}
 use Rattle.tokenizer.specs.Answer.{Out, done}
+use Rattle.tokenizer.specs.Utf8.{isUtf8}
 use Rattle.tokenizer.specs.Token.{token, tokenAt, tokenFrom, noToken, typeWord}
 use Rattle.tokenizer.specs.declared.TokenKind.the-variants.{Refused}
 use Rattle.datatype.specs.Kind.{Shape, leaf, timestamp, time, interval, fixed, list, fixedList, struct, union, dictionary, decimal, mapping, runEnds, shapeOf}
 use Rattle.datatype.specs.Tree.{Forest, ∅, node, count, depth, Row, Label, nameList, labels}
 use Rattle.row_table.specs.Sound.{Place, bare}
 use Rattle.row_table.proofs.SoundTree.{rulesAt}
-use Rattle.datatype_parse.specs.Parse.{Tree, single, shapeAt, typeWith, typeAt, textOver, wholeText}
+use Rattle.parser.specs.Parse.{Tree, single, shapeAt, typeWith, typeAt}
+use Rattle.parser.proofs.FirstType.{first-type}
+use Rattle.datatype_parse.specs.Parse.{textOver, parse}
 use Rattle.datatype_display.specs.Display.{shapeText, typeText, shown, display}
 use Rattle.round_trip.proofs.PlainRows.{PlainRow, PlainRows, ShapeRow, shape-row, bareLabel, bare-is}
 use Rattle.round_trip.proofs.Pieces.{look-here, stands-is, need-found}
@@ -74,10 +77,10 @@ all-read text place (node l kids others) (suc level) pl de = (
 
 -- ---- the whole text
 
--- what is read of the printed text of a tree, with so many rows left
+-- what is read of the printed text of a tree, with so many rows lent, where it is short enough and UTF-8
 pub record WholeRead (tree : Forest Label) (rows : ℕ) : Type 0 where
   pub back : Forest Row
-  pub reads : wholeText (display tree) rows ≡ done back
+  pub reads : length (display tree) ≤ 16384 → isUtf8 (display tree) ≡ true → parse (display tree) rows ≡ done back
   pub says : labels (display tree) nameList back ≡ tree
 
 over : (text : List ℕ) (at : ℕ) → drop at text ≡ [] → textOver text at ≡ true
@@ -88,11 +91,11 @@ over text at e =
 
 whole : (l : Label) (kids : Forest Label) (rows : ℕ) → bareLabel l ≡ l
     → TreeRead (display (node l kids ∅)) (typeAt (display (node l kids ∅)) 64 0 rows) (bareLabel l) kids [] → WholeRead (node l kids ∅) rows
-unfolding wholeText labels
+unfolding parse labels
 whole l kids rows b r =
     record {
       back = single (r .got);
-      reads = rw (r .reads, over (display (node l kids ∅)) (r .got .next) (r .after));
+      reads = λ short utf8. rw (first-type (display (node l kids ∅)) rows short utf8, r .reads, over (display (node l kids ∅)) (r .got .next) (r .after));
       says = λ j. node ((r .row ∙ b) j) (r .below j) ∅;
     }
 

@@ -25,7 +25,7 @@ use Rattle.row_table.proofs.SoundTree.{SoundTree, sound-tree, sound-labels}
 use Rattle.row_table.proofs.RowList.{count-labels}
 use Rattle.row_table.proofs.LevelLaws.{depth-labels}
 use Rattle.row_table.proofs.Equivalence.{labels-equal}
-use Rattle.datatype_parse.specs.Parse.{wholeText, parse}
+use Rattle.datatype_parse.specs.Parse.{parse}
 use Rattle.datatype_parse.proofs.MoreRows.{more-rows}
 use Rattle.datatype_parse.proofs.ReadSound.{read-sound}
 use Rattle.datatype_display.specs.Display.{display}
@@ -112,11 +112,6 @@ module _ (tree : Forest Label) (p : PlainTree tree) where
   tree-few : count tree ≤ 1024
   tree-few = subst (λ (f : Forest Label). count f ≤ 1024) (sym (p .one)) (let h = p .few in omega arith)
 
--- a text that is short enough and UTF-8 is read whole
-parse-whole : (text : List ℕ) (rows : ℕ) (f : Forest Row) → length text ≤ 16384 → T (isUtf8 text) → wholeText text rows ≡ done f → parse text rows ≡ done f
-unfolding parse
-parse-whole text rows f l u e = rw (le-leb (length text) 16384 l, is-true (isUtf8 text) u, e)
-
 -- ---- the round trip
 
 pub record RoundTrip (text names table : List ℕ) : Type 0 where
@@ -139,7 +134,7 @@ module _ (text names table : List ℕ) (c : Conditions text names table) where
 
   with-tree : (p : PlainTree tree) → WholeRead tree (count tree) → RoundTrip text names table
   with-tree p w =
-      let first : parse (display tree) (count tree) ≡ done (w .back) = parse-whole (display tree) (count tree) (w .back) (c .short) (tree-utf8 tree p) (w .reads) in
+      let first : parse (display tree) (count tree) ≡ done (w .back) = w .reads (c .short) (is-true (isUtf8 (display tree)) (tree-utf8 tree p)) in
       let lent : parse (display tree) 1024 ≡ done (w .back) = more-rows (display tree) (count tree) 1024 (w .back) (tree-few tree p) first in
       let f : Forest Row = node (c .tree .root) (c .tree .kids) ∅ in
       let same : labels (display tree) nameList (w .back) ≡ labels text names f = w .says ∙ sound-labels text names table (c .tree) in

@@ -14,7 +14,7 @@ use Rattle.datatype.specs.Kind.{Shape, leaf, timestamp, time, interval, fixed, 
 use Rattle.datatype.specs.Tree.{Forest, ∅, node, count, roots, Row, Label, nameList, nameOf, zoneOf, labelOf, labels}
 use Rattle.row_table.specs.Sound.{rolesOf, idsOf}
 use Rattle.row_table.proofs.RowList.{count-labels}
-use Rattle.datatype_parse.specs.Parse.{Name, Tree, Fields, bareRow, fieldRow, stands, roleAt, afterRole}
+use Rattle.parser.specs.Parse.{Name, Tree, Fields, bareRow, fieldRow, stands, roleAt, afterRole}
 use Rattle.datatype_display.specs.Display.{Shown, kindWord, nullityText, shapeText, typeText, shown}
 use Rattle.round_trip.proofs.Tokens.{Stop, isListedWord, isWordOf, word-is, kind-word}
 use Rattle.round_trip.proofs.PlainRows.{bareLabel}

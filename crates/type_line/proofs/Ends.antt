@@ -9,8 +9,9 @@ use native.Mathlib.Omega.{arith}
 use lib.ListN.{length, take, drop, getD, length-drop}
 use lib.Seq.{drop-cons, drop-drop}
 use lib.Dec.{eqb}
-use borrow.Author.Tests.{eq-eqb, ne-eqb, lt-leb}
+use borrow.Author.Tests.{eq-eqb, ne-eqb}
 use Rattle.tokenizer.specs.Text.{bytes, if_then_else_}
+use Rattle.parser.proofs.FirstType.{too-long}
 use Rattle.datatype_parse.specs.Parse.{parse}
 use Rattle.datatype_display.specs.Display.{digits, digitsWith}
 use Rattle.type_line.specs.Line.{lineAnswer, longer, linesOf, beforeNewline, lineEnd}
@@ -104,4 +105,4 @@ lines-from input from h =
 
 pub long-line : (line : List ℕ) → 16384 < length line → lineAnswer line ≡ bytes "no 1\n"
 unfolding lineAnswer parse digits digitsWith
-long-line line h = rw (lt-leb (length line) 16384 h)
+long-line line h = rw (too-long line 1024 h)

@@ -1,4 +1,4 @@
-use Rattle.parser.proofs.Whole.{lent-whole, lent-most}
+use Rattle.parser.proofs.FirstType.{lent-whole, lent-most}
 use borrow.Author.Needs.{needs}
 use native.Mathlib.Omega.{arith}
 use Rattle.parser.proofs.rows_lent.Statement.{statement}
