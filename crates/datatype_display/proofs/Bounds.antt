@@ -41,9 +41,9 @@ escape-two c t =
     elim (ℕ-discrete c 34) [
       | yes e ↦ (let n = ap length (escape-34 c e) in omega arith)
       | no p ↦ elim (ℕ-discrete c 92) [
-          | yes e ↦ (let n = ap length (escape-92 c e) in omega arith)
-          | no q ↦ (let n = ap length (escape-rest c p q (omega arith) (λ z. omega arith)) in omega arith)
-        ]
+        | yes e ↦ (let n = ap length (escape-92 c e) in omega arith)
+        | no q ↦ (let n = ap length (escape-rest c p q (omega arith) (λ z. omega arith)) in omega arith)
+      ]
     ]
 
 escaped-two : (s : List ℕ) → T (all isPrintable s) → length (escaped s) ≤ 2 * length s
