@@ -7,7 +7,8 @@ use native.Mathlib.Omega.{arith}
 use lib.ListN.{length, getD, take, drop, drop-of-length-le}
 use lib.Seq.{drop-cons}
 use lib.Dec.{T, leb, leb→le, le→leb}
-use Rattle.tokenizer.specs.Text.{same, bytes, if_then_else_}
+use borrow.Author.Tests.{le-leb}
+use Rattle.tokenizer.specs.Text.{same, bytes, all, if_then_else_}
 use Rattle.tokenizer.proofs.Basics.{and-l, and-r, both, is-true, of-true}
 use Rattle.datatype.specs.Kind.{Shape, runEnds, shapeOf}
 use Rattle.datatype.specs.Tree.{Forest, ∅, node, count, roots, depth, Row, Label, part, nameOf, zoneOf, labelOf, labels}
@@ -27,28 +28,29 @@ use Rattle.datatype_display.specs.declared.shape.Shape.{Shape as CodeSha
 
 -- ---- bytes
 
-leb-max : (a b : ℕ) → leb (max a b) 127 ≡ (leb a 127 && leb b 127)
-leb-max a b =
-    iff-eq (leb (max a b) 127) (leb a 127 && leb b 127)
-    (λ t. let m = leb→le (max a b) 127 t in both (leb a 127) (leb b 127) (le→leb a 127 (omega arith)) (le→leb b 127 (omega arith)))
-    (λ t. let p = leb→le a 127 (and-l (leb a 127) (leb b 127) t) in let q = leb→le b 127 (and-r (leb a 127) (leb b 127) t) in le→leb (max a b) 127 (omega arith))
+leb-max : (a b n : ℕ) → leb (max a b) n ≡ (leb a n && leb b n)
+leb-max a b n =
+    iff-eq (leb (max a b) n) (leb a n && leb b n)
+    (λ t. let m = leb→le (max a b) n t in both (leb a n) (leb b n) (le→leb a n (omega arith)) (le→leb b n (omega arith)))
+    (λ t. let p = leb→le a n (and-l (leb a n) (leb b n) t) in let q = leb→le b n (and-r (leb a n) (leb b n) t) in le→leb (max a b) n (omega arith))
 
--- what the loop holds: the greatest byte met and the rest tell of the whole
-pub record Tops (s : List ℕ) (top i : ℕ) : Type 0 where
-  pub so : isAscii s ≡ (leb top 127 && isAscii (drop i s))
+-- What the loop holds: the greatest weight met and the rest tell of the whole. Bytes that pass the test are those whose
+-- weight is at most a limit.
+pub record Tops (test : ℕ → Bool) (limit : ℕ) (s : List ℕ) (top i : ℕ) : Type 0 where
+  pub so : all test s ≡ (leb top limit && all test (drop i s))
 
-module _ (s : List ℕ) where
-  pub tops-start : Tops s 0 0
-  tops-start = record { so = refl }
+module _ (test : ℕ → Bool) (limit : ℕ) (s : List ℕ) where
+  pub tops-start : Tops test limit s 0 0
+  tops-start = record { so = rw (le-leb 0 limit (omega arith)) }
 
-  module _ (top i : ℕ) (t : Tops s top i) where
-    pub tops-end : length s ≤ i → leb top 127 ≡ isAscii s
-    tops-end h = sym (t .so ∙ ap (λ (l : List ℕ). leb top 127 && isAscii l) (drop-of-length-le s {i = i} h) ∙ and-true (leb top 127))
+  module _ (top i : ℕ) (t : Tops test limit s top i) where
+    pub tops-end : length s ≤ i → leb top limit ≡ all test s
+    tops-end h = sym (t .so ∙ ap (λ (l : List ℕ). leb top limit && all test l) (drop-of-length-le s {i = i} h) ∙ and-true (leb top limit))
 
-    pub tops-more : i < length s → (top′ : ℕ) → top′ ≡ max top (getD s i 0) → Tops s top′ (i + 1)
-    tops-more h top′ e =
+    pub tops-more : i < length s → (w top′ : ℕ) → leb w limit ≡ test (getD s i 0) → top′ ≡ max top w → Tops test limit s top′ (i + 1)
+    tops-more h w top′ f e =
         let n : suc i ≡ i + 1 = omega arith in
-        record { so = t .so ∙ ap (λ (l : List ℕ). leb top 127 && isAscii l) (drop-cons s i 0 h) ∙ sym (and-assoc (leb top 127) (leb (getD s i 0) 127) (isAscii (drop (suc i) s))) ∙ rw (e, leb-max top (getD s i 0), n) }
+        record { so = t .so ∙ ap (λ (l : List ℕ). leb top limit && all test l) (drop-cons s i 0 h) ∙ sym (and-assoc (leb top limit) (test (getD s i 0)) (all test (drop (suc i) s))) ∙ rw (e, leb-max top w limit, f, n) }
 
 -- ---- children side by side
 
@@ -220,49 +222,51 @@ module _ (text names table : List ℕ) (level start end : ℕ) where
                 go : LevelsSo table level at end (max 0 (depth (forestAt table (at + 1) (at + s - (at + 1))) + 1)) (at + s) → QuotedSo text names table level start end (at + s)
                 go r = record { upto = r .upto; nests = r .nests; flat = r .flat; so = here ∙ rw (g, ← f, y) }
 
--- ---- a text that is ASCII
+-- ---- a text whose bytes all pass a test
 
-take-ascii : (n : ℕ) (s : List ℕ) → T (isAscii s) → T (isAscii (take n s))
-take-ascii zero s t = tt
-take-ascii (suc n) [] t = tt
-take-ascii (suc n) (c ∷ s) t = both (leb c 127) (isAscii (take n s)) (and-l (leb c 127) (isAscii s) t) (take-ascii n s (and-r (leb c 127) (isAscii s) t))
+module _ (test : ℕ → Bool) where
+  take-all : (n : ℕ) (s : List ℕ) → T (all test s) → T (all test (take n s))
+  take-all zero s t = tt
+  take-all (suc n) [] t = tt
+  take-all (suc n) (c ∷ s) t = both (test c) (all test (take n s)) (and-l (test c) (all test s) t) (take-all n s (and-r (test c) (all test s) t))
 
-drop-ascii : (n : ℕ) (s : List ℕ) → T (isAscii s) → T (isAscii (drop n s))
-drop-ascii zero s t = t
-drop-ascii (suc n) [] t = tt
-drop-ascii (suc n) (c ∷ s) t = drop-ascii n s (and-r (leb c 127) (isAscii s) t)
+  drop-all : (n : ℕ) (s : List ℕ) → T (all test s) → T (all test (drop n s))
+  drop-all zero s t = t
+  drop-all (suc n) [] t = tt
+  drop-all (suc n) (c ∷ s) t = drop-all n s (and-r (test c) (all test s) t)
 
-part-ascii : (s : List ℕ) (start size : ℕ) → T (isAscii s) → isAscii (part s start size) ≡ true
-part-ascii s start size t = go (leb (start + size) (length s))
-  where
-    go : (b : Bool) → isAscii (if b then take size (drop start s) else []) ≡ true
-    go true = is-true _ (take-ascii size (drop start s) (drop-ascii start s t))
-    go false = refl
+  -- a part of a list that passes a test, and a name or a zone
+  part-all : (s : List ℕ) (start size : ℕ) → T (all test s) → all test (part s start size) ≡ true
+  part-all s start size t = go (leb (start + size) (length s))
+    where
+      go : (b : Bool) → all test (if b then take size (drop start s) else []) ≡ true
+      go true = is-true _ (take-all size (drop start s) (drop-all start s t))
+      go false = refl
+
+  pub name-all : (text names : List ℕ) → T (all test text) → T (all test names) → (home start size : ℕ) → all test (nameOf text names home start size) ≡ true
+  unfolding nameOf
+  name-all text names a b zero start size = refl
+  name-all text names a b (suc zero) start size = part-all text start size a
+  name-all text names a b (suc (suc zero)) start size = part-all names start size b
+  name-all text names a b (suc (suc (suc home))) start size = refl
+
+  pub zone-all : (text : List ℕ) → T (all test text) → (start size : ℕ) → all test (zoneOf text start size) ≡ true
+  unfolding zoneOf
+  zone-all text a start size = part-all text start size a
 
 -- so is what a tree over it says
 module _ (text names : List ℕ) (a : T (isAscii text)) (b : T (isAscii names)) where
-  name-ascii : (home start size : ℕ) → isAscii (nameOf text names home start size) ≡ true
-  unfolding nameOf
-  name-ascii zero start size = refl
-  name-ascii (suc zero) start size = part-ascii text start size a
-  name-ascii (suc (suc zero)) start size = part-ascii names start size b
-  name-ascii (suc (suc (suc home))) start size = refl
-
-  zone-ascii : (start size : ℕ) → isAscii (zoneOf text start size) ≡ true
-  unfolding zoneOf
-  zone-ascii start size = part-ascii text start size a
-
   roots-ascii : (f : Forest Row) → namesAscii (roots (labels text names f)) ≡ true
   unfolding labels labelOf
   roots-ascii ∅ = refl
-  roots-ascii (node r k n) = rw (name-ascii (r .home) (r .start) (r .size)) (roots-ascii n)
+  roots-ascii (node r k n) = rw (name-all (λ c. leb c 127) text names a b (r .home) (r .start) (r .size)) (roots-ascii n)
 
   quoted-ascii : (f : Forest Row) → quotedAscii (labels text names f) ≡ true
   unfolding quotedAscii labels labelOf
   quoted-ascii ∅ = refl
   quoted-ascii (node r k n) =
       let q = not (quotesNames (shapeOf (r .kind)) (roots (labels text names k))) in
-      rw (zone-ascii (r .zoneStart) (r .zoneSize), roots-ascii k, or-true q, quoted-ascii k) (quoted-ascii n)
+      rw (zone-all (λ c. leb c 127) text a (r .zoneStart) (r .zoneSize), roots-ascii k, or-true q, quoted-ascii k) (quoted-ascii n)
 
 -- ---- the whole tree
 

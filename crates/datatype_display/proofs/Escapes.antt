@@ -2,17 +2,17 @@
 use mathlib.Core.Path.{_≡_, refl, sym, ap, _∙_, subst}
 use mathlib.Core.Bool.{Bool, true, false, not, _&&_, _||_, true≢false, false≢true}
 use mathlib.Core.List.{List, [], _∷_, _++_, append-assoc, append-nil}
-use Prim.Native.Nat.{ℕ, zero, suc, _+_, _/_, _%_, _≤_, _<_}
+use Prim.Native.Nat.{ℕ, zero, suc, _+_, _-_, _/_, _%_, _≤_, _<_}
 use native.Mathlib.Omega.{arith}
-use lib.ListN.{length, getD, take, drop, drop-of-length-le}
-use lib.Seq.{take-suc, take-all, drop-cons}
+use lib.ListN.{length, getD, set, take, drop, drop-of-length-le, take-append-drop, length-drop}
+use lib.Seq.{take-suc, take-all, drop-cons, length-take-le}
 use lib.Dec.{T, leb, ltb, eqb, leb→le}
 use borrow.Author.Tests.{lt-ltb, le-ltb, le-leb, lt-leb, eq-eqb, ne-eqb, leb-true, leb-false}
 use Rattle.tokenizer.specs.Text.{bytes, all, if_then_else_}
-use Rattle.tokenizer.proofs.Basics.{and-l, and-r, of-true, is-false}
+use Rattle.tokenizer.proofs.Basics.{and-l, and-r, both, of-true, is-false}
 use Rattle.datatype_display.specs.Display.{hexDigit, hex, escape, escaped, quoted}
-use Rattle.datatype_display.specs.Steps.{Put, isItself, unicodeText}
-use Rattle.datatype_display.proofs.Writes.{put-none, put-as, put-then}
+use Rattle.datatype_display.specs.Steps.{Put, CopiedPlain, isItself, unicodeText}
+use Rattle.datatype_display.proofs.Writes.{moved-by, put-none, put-wrote, put-as, put-then, Copied, copied-start, copied-more}
 
 -- ---- hex digits
 
@@ -46,30 +46,6 @@ module _ (c : ℕ) where
   pub itself-high : 92 < c → not (eqb c 127) ≡ isItself c
   unfolding isItself
   itself-high h = rw (le-leb 32 c (omega arith), ne-eqb c 34 (λ e. omega arith), ne-eqb c 92 (λ e. omega arith))
-
--- a list whose every number passes a test, looked at up to a place
-pub record All (test : ℕ → Bool) (s : List ℕ) (i : ℕ) : Type 0 where
-  pub so : all test s ≡ all test (drop i s)
-
-module _ (test : ℕ → Bool) (s : List ℕ) where
-  pub all-start : All test s 0
-  all-start = record { so = refl }
-
-  module _ (i : ℕ) (a : All test s i) where
-    pub all-end : length s ≤ i → true ≡ all test s
-    all-end h = sym (a .so ∙ ap (all test) (drop-of-length-le s {i = i} h))
-
-    module _ (h : i < length s) (r : Bool) (is : r ≡ test (getD s i 0)) where
-      next : all test s ≡ (r && all test (drop (i + 1) s))
-      next =
-          let e : i + 1 ≡ suc i = omega arith in
-          a .so ∙ ap (all test) (drop-cons s i 0 h) ∙ rw (← is, e)
-
-      pub all-not : r ≡ false → false ≡ all test s
-      all-not e = sym (next ∙ rw e)
-
-      pub all-more : r ≡ true → All test s (i + 1)
-      all-more e = record { so = next ∙ rw e }
 
 -- ---- one byte
 
@@ -177,10 +153,58 @@ escaped-itself (c ∷ s) t =
     let es = escaped-itself s (and-r (isItself c) (all isItself s) t) in
     ap (λ (l : List ℕ). c ∷ l) es ∙ ap (λ (l : List ℕ). l ++ escaped s) (sym e)
 
-module _ (before s : List ℕ) (at : ℕ) where
-  pub put-itself : (r : Bool) → r ≡ all isItself s → r ≡ true → (next : ℕ) (after : List ℕ) → Put before at s next after → Put before at (escaped s) next after
-  put-itself r is e next after p = put-as before at _ _ next after (escaped-itself s (of-true _ (sym is ∙ e))) p
+-- the rest of a list as the code takes it
+part-rest : (n : ℕ) (s : List ℕ) → take (length s - n) (drop n s) ≡ drop n s
+part-rest n s = take-all (length s - n) (drop n s) (let e = length-drop n s in omega arith)
 
+all-more : (test : ℕ → Bool) (s : List ℕ) (c : ℕ) → T (all test s) → T (test c) → T (all test (s ++ (c ∷ [])))
+all-more test [] c t u = both (test c) true u tt
+all-more test (x ∷ s) c t u = both (test x) (all test (s ++ (c ∷ []))) (and-l (test x) (all test s) t) (all-more test s c (and-r (test x) (all test s) t) u)
+
+-- the first i bytes are copied, and are written as they are
+pub record PlainSo (before s : List ℕ) (at i : ℕ) (out : List ℕ) : Type 0 where
+  pub copied : Copied before s at i out
+  pub plain : T (all isItself (take i s))
+
+module _ (before s : List ℕ) (at : ℕ) where
+  pub plain-start : at + length s ≤ length before → PlainSo before s at 0 before
+  plain-start h = record { copied = copied-start before s at h; plain = tt }
+
+  module _ (i : ℕ) (out : List ℕ) (p : PlainSo before s at i out) where
+    pub plain-end : CopiedPlain before at s i out
+    plain-end = record { upto = p .copied .upTo; plain = p .plain; wrote = record { stored = p .copied .is } }
+
+    pub plain-more : i < length s → (r : Bool) → r ≡ isItself (getD s i 0) → r ≡ true → PlainSo before s at (i + 1) (set out (at + i) (getD s i 0))
+    plain-more h r is e =
+        let n : suc i ≡ i + 1 = omega arith in
+        let t = all-more isItself (take i s) (getD s i 0) (p .plain) (of-true _ (sym is ∙ e)) in
+        record {
+          copied = copied-more before s at i out (p .copied) h;
+          plain = subst (λ (l : List ℕ). T (all isItself l)) (sym (take-suc s i 0 h) ∙ ap (λ (k : ℕ). take k s) n) t;
+        }
+
+  module _ (n : ℕ) (mid : List ℕ) (c : CopiedPlain before at s n mid) where
+    -- what was copied, and what is left
+    parts : take n s ++ escaped (drop n s) ≡ escaped s
+    parts =
+        ap (λ (l : List ℕ). l ++ escaped (drop n s)) (escaped-itself (take n s) (c .plain))
+        ∙ sym (escaped-append (take n s) (drop n s))
+        ∙ ap escaped (take-append-drop n s)
+
+    put-plain : Put before at (take n s) (at + n) mid
+    put-plain =
+        let l : length (take n s) ≡ n = length-take-le n s (c .upto) in
+        put-wrote before at (take n s) (at + n) mid (rw l (moved-by at n)) (c .wrote)
+
+    pub between-all : n ≡ length s → Put before at (escaped s) (at + n) mid
+    unfolding escaped
+    between-all e = put-as before at _ _ (at + n) mid (sym (append-nil (take n s)) ∙ ap (λ (l : List ℕ). take n s ++ escaped l) (sym (drop-of-length-le s {i = n} (omega arith))) ∙ parts) put-plain
+
+    pub between-rest : (next : ℕ) (after : List ℕ) → Put mid (at + n) (escaped (take (length s - n) (drop n s))) next after → Put before at (escaped s) next after
+    between-rest next after p =
+        put-as before at _ _ next after (ap (λ (l : List ℕ). take n s ++ escaped l) (part-rest n s) ∙ parts) (put-then before at (take n s) (escaped (take (length s - n) (drop n s))) (at + n) next mid after put-plain p)
+
+module _ (before s : List ℕ) (at : ℕ) where
   pub put-marks : (opened mid next : ℕ) (b1 b2 after : List ℕ) → Put before at (34 ∷ []) opened b1 → Put b1 opened (escaped s) mid b2 → Put b2 mid (34 ∷ []) next after
       → Put before at (quoted s) next after
   unfolding quoted

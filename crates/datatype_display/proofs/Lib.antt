@@ -6,7 +6,9 @@ pub mod KindWords
 pub mod Rows
 pub mod ShapeTexts
 pub mod AsciiLaws
+pub mod BoundLaws
 pub mod Walked
 pub mod Printing
 pub mod Prints
 pub mod Length
+pub mod Bounds

@@ -7,7 +7,7 @@ use native.Mathlib.Omega.{arith}
 use lib.ListN.{length, getD}
 use lib.Dec.{T, eqb}
 use borrow.Author.Tests.{eq-eqb, ne-eqb}
-use Rattle.datatype.specs.Kind.{Shape, shapeOf}
+use Rattle.datatype.specs.Kind.{Shape, leaf, shapeOf}
 use Rattle.datatype.specs.Tree.{Forest, ∅, node, count, roots, depth, Row, Label, labelOf, labels}
 use Rattle.datatype.specs.Table.{rowWords, treeOf}
 use Rattle.row_table.specs.Run.{sizeAt, rowAt, forestAt, Nests}
@@ -17,7 +17,9 @@ use Rattle.row_table.proofs.SoundTree.{SoundTree, sound-tree, sound-count, soun
 use Rattle.row_table.proofs.Walks.{labels-turn}
 use Rattle.datatype_display.specs.Display.{Shown, display}
 use Rattle.datatype_display.specs.Print.{quotesNames}
-use Rattle.datatype_display.specs.Steps.{Put, closeText, leadText, trailText, childrenText, headText, rowText, walked, Subtree, labelAt, kidsAt, textAt}
+use Rattle.datatype_display.specs.Steps.{Put, shapeMeans, kindText, openText, closeText, leadText, trailText, childrenText, headText, singleText, rowText, walked, Subtree, labelAt, kidsAt, textAt}
+use Rattle.datatype_display.specs.declared.shape.Shape.{Shape as CodeShape}
+use Rattle.datatype_display.specs.declared.shape.Shape.the-variants as S
 use Rattle.datatype_display.proofs.Walked.{text-display}
 use Rattle.datatype_display.proofs.Writes.{put-none, put-as, put-then}
 
@@ -33,6 +35,23 @@ module _ (table : List ℕ) (level i : ℕ) (w : Subtree table level i) where
 
     pub quotes-call : Nests table (i + 1) (i + size - (i + 1)) × (i + 1 ≤ i + size)
     quotes-call = let a = w .some-rows in (rw is (w .nests), omega arith)
+
+-- ---- a row with nothing below it
+
+module _ (text table : List ℕ) where
+  -- its head and what closes it, which of a leaf is only its word
+  pub pieces-single : (i at : ℕ) (before : List ℕ) (s : Shape) (kind param : ℕ) → kind ≡ getD table (rowWords * i + 0) 0 → s ≡ shapeOf kind → param ≡ getD table (rowWords * i + 4) 0
+      → (m next : ℕ) (b after : List ℕ) → Put before at (headText (labelAt text [] table i)) m b → Put b m (closeText s param) next after
+      → Put before at (singleText (labelAt text [] table i)) next after
+  unfolding singleText labelAt labelOf rowAt
+  pieces-single i at before s kind param k is p m next b after h c = put-as before at _ _ next after (rw (is, k, p)) (put-then before at _ _ m next b after h c)
+
+  pub leaf-single : (i at kind : ℕ) (before : List ℕ) (s : CodeShape) → kind ≡ getD table (rowWords * i + 0) 0 → shapeMeans s ≡ shapeOf kind → s ≡ S.Leaf
+      → (next : ℕ) (after : List ℕ) → Put before at (kindText kind) next after → Put before at (singleText (labelAt text [] table i)) next after
+  unfolding singleText headText openText closeText labelAt labelOf rowAt shapeMeans
+  leaf-single i at kind before s k is e next after p =
+      let leaf-shape : shapeOf kind ≡ leaf = sym is ∙ ap shapeMeans e in
+      put-as before at _ _ next after (rw (← k, leaf-shape) (sym (append-nil (kindText kind ++ []) ∙ append-nil (kindText kind)))) p
 
 -- ---- the children's texts
 
@@ -154,15 +173,15 @@ module _ (text names table : List ℕ) where
       (put-then before at _ _ m1 next b1 after a (put-then b1 m1 _ _ m2 next b2 after b c))
 
   -- a row with nothing below it
-  pub printed-leaf : (i end at : ℕ) (before : List ℕ) → end ≡ i + sizeAt table i → end ≡ i + 1 → (s : Shape) (kind param : ℕ) → kind ≡ getD table (rowWords * i + 0) 0 → s ≡ shapeOf kind
-      → param ≡ getD table (rowWords * i + 4) 0 → (m1 next : ℕ) (b1 after : List ℕ) → Put before at (headText (labelAt text [] table i)) m1 b1
-      → Put b1 m1 (closeText s param) next after → Put before at (textAt text names table i) next after
-  unfolding childrenText walked labels
-  printed-leaf i end at before e one s kind param k is p m1 next b1 after a c =
-      let q = quotesNames s (roots (labels text names (forestAt table (i + 1) (end - (i + 1))))) in
-      let z : end - (i + 1) ≡ 0 = omega arith in
-      let none : [] ≡ childrenText s q true (run (i + 1) end) = rw (z, forest-none table (i + 1)) in
-      printed-row i end at before e s kind param k is p q refl m1 m1 next b1 b1 after a (put-as b1 m1 _ _ m1 b1 none (put-none b1 m1)) c
+  pub single-text : (i : ℕ) → 1 ≡ sizeAt table i → singleText (labelAt text [] table i) ≡ textAt text names table i
+  unfolding singleText textAt rowText headText kidsAt labelAt labelOf rowAt childrenText walked labels
+  single-text i one =
+      let z : i + sizeAt table i - (i + 1) ≡ 0 = omega arith in
+      rw (z, forest-none table (i + 1))
+
+  pub printed-single : (i at size : ℕ) (before : List ℕ) → size ≡ sizeAt table i → size ≡ 1 → (next : ℕ) (after : List ℕ)
+      → Put before at (singleText (labelAt text [] table i)) next after → Put before at (textAt text names table i) next after
+  printed-single i at size before e one next after p = put-as before at _ _ next after (single-text i (sym one ∙ e)) p
 
 -- ---- the whole tree
 

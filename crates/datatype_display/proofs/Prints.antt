@@ -14,6 +14,7 @@ use Rattle.row_table.specs.Sound.{isSound}
 use Rattle.datatype_display.specs.Display.{display}
 use Rattle.datatype_display.specs.Print.{quotedAscii, print, printAnswer, printBytes, printedMeans}
 use Rattle.datatype_display.specs.Steps.{Moved, Put}
+use Rattle.datatype_display.specs.Bound.{Prints as Sure}
 use Rattle.datatype_display.specs.declared.Printed.{Printed}
 use Rattle.datatype_display.specs.declared.Printed.the-variants.{Length, Refused}
 
@@ -33,6 +34,16 @@ module _ (text names table before : List ℕ) where
     pub prints-18 : quotedAscii (treeOf text names table) ≡ false → Prints (Refused 18) before
     unfolding print printAnswer printBytes printedMeans
     prints-18 a = (rw (e, a), rw (e, a))
+
+    -- what surely prints
+    pub prints-sure : Sure text names table (length before) → (next : ℕ) (after : List ℕ) → Put before 0 printed next after → Prints (Length next) after
+    unfolding print printAnswer printBytes printedMeans
+    prints-sure s next after p =
+        let h = s .fits in
+        let f : leb (length printed) (min (length before) 16384) ≡ true = le-leb (length printed) (min (length before) 16384) h in
+        let z : 0 + length printed ≡ length printed = omega arith in
+        let k : next ≡ length printed = p .place .exact (omega arith) ∙ z in
+        (rw (e, s .ascii, f, k), rw (e, s .ascii, f) (p .stored (omega arith) (omega arith) ∙ sets-eq printed before 0 (omega arith) ∙ ap (λ (i : ℕ). printed ++ drop i before) z))
 
     module _ (a : quotedAscii (treeOf text names table) ≡ true) where
       over : leb (length printed) (min (length before) 16384) ≡ false → Prints (Refused 19) before

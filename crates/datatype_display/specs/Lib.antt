@@ -2,3 +2,4 @@ pub mod Display
 pub mod Print
 pub mod Computed
 pub mod Steps
+pub mod Bound

@@ -6,8 +6,8 @@ use mathlib.Core.List.{List, [], _∷_, _++_}
 use Prim.Native.Nat.{ℕ, zero, suc, _+_, _-_, _*_, _/_, _%_, _≤_, _<_}
 use lib.ListN.{length, take, drop}
 use lib.Seq.{sets}
-use lib.Dec.{leb, ltb, eqb}
-use Rattle.tokenizer.specs.Text.{bytes, if_then_else_}
+use lib.Dec.{T, leb, ltb, eqb}
+use Rattle.tokenizer.specs.Text.{bytes, all, if_then_else_}
 use Rattle.tokenizer.specs.Keys.{packed}
 use Rattle.datatype.specs.Kind.{Shape, leaf, timestamp, time, interval, fixed, list, fixedList, struct, union, dictionary, decimal, mapping, runEnds, kinds, shapeOf}
 use Rattle.datatype.specs.Tree.{Forest, ∅, node, roots, depth, Label, labelOf, labels}
@@ -72,6 +72,12 @@ longTail k = let w = kindWord k in if leb 9 (length w) then packed 0 (lastOf 8 w
 -- A byte that is written as it is between double quotes.
 unfoldable pub isItself : ℕ → Bool
 isItself c = leb 32 c && not (eqb c 34) && not (eqb c 92) && not (eqb c 127)
+
+-- The first n bytes of s are written as they are, and stand at a place of the buffer; nothing else has changed.
+pub record CopiedPlain (before : List ℕ) (at : ℕ) (s : List ℕ) (n : ℕ) (after : List ℕ) : Type 0 where
+  pub upto : n ≤ length s
+  pub plain : T (all isItself (take n s))
+  pub wrote : Wrote before at (take n s) after
 
 -- A control character, by its number in hex digits.
 unfoldable pub unicodeText : ℕ → List ℕ
@@ -188,6 +194,10 @@ childrenText s quotes first (k ∷ ks) = leadText s quotes first (k .label) ++ (
 
 unfoldable pub headText : Label → List ℕ
 headText l = kindText (l .kind) ++ openText (shapeOf (l .kind)) (l .param) (l .scale) (l .zone)
+
+-- The text of a row with nothing below it.
+unfoldable pub singleText : Label → List ℕ
+singleText l = headText l ++ closeText (shapeOf (l .kind)) (l .param)
 
 unfoldable pub rowText : Label → List Label → List Shown → List ℕ
 rowText l kids ks =

@@ -26,7 +26,7 @@ use datatype::rows::ZONE_START;
 use datatype::zone;
 
 // The greater of two bytes.
-fn greater(a: u8, b: u8) -> u8
+pub(crate) fn greater(a: u8, b: u8) -> u8
     ensures { λ r. ⌜ r ≡ max a b ⌝ }
 {
     if a < b {

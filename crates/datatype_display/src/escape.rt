@@ -1,10 +1,10 @@
 // Double-quoted strings, written as Rust's `{:?}` writes them.
 ghost use mathlib.Core.Path.{_≡_};
 ghost use mathlib.Core.List.{[], _∷_, _++_};
-ghost use Prim.Native.Nat.{_<_};
-ghost use Rattle.tokenizer.specs.Text.{all};
+ghost use Prim.Native.Nat.{_+_, _≤_, _<_};
+ghost use lib.ListN.{length};
 ghost use Rattle.datatype_display.specs.Display.{hexDigit, escape, escaped, quoted};
-ghost use Rattle.datatype_display.specs.Steps.{Put, unicodeText, isItself};
+ghost use Rattle.datatype_display.specs.Steps.{Put, CopiedPlain, unicodeText, isItself};
 use crate::write::put;
 use crate::write::put_byte;
 
@@ -88,18 +88,22 @@ fn is_itself(c: u8) -> bool
     c != 34
 }
 
-// Whether all bytes are written as they are.
-fn are_themselves(s: &[u8]) -> bool
-    ensures { λ r. ⌜ r ≡ all isItself (now (s .entry)) ⌝ }
+// Copies bytes, up to the first that is not written as it is, to a place that has room for all of them, and answers how
+// many they were.
+fn copy_plain(out: &mut [u8], at: usize, s: &[u8]) -> usize
+    requires { ⌜ at + length (now s) ≤ length (now out) ⌝ }
+    ensures { λ r. ⌜ CopiedPlain (now (out .entry)) at (now (s .entry)) r (now (out .exit)) ⌝ }
 {
     let mut i = 0;
     while i < s.len() {
-        if !is_itself(s[i]) {
-            return false;
+        let c = s[i];
+        if !is_itself(c) {
+            return i;
         }
+        out[at + i] = c;
         i += 1;
     }
-    true
+    i
 }
 
 // Writes a string byte by byte.
@@ -115,14 +119,21 @@ fn put_escaped(out: &mut [u8], at: usize, s: &[u8]) -> usize
     next
 }
 
-// Writes what stands between the marks: at once where nothing is to be escaped.
+// Writes what stands between the marks: at once up to what is to be escaped, if anything is.
 fn put_between(out: &mut [u8], at: usize, s: &[u8]) -> usize
     ensures { λ r. ⌜ Put (now (out .entry)) at (escaped (now (s .entry))) r (now (out .exit)) ⌝ }
 {
-    if are_themselves(s) {
-        return put(out, at, s);
+    if out.len() < at {
+        return put_escaped(out, at, s);
     }
-    put_escaped(out, at, s)
+    if out.len() - at < s.len() {
+        return put_escaped(out, at, s);
+    }
+    let n = copy_plain(out, at, s);
+    if n == s.len() {
+        return at + n;
+    }
+    put_escaped(out, at + n, &s[n..])
 }
 
 // Writes a string in double quotes.

@@ -6,7 +6,7 @@ use Prim.Native.Nat.{ℕ, zero, suc, _+_, _-_, _*_, _≤_, _<_}
 use native.Mathlib.Omega.{arith}
 use lib.ListN.{length, getD, length-map}
 use lib.Dec.{T, leb, ltb, eqb, eqb→eq, eqb·suc-suc}
-use borrow.Author.Tests.{le-leb, lt-leb, eq-eqb, ne-eqb, eqb-true, leb-true, ltb-true, ltb-false}
+use borrow.Author.Tests.{le-leb, lt-leb, lt-ltb, le-ltb, eq-eqb, ne-eqb, eqb-true, leb-true, ltb-true, ltb-false}
 use Rattle.tokenizer.specs.Text.{if_then_else_}
 use Rattle.tokenizer.proofs.Basics.{and-r, is-true, of-true}
 use Rattle.datatype.specs.Kind.{Shape, leaf, timestamp, time, interval, fixed, list, fixedList, struct, union, dictionary, decimal, mapping, runEnds, kinds, shapeOf, keyRefusal, entriesRefusal, idsFit}
@@ -14,7 +14,7 @@ use Rattle.datatype.specs.Tree.{Forest, ∅, node, count, roots, Row}
 use Rattle.datatype.specs.Table.{rowWords}
 use Rattle.row_table.specs.Sound.{noChild, oneChild, twoChildren, arityFits, rulesOf}
 use Rattle.row_table.specs.Run.{sizeAt, rowAt, forestAt, Nests}
-use Rattle.row_table.specs.Check.{isList, entriesOk, firstNonNull, overKids, childrenFit}
+use Rattle.row_table.specs.Check.{isDecimal, isList, entriesOk, firstNonNull, overKids, childrenFit}
 use Rattle.datatype.proofs.Tests.{iff-eq, allBelow, below-at, sameBool, same-bool}
 use Rattle.datatype.proofs.KindLaws.{past-kinds}
 use Rattle.row_table.proofs.Runs.{Turn, turn, forest-none, count-forest}
@@ -317,3 +317,19 @@ module _ (k : ℕ) (f : Forest Row) where
   pub kids-leaf : (r : Bool) → (k ≡ 32 → ⊥) → (k ≡ 33 → ⊥) → (k ≡ 34 → ⊥) → isList k ≡ false → (k ≡ 39 → ⊥) → (k ≡ 40 → ⊥) → r ≡ eqb (length (roots f)) 0 → r ≡ childrenFit k f
   unfolding childrenFit
   kids-leaf r a b c d p q e = e ∙ sym (leaf-kids (shapeOf k) f (leaf-at a b c d p q))
+
+-- ---- kinds that may have no children
+
+childless : T (allBelow kinds (λ k. sameBool (ltb k 27 || eqb k 32 || eqb k 33 || isDecimal k) (childrenFit k ∅)))
+unfolding sameBool isDecimal childrenFit rulesOf shapeOf arityFits idsFit
+childless = tt
+
+module _ (k : ℕ) (h : k < kinds) where
+  childless-is : (ltb k 27 || eqb k 32 || eqb k 33 || isDecimal k) ≡ childrenFit k ∅
+  childless-is = same-bool (ltb k 27 || eqb k 32 || eqb k 33 || isDecimal k) (childrenFit k ∅) (below-at kinds (λ i. sameBool (ltb i 27 || eqb i 32 || eqb i 33 || isDecimal i) (childrenFit i ∅)) childless k h)
+
+  pub childless-low : k < 27 → true ≡ childrenFit k ∅
+  childless-low l = rw (lt-ltb k 27 l) at childless-is
+
+  pub childless-rest : 27 ≤ k → (k ≡ 32 → ⊥) → (k ≡ 33 → ⊥) → isDecimal k ≡ childrenFit k ∅
+  childless-rest l a b = rw (le-ltb k 27 l, ne-eqb k 32 a, ne-eqb k 33 b) at childless-is

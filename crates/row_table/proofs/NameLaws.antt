@@ -1,52 +1,79 @@
 -- What the functions of `names.rt` look at: the name list, parts that cut no character, names and zones.
 use mathlib.Core.Path.{_≡_, refl, sym, ap, _∙_}
-use mathlib.Core.Bool.{Bool, true, false, not, _&&_, _||_, or-false, and-assoc}
+use mathlib.Core.Bool.{Bool, true, false, not, _&&_, _||_, or-false}
 use mathlib.Core.List.{List, [], _∷_, _++_}
-use Prim.Native.Nat.{ℕ, zero, suc, _+_, _≤_, _<_}
+use Prim.Native.Nat.{ℕ, zero, suc, _+_, _*_, _≤_, _<_}
 use native.Mathlib.Omega.{arith}
 use lib.ListN.{length, take, drop, getD, take-append-drop, length-drop}
 use lib.Seq.{take-all, length-take-le, drop-drop}
-use lib.Dec.{T, leb, eqb}
+use lib.Dec.{T, leb, ltb, eqb, ltb→lt, eqb→eq}
 use borrow.Author.Tests.{le-leb, lt-leb, eq-eqb, ne-eqb, leb-true, leb-false}
-use Rattle.tokenizer.specs.Text.{same, bytes}
+use Rattle.tokenizer.specs.Text.{same, bytes, all}
+use Rattle.tokenizer.specs.Keys.{packed}
 use Rattle.tokenizer.specs.Utf8.{isUtf8}
-use Rattle.tokenizer.proofs.Basics.{is-false}
+use Rattle.tokenizer.proofs.Basics.{is-false, of-true, and-l, and-r, both}
+use Rattle.tokenizer.proofs.Listed.{bytes-all}
 use Rattle.datatype.specs.Kind.{kinds, shapeOf}
 use Rattle.datatype.specs.Tree.{nameList}
 use Rattle.row_table.specs.Sound.{isListed, rulesOf}
 use Rattle.row_table.specs.Check.{placeOf, boundary, partFits, nameOk, zoneOk}
-use Rattle.datatype.proofs.Tests.{allBelow, below-at}
+use Rattle.datatype.proofs.Same.{same-eq, eq-same}
+use Rattle.datatype.proofs.Tests.{iff-eq, false-of, allBelow, below-at}
 use Rattle.row_table.proofs.Boundary.{boundary-low, boundary-high, boundary-inside, boundary-end, part-utf8}
 
 -- ---- the name list
 
-same-append : (a b c d : List ℕ) → length a ≡ length c → same (a ++ b) (c ++ d) ≡ (same a c && same b d)
-same-append [] b [] d e = refl
-same-append [] b (y ∷ c) d e = absurd (omega arith)
-same-append (x ∷ a) b [] d e = absurd (omega arith)
-same-append (x ∷ a) b (y ∷ c) d e = rw (same-append a b c d (omega arith)) (sym (and-assoc (eqb x y) (same a c) (same b d)))
+abbrev isByte : ℕ → Bool
+isByte b = ltb b 256
 
-module _ (names : List ℕ) (e : length names ≡ 18) where
-  -- its three parts
-  list-parts : same names nameList ≡ (same (take 4 names) (bytes "item") && (same (take 8 (drop 4 names)) (bytes "run_ends") && same (take 6 (drop 12 names)) (bytes "values")))
-  list-parts =
-      let all-left : take 6 (drop 12 names) ≡ drop 12 names = take-all 6 (drop 12 names) (omega (arith, length-drop 12 names)) in
-      let behind : drop 4 names ≡ take 8 (drop 4 names) ++ drop 12 names = sym (take-append-drop 8 (drop 4 names)) ∙ ap (λ (l : List ℕ). take 8 (drop 4 names) ++ l) (drop-drop 8 4 names) in
-      let whole : names ≡ take 4 names ++ (take 8 (drop 4 names) ++ drop 12 names) = sym (take-append-drop 4 names) ∙ ap (λ (l : List ℕ). take 4 names ++ l) behind in
-      ap (λ (l : List ℕ). same l nameList) whole
-      ∙ same-append (take 4 names) (take 8 (drop 4 names) ++ drop 12 names) (bytes "item") (bytes "run_endsvalues") (length-take-le 4 names (omega arith))
-      ∙ ap (λ (t : Bool). same (take 4 names) (bytes "item") && t)
-      (same-append (take 8 (drop 4 names)) (drop 12 names) (bytes "run_ends") (bytes "values") (length-take-le 8 (drop 4 names) (omega (arith, length-drop 4 names)))
-      ∙ ap (λ (l : List ℕ). same (take 8 (drop 4 names)) (bytes "run_ends") && same l (bytes "values")) (sym all-left))
+all-take : (n : ℕ) (w : List ℕ) → T (all isByte w) → T (all isByte (take n w))
+all-take zero w t = tt
+all-take (suc n) [] t = tt
+all-take (suc n) (b ∷ w) t = both (isByte b) (all isByte (take n w)) (and-l (isByte b) (all isByte w) t) (all-take n w (and-r (isByte b) (all isByte w) t))
 
-  pub list-1 : same (take 4 names) (bytes "item") ≡ false → false ≡ same names nameList
-  list-1 p = sym (list-parts ∙ ap (λ (t : Bool). t && (same (take 8 (drop 4 names)) (bytes "run_ends") && same (take 6 (drop 12 names)) (bytes "values"))) p)
+all-drop : (n : ℕ) (w : List ℕ) → T (all isByte w) → T (all isByte (drop n w))
+all-drop zero w t = t
+all-drop (suc n) [] t = tt
+all-drop (suc n) (b ∷ w) t = all-drop n w (and-r (isByte b) (all isByte w) t)
 
-  pub list-2 : same (take 4 names) (bytes "item") ≡ true → same (take 8 (drop 4 names)) (bytes "run_ends") ≡ false → false ≡ same names nameList
-  list-2 p q = sym (list-parts ∙ λ j. p j && (q j && same (take 6 (drop 12 names)) (bytes "values")))
+-- bytes that are the same number are the same, if there are equally many
+unpack : (s u : List ℕ) (v w : ℕ) → T (all isByte s) → T (all isByte u) → length s ≡ length u → packed v s ≡ packed w u → (v ≡ w) × (s ≡ u)
+unfolding packed
+unpack [] [] v w a b l e = (e, refl)
+unpack [] (y ∷ u) v w a b l e = absurd (omega arith)
+unpack (x ∷ s) [] v w a b l e = absurd (omega arith)
+unpack (x ∷ s) (y ∷ u) v w a b l e =
+    let i = unpack s u (v * 256 + x) (w * 256 + y) (and-r (isByte x) (all isByte s) a) (and-r (isByte y) (all isByte u) b) (omega arith) e in
+    let f = i .0 in
+    let g = ltb→lt x 256 (and-l (isByte x) (all isByte s) a) in
+    let h = ltb→lt y 256 (and-l (isByte y) (all isByte u) b) in
+    let p : x ≡ y = omega arith in
+    let q = i .1 in
+    (omega arith, λ j. p j ∷ q j)
 
-  pub list-3 : same (take 4 names) (bytes "item") ≡ true → same (take 8 (drop 4 names)) (bytes "run_ends") ≡ true → same (take 6 (drop 12 names)) (bytes "values") ≡ same names nameList
-  list-3 p q = sym (list-parts ∙ λ j. p j && (q j && same (take 6 (drop 12 names)) (bytes "values")))
+module _ (names : List ℕ) where
+  -- the number of a part that is not the default's
+  pub list-part : (from size v w : ℕ) → v ≡ packed 0 (take size (drop from names)) → w ≡ packed 0 (take size (drop from nameList)) → (v ≡ w → ⊥) → false ≡ same names nameList
+  list-part from size v w p q d = false-of (same names nameList) (λ t. d (p ∙ ap (λ (l : List ℕ). packed 0 (take size (drop from l))) (same-eq names nameList t) ∙ sym q))
+
+  module _ (e : length names ≡ 18) (h : (i : ℕ) → getD names i 0 < 256) where
+    list-is : (from size v : ℕ) (u : List ℕ) → T (all isByte u) → from + size ≤ 18 → length u ≡ size → v ≡ packed 0 (take size (drop from names)) → v ≡ packed 0 u → take size (drop from names) ≡ u
+    list-is from size v u b l k p q =
+        unpack (take size (drop from names)) u 0 0 (all-take size (drop from names) (all-drop from names (bytes-all names h))) b (length-take-le size (drop from names) (omega (arith, length-drop from names)) ∙ sym k) (sym p ∙ q) .1
+
+    pub list-last : (a b c : ℕ) → a ≡ packed 0 (take 8 names) → a ≡ packed 0 (bytes "itemrun_") → b ≡ packed 0 (take 8 (drop 8 names)) → b ≡ packed 0 (bytes "endsvalu")
+        → c ≡ packed 0 (take 2 (drop 16 names)) → eqb c (packed 0 (bytes "es")) ≡ same names nameList
+    list-last a b c pa qa pb qb pc =
+        iff-eq (eqb c (packed 0 (bytes "es"))) (same names nameList) (λ t. eq-same names nameList (whole t)) (λ t. of-true _ (eq-eqb c (packed 0 (bytes "es")) (pc ∙ ap (λ (l : List ℕ). packed 0 (take 2 (drop 16 l))) (same-eq names nameList t))))
+      where
+        whole : T (eqb c (packed 0 (bytes "es"))) → names ≡ nameList
+        whole t =
+            let x : take 8 names ≡ bytes "itemrun_" = list-is 0 8 a (bytes "itemrun_") tt (omega arith) refl pa qa in
+            let y : take 8 (drop 8 names) ≡ bytes "endsvalu" = list-is 8 8 b (bytes "endsvalu") tt (omega arith) refl pb qb in
+            let z : take 2 (drop 16 names) ≡ bytes "es" = list-is 16 2 c (bytes "es") tt (omega arith) refl pc (eqb→eq c (packed 0 (bytes "es")) t) in
+            let rest : drop 16 names ≡ bytes "es" = sym (take-all 2 (drop 16 names) (omega (arith, length-drop 16 names))) ∙ z in
+            let behind : drop 8 names ≡ bytes "endsvalues" = sym (take-append-drop 8 (drop 8 names)) ∙ (λ j. y j ++ (drop-drop 8 8 names ∙ rest) j) in
+            sym (take-append-drop 8 names) ∙ λ j. x j ++ behind j
 
 -- ---- places between characters
 

@@ -1,16 +1,19 @@
 -- What the functions of `rules.rt` say of every kind: a rule of the table of shapes is one computed test.
 use mathlib.Core.Path.{_≡_, refl, sym, ap, _∙_}
 use mathlib.Core.Bool.{Bool, true, false, _&&_, _||_, and-true, false≢true}
+use mathlib.Core.List.{List, [], _∷_}
 use Prim.Native.Nat.{ℕ, _+_, _≤_, _<_}
 use native.Mathlib.Omega.{arith}
 use lib.Dec.{T, leb, ltb, eqb, leb→le, ltb→lt, lt→ltb, eqb→eq}
 use borrow.Author.Tests.{le-leb, lt-leb, lt-ltb, le-ltb, ne-eqb, ltb-true, ltb-false}
 use Rattle.tokenizer.proofs.Basics.{and-l, and-r, both}
-use Rattle.datatype.specs.Kind.{Shape, leaf, timestamp, time, interval, fixed, list, fixedList, struct, union, dictionary, decimal, mapping, runEnds, kinds, shapeOf, unitFits, maxPrecision, decimalFits}
+use Rattle.datatype.specs.Kind.{Shape, leaf, timestamp, time, interval, fixed, list, fixedList, struct, union, dictionary, decimal, mapping, runEnds, kinds, shapeOf, unitFits, maxPrecision, decimalFits, has}
 use Rattle.row_table.specs.Sound.{Place, bare, field, unionField, rulesOf}
 use Rattle.row_table.specs.Check.{placeOf, belowOf, isDecimal, ownShape, numbersFit}
 use Rattle.datatype.proofs.Tests.{iff-eq, allBelow, below-at, sameBool, same-bool}
 use Rattle.datatype.proofs.KindLaws.{past-kinds}
+use Rattle.datatype.proofs.ShapeLaws.{none-has}
+use Rattle.tokenizer.proofs.Listed.{NoneOf}
 
 -- ---- the four decimals
 
@@ -67,26 +70,40 @@ small-precisions = tt
 -- ---- word 4
 
 -- the kinds whose word 4 has more than one value
-abbrev hasParam : ℕ → Bool
-hasParam k = eqb k 13 || eqb k 16 || eqb k 17 || eqb k 18 || eqb k 19 || eqb k 21 || eqb k 29 || eqb k 33 || eqb k 39 || isDecimal k
+abbrev pub withParam : List ℕ
+withParam = 13 ∷ 16 ∷ 17 ∷ 18 ∷ 19 ∷ 21 ∷ 29 ∷ 33 ∷ 35 ∷ 36 ∷ 37 ∷ 38 ∷ 39 ∷ []
 
-one-param : T (allBelow kinds (λ k. hasParam k || eqb ((rulesOf (shapeOf k)) .params) 1))
-unfolding rulesOf shapeOf isDecimal
+one-param : T (allBelow kinds (λ k. has k withParam || eqb ((rulesOf (shapeOf k)) .params) 1))
+unfolding rulesOf shapeOf
 one-param = tt
 
+low-param : T (allBelow 13 (λ k. eqb ((rulesOf (shapeOf k)) .params) 1))
+unfolding rulesOf shapeOf
+low-param = tt
+
 module _ (k : ℕ) where
+  pub params-low : k < 13 → 1 ≡ (rulesOf (shapeOf k)) .params
+  params-low h = sym (eqb→eq ((rulesOf (shapeOf k)) .params) 1 (below-at 13 (λ m. eqb ((rulesOf (shapeOf m)) .params) 1) low-param k h))
+
   pub params-at : (n v : ℕ) → k ≡ n → v ≡ (rulesOf (shapeOf n)) .params → v ≡ (rulesOf (shapeOf k)) .params
   params-at n v e h = rw e h
 
-  pub params-decimal : k < kinds → isDecimal k ≡ true → 256 ≡ (rulesOf (shapeOf k)) .params
-  unfolding rulesOf
-  params-decimal h e = rw (is-decimal (shapeOf k) (decimal-shape k h ∙ e))
+  pub params-one : k < kinds → NoneOf k (Unit {0}) withParam → 1 ≡ (rulesOf (shapeOf k)) .params
+  params-one h n =
+      sym (eqb→eq ((rulesOf (shapeOf k)) .params) 1 (rw (none-has k (Unit {0}) withParam n .1) at (below-at kinds (λ m. has m withParam || eqb ((rulesOf (shapeOf m)) .params) 1) one-param k h)))
 
-  pub params-one : k < kinds → (k ≡ 13 → ⊥) → (k ≡ 16 → ⊥) → (k ≡ 17 → ⊥) → (k ≡ 18 → ⊥) → (k ≡ 19 → ⊥) → (k ≡ 21 → ⊥) → (k ≡ 29 → ⊥) → (k ≡ 33 → ⊥) → (k ≡ 39 → ⊥)
-      → isDecimal k ≡ false → 1 ≡ (rulesOf (shapeOf k)) .params
-  params-one h a b c d e f g i j l =
-      let t : T (hasParam k || eqb ((rulesOf (shapeOf k)) .params) 1) = below-at kinds (λ m. hasParam m || eqb ((rulesOf (shapeOf m)) .params) 1) one-param k h in
-      sym (eqb→eq ((rulesOf (shapeOf k)) .params) 1 (rw (ne-eqb k 13 a, ne-eqb k 16 b, ne-eqb k 17 c, ne-eqb k 18 d, ne-eqb k 19 e, ne-eqb k 21 f, ne-eqb k 29 g, ne-eqb k 33 i, ne-eqb k 39 j, l) at t))
+  -- a kind whose word 4 has one value
+  module _ (m : ℕ) (h : k < kinds) (one : m ≡ 1) (is : m ≡ (rulesOf (shapeOf k)) .params) where
+    pub one-plain : isDecimal k ≡ false
+    unfolding rulesOf
+    one-plain = go (isDecimal k) refl
+      where
+        go : (t : Bool) → isDecimal k ≡ t → t ≡ false
+        go true e = let d = rw (is-decimal (shapeOf k) (decimal-shape k h ∙ e)) at is in absurd (omega arith)
+        go false e = refl
+
+    pub one-not : (n v : ℕ) → v ≡ (rulesOf (shapeOf n)) .params → 1 < v → k ≡ n → ⊥
+    one-not n v p l e = let d = params-at n v e p in omega arith
 
 -- ---- words 4 and 5
 
@@ -171,6 +188,15 @@ module _ (k p s : ℕ) where
   pub numbers-scaled : k < kinds → isDecimal k ≡ false → 0 < s → false ≡ numbersFit k p s
   unfolding numbersFit
   numbers-scaled h e l = sym (scales-one (shapeOf k) (decimal-shape k h ∙ e) l)
+
+  -- word 4 has one value: 0
+  module _ (m : ℕ) (h : k < kinds) (one : m ≡ 1) (is : m ≡ (rulesOf (shapeOf k)) .params) where
+    pub numbers-one-scaled : 0 < s → false ≡ numbersFit k p s
+    numbers-one-scaled l = numbers-scaled h (one-plain k m h one is) l
+
+    pub numbers-one : s ≤ 0 → ltb p m ≡ numbersFit k p s
+    unfolding rulesOf shapeOf
+    numbers-one z = numbers-rest m h (one-plain k m h one is) z (one-not k m h one is 16 4 refl (omega arith)) (one-not k m h one is 17 4 refl (omega arith)) is
 
 -- ---- the place of a kind's children
 

@@ -6,8 +6,8 @@ use mathlib.Core.Option.{Option, none, some}
 use Prim.Native.Nat.{ℕ, zero, suc, _+_, _-_, _*_, _/_, _≤_, _<_}
 use native.Mathlib.Omega.{arith}
 use lib.ListN.{length, getD}
-use lib.Dec.{T, ltb, eqb, ltb→lt}
-use borrow.Author.Tests.{le-leb, lt-leb, lt-ltb}
+use lib.Dec.{T, leb, ltb, eqb, ltb→lt}
+use borrow.Author.Tests.{le-leb, lt-leb, lt-ltb, ne-eqb, eqb-true, eqb-false, leb-true, leb-false}
 use Rattle.tokenizer.specs.Text.{same}
 use Rattle.tokenizer.specs.Utf8.{isUtf8}
 use Rattle.tokenizer.proofs.Basics.{of-true}
@@ -20,7 +20,7 @@ use Rattle.row_table.specs.Check.{placeOf, belowOf, numbersFit, nameOk, 
 use Rattle.datatype.proofs.Table.{table-view}
 use Rattle.datatype.proofs.Same.{same-eq}
 use Rattle.datatype.proofs.Tests.{iff-eq, false-of}
-use Rattle.row_table.proofs.Runs.{run-step, run-none, no-rows, run-all, run-is, view-rows}
+use Rattle.row_table.proofs.Runs.{run-step, run-none, no-rows, forest-none, run-all, run-is, view-rows}
 use Rattle.row_table.proofs.SoundTree.{SoundTree, sound-tree, tree-sound, sound-count}
 use Rattle.row_table.proofs.Clauses.{own-of, Run, run-of, of-run, run-in, run-out}
 
@@ -30,11 +30,17 @@ clash false e t = t
 
 -- ---- one row
 
-pub id-low : (place id : ℕ) → place < 2 → eqb id 0 ≡ idFits (placeOf place) id
+pub id-none : (place id : ℕ) → id ≡ 0 → true ≡ idFits (placeOf place) id
 unfolding idFits
-id-low zero id h = refl
-id-low (suc zero) id h = refl
-id-low (suc (suc n)) id h = absurd (omega arith)
+id-none zero id e = rw e
+id-none (suc zero) id e = rw e
+id-none (suc (suc n)) id e = rw e
+
+pub id-low : (place id : ℕ) → (id ≡ 0 → ⊥) → place < 2 → false ≡ idFits (placeOf place) id
+unfolding idFits
+id-low zero id d h = sym (ne-eqb id 0 d)
+id-low (suc zero) id d h = sym (ne-eqb id 0 d)
+id-low (suc (suc n)) id d h = absurd (omega arith)
 
 pub id-union : (place id : ℕ) → 2 ≤ place → ltb id 128 ≡ idFits (placeOf place) id
 unfolding idFits
@@ -110,6 +116,11 @@ no-level text place (node r k n) h = rw (lt-leb (depth (node r k n)) 0 (omega ar
 
 -- ---- the loop over a run, in the code's terms
 
+-- the loop ends
+pub turn-end : (text : List ℕ) (place : Place) (level : ℕ) (table : List ℕ) (at end : ℕ) → end ≤ at → runFits text place level (runAt table at (end - at)) ≡ true
+unfolding runFits placed labels rowsFit
+turn-end text place level table at end h = let e : end - at ≡ 0 = omega arith in rw (e, no-rows table at, le-leb 0 level (omega arith))
+
 module _ (text : List ℕ) (place : Place) (level : ℕ) (table : List ℕ) (at end : ℕ) (room : rowWords * end ≤ length table) (go : at < end) where
   abbrev here : Bool
   here = runFits text place level (runAt table at (end - at))
@@ -158,22 +169,13 @@ module _ (text : List ℕ) (place : Place) (level : ℕ) (table : List ℕ) (at 
         here-is : here ≡ runFits text place (suc (level - 1)) (join (rowAt table at) below behind)
         here-is = ap (λ (n : ℕ). runFits text place n (runAt table at (end - at))) deeper ∙ ap (runFits text place (suc (level - 1))) parts
 
-        pub turn-row : ownFits text place (rowAt table at) ≡ false → here ≡ false
-        turn-row e = here-is ∙ join-own text place (level - 1) (rowAt table at) below behind e
+        sized-row : ownFits text place (rowAt table at) ≡ false → here ≡ false
+        sized-row e = here-is ∙ join-own text place (level - 1) (rowAt table at) below behind e
 
-        module _ (k p : ℕ) (ek : k ≡ getD table (rowWords * at + 0) 0) (ep : placeOf p ≡ belowOf k) where
+        module _ (k : ℕ) (ek : k ≡ getD table (rowWords * at + 0) 0) where
           kind-is : k ≡ (rowAt table at) .kind
           unfolding rowAt
           kind-is = ek
-
-          place-is : placeOf p ≡ belowOf ((rowAt table at) .kind)
-          place-is = ep ∙ ap belowOf kind-is
-
-          pub turn-below : runFits text (placeOf p) (level - 1) below ≡ false → here ≡ false
-          turn-below e = here-is ∙ join-below text place (level - 1) (rowAt table at) below behind (rw (← place-is) e)
-
-          pub turn-nests : runFits text (placeOf p) (level - 1) below ≡ true → Nests table (at + 1) (at + s - (at + 1)) × (at + 1 ≤ at + s)
-          turn-nests e = (record { room = omega arith; whole = fits-run text (placeOf p) (level - 1) below e }, omega arith)
 
           kids-are : childrenFit k (forestAt table (at + 1) (at + s - (at + 1))) ≡ childrenFit ((rowAt table at) .kind) (runOr below)
           unfolding forestAt
@@ -182,16 +184,55 @@ module _ (text : List ℕ) (place : Place) (level : ℕ) (table : List ℕ) (at 
           pub turn-kids : childrenFit k (forestAt table (at + 1) (at + s - (at + 1))) ≡ false → here ≡ false
           turn-kids e = here-is ∙ join-kids text place (level - 1) (rowAt table at) below behind (sym kids-are ∙ e)
 
-          pub turn-go : ownFits text place (rowAt table at) ≡ true → runFits text (placeOf p) (level - 1) below ≡ true → childrenFit k (forestAt table (at + 1) (at + s - (at + 1))) ≡ true
+          whole-go : ownFits text place (rowAt table at) ≡ true → runFits text (belowOf ((rowAt table at) .kind)) (level - 1) below ≡ true → childrenFit k (forestAt table (at + 1) (at + s - (at + 1))) ≡ true
               → here ≡ runFits text place level behind
-          turn-go o b c =
-              here-is ∙ join-go text place (level - 1) (rowAt table at) below behind o (rw (← place-is) b) (sym kids-are ∙ c)
+          whole-go o b c =
+              here-is ∙ join-go text place (level - 1) (rowAt table at) below behind o b (sym kids-are ∙ c)
               ∙ ap (λ (n : ℕ). runFits text place n behind) (sym deeper)
 
--- the loop ends
-pub turn-end : (text : List ℕ) (place : Place) (level : ℕ) (table : List ℕ) (at end : ℕ) → end ≤ at → runFits text place level (runAt table at (end - at)) ≡ true
-unfolding runFits placed labels rowsFit
-turn-end text place level table at end h = let e : end - at ≡ 0 = omega arith in rw (e, no-rows table at, le-leb 0 level (omega arith))
+          module _ (p : ℕ) (ep : placeOf p ≡ belowOf k) where
+            place-is : placeOf p ≡ belowOf ((rowAt table at) .kind)
+            place-is = ep ∙ ap belowOf kind-is
+
+            pub turn-below : runFits text (placeOf p) (level - 1) below ≡ false → here ≡ false
+            turn-below e = here-is ∙ join-below text place (level - 1) (rowAt table at) below behind (rw (← place-is) e)
+
+            pub turn-nests : runFits text (placeOf p) (level - 1) below ≡ true → Nests table (at + 1) (at + s - (at + 1)) × (at + 1 ≤ at + s)
+            turn-nests e = (record { room = omega arith; whole = fits-run text (placeOf p) (level - 1) below e }, omega arith)
+
+            pub turn-go : ownFits text place (rowAt table at) ≡ true → runFits text (placeOf p) (level - 1) below ≡ true → childrenFit k (forestAt table (at + 1) (at + s - (at + 1))) ≡ true
+                → here ≡ runFits text place level behind
+            turn-go o b c = whole-go o (rw (← place-is) b) c
+
+  -- a row that does not fit, whatever its size
+  pub turn-row : (level ≡ 0 → ⊥) → ownFits text place (rowAt table at) ≡ false → here ≡ false
+  turn-row l e = by-size (eqb (sizeAt table at) 0) refl (leb (sizeAt table at) (end - at)) refl
+    where
+      by-size : (x : Bool) → eqb (sizeAt table at) 0 ≡ x → (y : Bool) → leb (sizeAt table at) (end - at) ≡ y → here ≡ false
+      by-size true x y f = turn-empty (sizeAt table at) refl (eqb-true (sizeAt table at) 0 x)
+      by-size false x true y = sized-row (sizeAt table at) refl (eqb-false (sizeAt table at) 0 x) (leb-true (sizeAt table at) (end - at) y) l e
+      by-size false x false y = turn-long (sizeAt table at) refl (leb-false (sizeAt table at) (end - at) y)
+
+  module _ (k : ℕ) (ek : k ≡ getD table (rowWords * at + 0) 0) where
+    pub turn-kind : ownFits text place (rowAt table at) ≡ true → k < kinds
+    unfolding rowAt
+    turn-kind o = rw ek (ltb→lt ((rowAt table at) .kind) kinds (own-of text place (rowAt table at) ∅ (of-true _ o) .kind))
+
+    -- a row of one
+    module _ (s : ℕ) (is : s ≡ sizeAt table at) (one : s ≡ 1) (some-level : level ≡ 0 → ⊥) where
+      some-rows : s ≡ 0 → ⊥
+      some-rows e = omega arith
+
+      no-kids : childrenFit k (forestAt table (at + 1) (at + s - (at + 1))) ≡ childrenFit k ∅
+      no-kids = let z : at + s - (at + 1) ≡ 0 = omega arith in rw (z, forest-none table (at + 1))
+
+      pub turn-full : childrenFit k ∅ ≡ false → here ≡ false
+      turn-full e = turn-kids s is some-rows (omega arith) some-level k ek (no-kids ∙ e)
+
+      pub turn-leaf : ownFits text place (rowAt table at) ≡ true → childrenFit k ∅ ≡ true → here ≡ runFits text place level (runAt table (at + 1) (end - (at + 1)))
+      turn-leaf o e =
+          whole-go s is some-rows (omega arith) some-level k ek o (turn-end text (belowOf ((rowAt table at) .kind)) (level - 1) table (at + 1) (at + s) (omega arith)) (no-kids ∙ e)
+          ∙ ap (λ (n : ℕ). runFits text place level (runAt table (at + n) (end - (at + n)))) one
 
 -- ---- a whole table
 

@@ -1,14 +1,16 @@
 // What a kind asks of its children: how many there are, and what some shapes ask besides.
 ghost use mathlib.Core.Path.{_≡_};
-ghost use Prim.Native.Nat.{_-_, _≤_};
+ghost use Prim.Native.Nat.{_-_, _≤_, _<_};
 ghost use lib.ListN.{length};
 ghost use lib.Dec.{eqb};
-ghost use Rattle.datatype.specs.Tree.{roots};
+ghost use Rattle.datatype.specs.Kind.{kinds};
+ghost use Rattle.datatype.specs.Tree.{∅, roots};
 ghost use Rattle.row_table.specs.Run.{Nests, forestAt};
 ghost use Rattle.row_table.specs.Check.{entriesOk, isList, childrenFit};
 use crate::ids::ids_fit;
 use crate::rows::subtree;
 use crate::rows::word;
+use crate::rules::is_decimal;
 use datatype::kind::DICTIONARY;
 use datatype::kind::LARGE_LIST_VIEW;
 use datatype::kind::LIST;
@@ -69,6 +71,23 @@ fn is_list(kind: u32) -> bool
         return false;
     }
     kind <= LARGE_LIST_VIEW
+}
+
+// Whether a row of a kind may have no children.
+pub(crate) fn is_childless(kind: u32) -> bool
+    requires { ⌜ kind < kinds ⌝ }
+    ensures { λ r. ⌜ r ≡ childrenFit kind ∅ ⌝ }
+{
+    if kind < LIST {
+        return true;
+    }
+    if kind == STRUCT {
+        return true;
+    }
+    if kind == UNION {
+        return true;
+    }
+    is_decimal(kind)
 }
 
 // Whether rows first to end can be the children of a row of a kind.

@@ -4,15 +4,35 @@ ghost use mathlib.Core.Bool.{_&&_};
 ghost use Prim.Native.Nat.{_≤_, _<_};
 ghost use lib.ListN.{length};
 ghost use lib.Dec.{T, eqb};
+ghost use Rattle.tokenizer.specs.Keys.{packed};
 ghost use Rattle.tokenizer.specs.Text.{same};
 ghost use Rattle.tokenizer.specs.Utf8.{isUtf8};
 ghost use Rattle.datatype.specs.Kind.{kinds, shapeOf};
 ghost use Rattle.datatype.specs.Tree.{nameList};
 ghost use Rattle.row_table.specs.Sound.{isListed, rulesOf};
 ghost use Rattle.row_table.specs.Check.{placeOf, boundary, partFits, nameOk, zoneOk};
-use datatype::Field;
-use datatype::equal_bytes;
 use datatype::kind::TIMESTAMP;
+
+// A byte as a number of 64 bits.
+fn wide(b: u8) -> u64
+    ensures { λ r. ⌜ r ≡ b ⌝ }
+{
+    b as u64
+}
+
+// At most eight bytes as one number.
+fn pack(part: &[u8]) -> u64
+    requires { ⌜ length (now part) ≤ 8 ⌝ }
+    ensures { λ r. ⌜ r ≡ packed 0 (now (part .entry)) ⌝ }
+{
+    let mut v: u64 = 0;
+    let mut i = 0;
+    while i < part.len() {
+        v = v * 256 + wide(part[i]);
+        i += 1;
+    }
+    v
+}
 
 // Whether a name list is the three default names, end to end.
 pub(crate) fn is_name_list(names: &[u8]) -> bool
@@ -21,13 +41,16 @@ pub(crate) fn is_name_list(names: &[u8]) -> bool
     if names.len() != 18 {
         return false;
     }
-    if !equal_bytes(&names[0..4], &Field::LIST_FIELD_DEFAULT_NAME) {
+    // itemrun_
+    if pack(&names[0..8]) != 0x6974656D72756E5F {
         return false;
     }
-    if !equal_bytes(&names[4..12], &Field::REE_RUN_ENDS_FIELD_DEFAULT_NAME) {
+    // endsvalu
+    if pack(&names[8..16]) != 0x656E647376616C75 {
         return false;
     }
-    equal_bytes(&names[12..18], &Field::REE_VALUES_FIELD_DEFAULT_NAME)
+    // es
+    pack(&names[16..18]) == 0x6573
 }
 
 // Whether a place of a text that is UTF-8 stands between two characters, or at an end.

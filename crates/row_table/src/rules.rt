@@ -6,6 +6,8 @@ ghost use Rattle.row_table.specs.Sound.{rulesOf};
 ghost use Rattle.row_table.specs.Check.{placeOf, belowOf, isDecimal, numbersFit};
 use datatype::Decimal;
 use datatype::kind::DECIMAL32;
+use datatype::kind::DECIMAL64;
+use datatype::kind::DECIMAL128;
 use datatype::kind::DECIMAL256;
 use datatype::kind::DICTIONARY;
 use datatype::kind::DURATION;
@@ -19,7 +21,7 @@ use datatype::kind::TIMESTAMP;
 use datatype::kind::UNION;
 
 // Whether a kind is one of the four decimals.
-fn is_decimal(kind: u32) -> bool
+pub(crate) fn is_decimal(kind: u32) -> bool
     ensures { λ r. ⌜ r ≡ isDecimal kind ⌝ }
 {
     if kind < DECIMAL32 {
@@ -33,37 +35,25 @@ fn params(kind: u32) -> u32
     requires { ⌜ kind < kinds ⌝ }
     ensures { λ r. ⌜ r ≡ (rulesOf (shapeOf kind)) .params ⌝ }
 {
-    if kind == TIMESTAMP {
-        return 4;
+    if kind < TIMESTAMP {
+        return 1;
     }
-    if kind == TIME32 {
-        return 4;
+    match kind {
+        TIMESTAMP => 4,
+        TIME32 => 4,
+        TIME64 => 4,
+        DURATION => 4,
+        INTERVAL => 3,
+        FIXED_SIZE_BINARY => 2147483648,
+        FIXED_SIZE_LIST => 2147483648,
+        UNION => 2,
+        DECIMAL32 => 256,
+        DECIMAL64 => 256,
+        DECIMAL128 => 256,
+        DECIMAL256 => 256,
+        MAP => 2,
+        _ => 1,
     }
-    if kind == TIME64 {
-        return 4;
-    }
-    if kind == DURATION {
-        return 4;
-    }
-    if kind == INTERVAL {
-        return 3;
-    }
-    if kind == FIXED_SIZE_BINARY {
-        return 2147483648;
-    }
-    if kind == FIXED_SIZE_LIST {
-        return 2147483648;
-    }
-    if kind == UNION {
-        return 2;
-    }
-    if kind == MAP {
-        return 2;
-    }
-    if is_decimal(kind) {
-        return 256;
-    }
-    1
 }
 
 // Whether words 4 and 5 are those of a kind.
@@ -71,6 +61,13 @@ pub(crate) fn numbers_fit(kind: u32, param: u32, scale: u32) -> bool
     requires { ⌜ kind < kinds ⌝ }
     ensures { λ r. ⌜ r ≡ numbersFit kind param scale ⌝ }
 {
+    let values = params(kind);
+    if values == 1 {
+        if 0 < scale {
+            return false;
+        }
+        return param < values;
+    }
     if is_decimal(kind) {
         let decimal = Decimal {
             precision: param,
@@ -90,7 +87,7 @@ pub(crate) fn numbers_fit(kind: u32, param: u32, scale: u32) -> bool
         }
         return param < 4;
     }
-    param < params(kind)
+    param < values
 }
 
 // The place of a kind's children: 0 bare, 1 fields, 2 fields of a union.

@@ -9,6 +9,7 @@ ghost use Rattle.row_table.specs.Sound.{idFits, isSound};
 ghost use Rattle.row_table.specs.Run.{rowAt, runAt};
 ghost use Rattle.row_table.specs.Check.{placeOf, ownFits, runFits};
 use crate::children::children_fit;
+use crate::children::is_childless;
 use crate::names::is_name_list;
 use crate::names::name_fits;
 use crate::names::zone_fits;
@@ -36,8 +37,11 @@ use datatype::rows::ZONE_START;
 fn id_fits(place: u32, id: u32) -> bool
     ensures { λ r. ⌜ r ≡ idFits (placeOf place) id ⌝ }
 {
+    if id == 0 {
+        return true;
+    }
     if place < 2 {
-        return id == 0;
+        return false;
     }
     id < 128
 }
@@ -87,17 +91,24 @@ fn run_fits(text: &[u8], rows: &[u32], place: u32, level: usize, start: usize, e
         if level == 0 {
             return false;
         }
+        if !row_fits(text, rows, place, at) {
+            return false;
+        }
+        let kind = word(rows, at, KIND);
         let size = subtree(rows, at);
+        if size == 1 {
+            if !is_childless(kind) {
+                return false;
+            }
+            at = at + 1;
+            continue;
+        }
         if size == 0 {
             return false;
         }
         if end - at < size {
             return false;
         }
-        if !row_fits(text, rows, place, at) {
-            return false;
-        }
-        let kind = word(rows, at, KIND);
         if !run_fits(text, rows, below(kind), level - 1, at + 1, at + size) {
             return false;
         }
