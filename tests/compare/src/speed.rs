@@ -24,29 +24,30 @@ fn read() {
     println!(
         "nanoseconds for one text: the fastest of {ROUNDS} rounds. The port is lent 1,024 rows,"
     );
-    println!("or just the rows of the text; its buffer is not cleared between texts.");
-    println!("text                     bytes   rows     Rust     port  times   just rows  times");
+    println!("or a row for every five bytes; its buffer is not cleared between texts. A refused");
+    println!("text clears all that was lent.");
+    println!("text                     bytes   rows     Rust     port  times    lent  port  times");
     for (name, text) in texts() {
-        let rows = match Linked.read(text.as_bytes(), &mut vec![0; MOST_ROWS * WORDS]) {
-            Ok(rows) => rows,
-            Err(_) => 1,
-        };
         let mut all = vec![0; MOST_ROWS * WORDS];
-        let mut few = vec![0; rows * WORDS];
+        let answer = Linked.read(text.as_bytes(), &mut all);
+        let lent = ((text.len() + 1) / 5).min(MOST_ROWS);
+        let mut few = vec![0; lent * WORDS];
+        assert_eq!(Linked.read(text.as_bytes(), &mut few), answer);
         let rust = fastest(&text, |text| {
             black_box(text.parse::<DataType>().is_ok());
         });
         let port = fastest(&text, |text| {
             black_box(Linked.read(text.as_bytes(), black_box(&mut all)).is_ok());
         });
-        let just = fastest(&text, |text| {
+        let by_length = fastest(&text, |text| {
             black_box(Linked.read(text.as_bytes(), black_box(&mut few)).is_ok());
         });
         println!(
-            "{name:<22} {:>7} {rows:>6} {rust:>8.0} {port:>8.0} {:>6.1} {just:>11.0} {:>6.1}",
+            "{name:<22} {:>7} {:>6} {rust:>8.0} {port:>8.0} {:>6.1} {lent:>7} {by_length:>5.0} {:>6.1}",
             text.len(),
+            answer.unwrap_or(0),
             rust / port,
-            rust / just,
+            rust / by_length,
         );
     }
 }
