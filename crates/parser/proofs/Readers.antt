@@ -1,10 +1,10 @@
 -- Each return of a reader as a law: what the calls before it gave, and what the return has to show.
-use mathlib.Core.Path.{_≡_, refl, sym, ap, _∙_}
+use mathlib.Core.Path.{_≡_, refl, sym, ap, _∙_, subst}
 use mathlib.Core.Bool.{Bool, true, false}
 use mathlib.Core.List.{List, [], _∷_}
 use Prim.Native.Nat.{ℕ, zero, suc, _+_, _-_, _*_, _^_, _≤_, _<_}
 use native.Mathlib.Omega.{arith}
-use lib.ListN.{length}
+use lib.ListN.{length, getD}
 use lib.Seq.{sets, length-sets}
 use mir.Val.{Fits}
 use mir.Syntax.{w32}
@@ -21,7 +21,7 @@ use Rattle.parser.specs.Steps.{Room, Stored, Meets, MeetsFields, Closed}
 use Rattle.parser.specs.declared.Read.{Read}
 use Rattle.parser.specs.declared.Read.the-variants as R
 use Rattle.datatype.proofs.Sets.{sets-append}
-use Rattle.parser.proofs.Stores.{in-front, as-field, table-one}
+use Rattle.parser.proofs.Stores.{in-front, as-field, rows-said, table-one}
 use Rattle.parser.proofs.Answers.{behind, string, GotValue, GotNumber, GotTree, GotFields, got-tree, lost-tree}
 
 -- ---- refusals, and rows
@@ -256,7 +256,7 @@ module _ (text : List ℕ) (type : ℕ → ℕ → Out Tree) where
         unfolding fieldAt
         field-3 x g = rw (e, f, ← ne, g) refl
 
-        pub field-4 : (n k row : ℕ) (before mid after : List ℕ) → GotTree (type next left) n k row left before mid → FieldWords mid row role id 1 s l after
+        field-4 : (n k row : ℕ) (before mid after : List ℕ) → GotTree (type next left) n k row left before mid → FieldWords mid row role id 1 s l after
             → Meets (fieldAt text type id at left) row left before (R.Tree n k) after
         unfolding fieldAt
         field-4 n k row before mid after g w =
@@ -264,6 +264,18 @@ module _ (text : List ℕ) (type : ℕ → ℕ → Out Tree) where
             meets-done row left before after (fieldAt text type id at left) (fieldRow role id name (g .row)) (g .kids) n k
             (rw (e, f, ← ne, g .is, ← ro) refl) (g .rows)
             (field-stored row left role id name (g .row) (g .kids) before mid after (g .stored) w)
+
+        -- so many rows as its row says
+        pub field-5 : (n k w row : ℕ) (before mid after : List ℕ) → Room text before row left → GotTree (type next left) n k row left before mid → FieldWords mid row role id 1 s l after
+            → w ≡ getD after (rowWords * row + 1) 0 → Meets (fieldAt text type id at left) row left before (R.Tree n w) after
+        field-5 n k w row before mid after room g words said =
+            let name : Name = record { home = 1; start = s; size = l } in
+            let some = tree-some (type next left) n k row left before mid g in
+            let most = tree-most (type next left) n k row left before mid g in
+            let inside = row-inside text before before row left room refl k some most in
+            let stored = field-stored row left role id name (g .row) (g .kids) before mid after (g .stored) words in
+            let rows = said ∙ rows-said before after row (fieldRow role id name (g .row)) (g .kids) (omega arith) (stored .rows) ∙ sym (g .rows) in
+            subst (λ (x : ℕ). Meets (fieldAt text type id at left) row left before (R.Tree n x) after) (sym rows) (field-4 n k row before mid after g words)
 
   -- [nullability] type, as a field of a name of the name list
   module _ (name : Name) (at left role next : ℕ) (ro : role ≡ roleAt text at) (ne : next ≡ afterRole text at) where

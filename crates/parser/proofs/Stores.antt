@@ -3,8 +3,8 @@ use mathlib.Core.Path.{_≡_, refl, sym, ap, _∙_}
 use Prim.Native.Nat.{ℕ, zero, suc, _+_, _*_, _≤_, _<_}
 use native.Mathlib.Omega.{arith}
 use mathlib.Core.List.{List, [], _∷_, _++_, append-nil, append-assoc}
-use lib.ListN.{length, set, length-append}
-use lib.Seq.{sets, set-comm, set-set}
+use lib.ListN.{length, set, getD, length-append, length-set}
+use lib.Seq.{sets, set-comm, set-set, getD-set-same, getD-set-other}
 use Rattle.datatype.proofs.Sets.{sets-append}
 use Rattle.datatype.specs.Tree.{Forest, ∅, node, count, Row}
 use Rattle.datatype.specs.Table.{rowWords, wordsOf, tableOf}
@@ -106,6 +106,26 @@ as-field before mid after row role id n r kids m a =
     (sets-inside before i (r .kind ∷ c ∷ []) (r .role ∷ r .id ∷ []) (role ∷ id ∷ []) (r .param ∷ r .scale ∷ r .home ∷ r .start ∷ r .size ∷ r .zoneStart ∷ r .zoneSize ∷ ws) refl)
     ∙ sets-inside before i (r .kind ∷ c ∷ role ∷ id ∷ r .param ∷ r .scale ∷ []) (r .home ∷ r .start ∷ r .size ∷ []) (n .home ∷ n .start ∷ n .size ∷ []) (r .zoneStart ∷ r .zoneSize ∷ ws) refl
     ∙ ap (λ (l : List ℕ). sets before i l) (sym (table-one (fieldRow role id n r) kids))
+
+-- a word before a run of stores is as it was
+before-run : (xs : List ℕ) (i j : ℕ) (vs : List ℕ) → j < i → getD (sets xs i vs) j 0 ≡ getD xs j 0
+before-run xs i j [] h = refl
+before-run xs i j (v ∷ vs) h = before-run (set xs i v) (suc i) j vs (omega arith) ∙ getD-set-other xs i j v 0 (λ e. omega arith)
+
+-- a row says how many rows its tree has
+pub rows-said : (before after : List ℕ) (row : ℕ) (r : Row) (kids : Forest Row) → rowWords * row + 1 < length before
+    → after ≡ sets before (rowWords * row) (tableOf (node r kids ∅)) → getD after (rowWords * row + 1) 0 ≡ suc (count kids)
+unfolding wordsOf
+rows-said before after row r kids h e =
+    let i = rowWords * row in
+    let c = suc (count kids) in
+    let ws : List ℕ = r .role ∷ r .id ∷ r .param ∷ r .scale ∷ r .home ∷ r .start ∷ r .size ∷ r .zoneStart ∷ r .zoneSize ∷ tableOf kids in
+    let next : i + 1 ≡ suc i = omega arith in
+    let there : suc i < length (set before i (r .kind)) = omega (arith, length-set before i (r .kind)) in
+    ap (λ (l : List ℕ). getD l (i + 1) 0) (e ∙ ap (λ (l : List ℕ). sets before i l) (table-one r kids))
+    ∙ ap (λ (j : ℕ). getD (sets before i (r .kind ∷ c ∷ ws)) j 0) next
+    ∙ before-run (set (set before i (r .kind)) (suc i) c) (suc (suc i)) (suc i) ws (omega arith)
+    ∙ getD-set-same (set before i (r .kind)) (suc i) c 0 there
 
 -- ---- runs of trees, one behind the other
 

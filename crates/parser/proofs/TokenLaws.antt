@@ -6,7 +6,7 @@ use Prim.Native.Nat.{ℕ, zero, suc, _+_, _-_, _%_, _≤_, _<_}
 use native.Mathlib.Omega.{arith}
 use lib.ListN.{length, drop, getD, List·getD-eq-default}
 use lib.Dec.{T, eqb, leb}
-use borrow.Author.Tests.{eq-eqb, ne-eqb, le-leb, lt-leb, lt-ltb, le-ltb}
+use borrow.Author.Tests.{eq-eqb, ne-eqb, leb-true, le-leb, lt-leb, lt-ltb, le-ltb}
 use types.Run.{OneOf, miss}
 use mir.Val.{hasKey}
 use denote.Enum.Declared.{tagOf}
@@ -22,7 +22,8 @@ use Rattle.tokenizer.specs.declared.TokenKind.the-variants.{LParen, RParen, Com
 use Rattle.tokenizer.proofs.Marks as Marks
 use Rattle.tokenizer.proofs.Basics.{of-true}
 use Rattle.tokenizer.proofs.Tokens.{token-spaces, token-end, token-34}
-use Rattle.tokenizer.proofs.Runs.{spaces-stop, string-open, string-empty, string-whole}
+use Rattle.tokenizer.proofs.Runs.{spaces-out, spaces-stop, spaces-go, string-open, string-empty, string-whole}
+use Rattle.tokenizer.proofs.StringLaws.{plain-byte, plain-go}
 use Rattle.datatype.specs.Kind.{unitFits}
 use Rattle.parser.specs.Parse.{Zone, refusalOf, need, stands, roleAt, afterRole, numberIn, unitAt, someZone, zoneString, zoneAt, listNameAt}
 use Rattle.parser.specs.Sought.{Found}
@@ -206,6 +207,29 @@ module _ (text : List ℕ) (at : ℕ) (h : at < length text) (c : getD text at 0
     pub opened-whole : end < length text → at + 1 < end → Q.String (at + 1) (end - (at + 1)) (end + 1) ≡ quotedOf (need text doubleQuoted at)
     opened-whole m i = quoted-here text doubleQuoted at _ (string-whole DoubleQuotedString text 34 at end h e m i ∙ opened) refl
 
+-- bytes above the backslash end no string
+module _ (text : List ℕ) (i : ℕ) (h : i + 4 ≤ length text) where
+  abbrev endFrom : ℕ → ℕ
+  endFrom k = quoteEnd text 34 false k
+
+  passed : (j : ℕ) → j < length text → 92 < getD text j 0 → endFrom (j + 1) ≡ endFrom j
+  passed j l b = sym (plain-go text 34 j l (plain-byte 34 (getD text j 0) (λ e. omega arith) (λ e. omega arith)))
+
+  module _ (b : 92 < getD text i 0) where
+    pub letters-1 : endFrom (i + 1) ≡ endFrom i
+    letters-1 = passed i (omega arith) b
+
+    module _ (c : 92 < getD text (i + 1) 0) where
+      pub letters-2 : endFrom (i + 2) ≡ endFrom i
+      letters-2 = ap endFrom (omega arith) ∙ passed (i + 1) (omega arith) c ∙ letters-1
+
+      module _ (d : 92 < getD text (i + 2) 0) where
+        pub letters-3 : endFrom (i + 3) ≡ endFrom i
+        letters-3 = ap endFrom (omega arith) ∙ passed (i + 2) (omega arith) d ∙ letters-2
+
+        pub letters-4 : 92 < getD text (i + 3) 0 → endFrom (i + 4) ≡ endFrom i
+        letters-4 e = ap endFrom (omega arith) ∙ passed (i + 3) (omega arith) e ∙ letters-3
+
 -- ---- numbers
 
 module _ (text : List ℕ) (least most at : ℕ) (t : Token) (e : t ≡ tokenAt text at) where
@@ -222,6 +246,14 @@ module _ (text : List ℕ) (least most at : ℕ) (t : Token) (e : t ≡ tokenAt 
     pub number-in : magnitude ≤ limit → N.Value negative magnitude (t .next) ≡ numberOf (numberIn text least most at)
     unfolding numberOf numberIn
     number-in h = rw (here text integer at t e (ap sortOf k), k, ← l, le-leb magnitude limit h)
+
+pub number-found : (text : List ℕ) (at from : ℕ) → from ≡ afterSpaces text at → (least most m next : ℕ) → Found (Integer false m) text from next → 0 < next → m ≤ most
+    → N.Value false m next ≡ numberOf (numberIn text least most at)
+unfolding Found
+number-found text at from f least most m next w h l =
+    let p = w h in
+    ap (N.Value false m) (sym (p .1))
+    ∙ number-in text least most at (tokenAt text from) (behind-spaces text at from f) false m most (p .0) refl l
 
 -- ---- marks, by the first byte that is no space
 
@@ -274,6 +306,24 @@ module _ (text : List ℕ) (at from mark : ℕ) (f : from ≡ afterSpaces text a
   unfolding lookOf
   look-other h = rw (other text at mark (of-true (isMark mark) m) (rw f at h))
 
+-- a mark is no space, and more than 0
+pub mark-no-space : (m : ℕ) → isMark m ≡ true → m ≡ 32 → ⊥
+mark-no-space m h = Marks.marks (λ (x : ℕ). x ≡ 32 → ⊥) (λ z. omega arith) (λ z. omega arith) (λ z. omega arith) (λ z. omega arith) m (of-true (isMark m) h)
+
+pub mark-more : (m : ℕ) → isMark m ≡ true → 0 < m
+mark-more m h = Marks.marks (λ (x : ℕ). 0 < x) (omega arith) (omega arith) (omega arith) (omega arith) m (of-true (isMark m) h)
+
+-- with no space before it
+module _ (text : List ℕ) (at mark : ℕ) (m : isMark mark ≡ true) (h : at < length text) (e : getD text at 0 ≡ mark) where
+  no-space : at ≡ afterSpaces text at
+  no-space = sym (spaces-stop text at h (λ z. mark-no-space mark m (sym e ∙ z)))
+
+  pub expect-at : S.Next (at + 1) ≡ stepOf (need text (markSort mark) at)
+  expect-at = expect-here text at at mark no-space m h e
+
+  pub look-at : L.Next (at + 1) ≡ lookOf (need text (markSort mark) at)
+  look-at = look-found text at at mark no-space m h e
+
 -- ---- nullability
 
 module _ (text : List ℕ) (at : ℕ) where
@@ -305,3 +355,24 @@ module _ (text : List ℕ) (at : ℕ) where
         let p = w h in
         let q = null-here (tokenAt text from) refl r (p .0) in
         (q .0, sym (p .1) ∙ q .1)
+
+-- a byte up to Z
+pub up-to-z : (b : ℕ) → leb b 90 ≡ true → b < 91
+up-to-z b e = let t = leb-true b 90 e in omega arith
+
+-- behind one space
+module _ (text : List ℕ) (at : ℕ) (h : at < length text) (e : getD text at 0 ≡ 32) where
+  pub space-past : tokenAt text (at + 1) ≡ tokenAt text at
+  space-past = token-spaces text (at + 1) ∙ ap (tokenAt text) (sym (spaces-go text at h e)) ∙ sym (token-spaces text at)
+
+  -- no word for nullability begins with a capital letter
+  pub null-type : at + 1 < length text → 64 < getD text (at + 1) 0 → getD text (at + 1) 0 < 91 → (1 ≡ roleAt text at) × (at ≡ afterRole text at)
+  null-type l a b = null-other text at (at + 1) (sym (spaces-go text at h e ∙ spaces-stop text (at + 1) l (λ z. omega arith))) (λ z. omega arith)
+
+  pub null-word : (r next : ℕ) → Found (Nullability r) text (at + 1) next → 0 < next → (r ≡ roleAt text at) × (next ≡ afterRole text at)
+  unfolding Found roleAt afterRole stands
+  null-word r next w l =
+      let p = w l in
+      let k : (tokenAt text at) .kind ≡ Nullability r = ap (λ (t : Token). t .kind) (sym space-past) ∙ p .0 in
+      let n : (tokenAt text at) .next ≡ next = ap (λ (t : Token). t .next) (sym space-past) ∙ p .1 in
+      rw (k, n) (refl, refl)

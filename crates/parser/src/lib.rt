@@ -20,6 +20,7 @@ use crate::rows::entries_refusal;
 use crate::rows::put_field;
 use crate::rows::put_row;
 use crate::rows::role_of;
+use crate::rows::rows_of;
 use crate::tokens::expect_token;
 use crate::tokens::next_if;
 use crate::tokens::next_if_x;
@@ -116,9 +117,10 @@ fn parse_field(
                 let null = parse_opt_nullable(text, colon);
                 match parse_next_type(text, rows, null.next, row, left, level) {
                     Read::Refused(n) => Read::Refused(n),
-                    Read::Tree(next, used) => {
+                    Read::Tree(next, _) => {
                         put_field(rows, row, null.role, id, 1, start as u32, size as u32);
-                        Read::Tree(next, used)
+                        // The row's own count: the answer's would be copied, and waited for.
+                        Read::Tree(next, rows_of(rows, row))
                     }
                 }
             }

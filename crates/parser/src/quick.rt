@@ -6,7 +6,7 @@ ghost use mathlib.Core.List.{[]};
 ghost use Prim.Native.Nat.{ℕ, _+_, _<_, _≤_};
 ghost use lib.ListN.{length, drop, getD};
 ghost use Rattle.tokenizer.specs.Token.{wordOf, wordKind};
-ghost use Rattle.parser.specs.Sought.{isPlain, Found};
+ghost use Rattle.parser.specs.Sought.{isPlain, Found, Four};
 ghost use Rattle.tokenizer.specs.declared.TokenKind.the-variants.{DataType, TimeUnit};
 use tokenizer::is_separator;
 
@@ -16,7 +16,39 @@ pub struct Word {
     pub next: usize,
 }
 
-// Whether some bytes stand at a place.
+// A byte as a number of 64 bits.
+fn wide(b: u8) -> u64
+    ensures { λ r. ⌜ (r ≡ b) × (b < 256) ⌝ }
+{
+    b as u64
+}
+
+// Four bytes as one number.
+fn four(text: &[u8], at: usize) -> u64
+    requires { ⌜ at + 4 ≤ length (now text) ⌝ }
+    ensures { λ r. ⌜ Four (now (text .entry)) at r ⌝ }
+{
+    let high = wide(text[at + 2]) + 256 * wide(text[at + 3]);
+    wide(text[at]) + 256 * (wide(text[at + 1]) + 256 * high)
+}
+
+// Whether the bytes of a part stand at a place, as those before one of them do.
+fn has_rest(text: &[u8], at: usize, part: &[u8], from: usize) -> bool
+    requires { ⌜ (at + length (now part) ≤ length (now text)) × (from ≤ length (now part)) ⌝ }
+    requires { ⌜ ((k : ℕ) → k < from → getD (now text) (at + k) 0 ≡ getD (now part) k 0) ⌝ }
+    ensures { λ r. ⌜ (r ≡ true → (k : ℕ) → k < length (now (part .entry)) → getD (now (text .entry)) (at + k) 0 ≡ getD (now (part .entry)) k 0) ⌝ }
+{
+    let mut i = from;
+    while i < part.len() {
+        if text[at + i] != part[i] {
+            return false;
+        }
+        i += 1;
+    }
+    true
+}
+
+// Whether some bytes stand at a place. Four are compared at once.
 fn has_bytes(text: &[u8], at: usize, part: &[u8]) -> bool
     requires { ⌜ at ≤ length (now text) ⌝ }
     ensures fits { λ r. ⌜ (r ≡ true → at + length (now (part .entry)) ≤ length (now (text .entry))) ⌝ }
@@ -26,13 +58,13 @@ fn has_bytes(text: &[u8], at: usize, part: &[u8]) -> bool
         return false;
     }
     let mut i = 0;
-    while i < part.len() {
-        if text[at + i] != part[i] {
+    while part.len() - i >= 4 {
+        if four(text, at + i) != four(part, i) {
             return false;
         }
-        i += 1;
+        i += 4;
     }
-    true
+    has_rest(text, at, part, i)
 }
 
 // Whether no byte of a word stands at a place.

@@ -66,6 +66,14 @@ fn word(rows: &[u32], row: usize, k: usize) -> usize
     rows[11 * row + k] as usize
 }
 
+// How many rows there are from a row on to the end of its subtree, as the row says.
+pub(crate) fn rows_of(rows: &[u32], row: usize) -> usize
+    requires { ⌜ rowWords * row + rowWords ≤ length (now rows) ⌝ }
+    ensures { λ r. ⌜ r ≡ getD (now (rows .entry)) (rowWords * row + 1) 0 ⌝ }
+{
+    word(rows, row, 1)
+}
+
 // The role of a row whose subtree lies before the row `end`.
 pub(crate) fn role_of(rows: &[u32], row: usize, end: usize) -> usize
     requires { ⌜ Nests (now rows) row (end - row) × (row < end) ⌝ }

@@ -1,13 +1,16 @@
 // Tokens where one is needed or looked for: the small functions of the Rust's `Parser`.
 ghost use mathlib.Core.Path.{_≡_};
 ghost use mathlib.Core.Bool.{true, false};
-ghost use Prim.Native.Nat.{_≤_, _<_};
+ghost use Prim.Native.Nat.{_+_, _≤_, _<_};
 ghost use lib.ListN.{length, getD};
 ghost use Rattle.tokenizer.specs.Text.{if_then_else_};
 ghost use Rattle.tokenizer.specs.Places.{afterSpaces};
+ghost use Rattle.tokenizer.specs.Ends.{quoteEnd};
 ghost use Rattle.tokenizer.specs.Token.{tokenAt, doubleQuoted, singleQuoted, typeWord, timeUnit, intervalUnit, unionMode, mapSorted, fieldWord, xWord};
+ghost use Rattle.tokenizer.specs.declared.TokenKind.the-variants.{Integer};
 ghost use Rattle.datatype.specs.Kind.{unitFits};
 ghost use Rattle.parser.specs.Parse.{refusalOf, need, roleAt, afterRole, numberIn, unitAt, someZone, zoneString, zoneAt, listNameAt, stands};
+ghost use Rattle.parser.specs.Sought.{Found};
 ghost use Rattle.parser.specs.Steps.{markSort, isMark, stepOf, lookOf, valuedOf, numberOf, quotedOf, zoneStep};
 use crate::Look;
 use crate::Nullability;
@@ -15,6 +18,7 @@ use crate::Number;
 use crate::Quoted;
 use crate::Step;
 use crate::Valued;
+use crate::quick::Word;
 use crate::quick::behind_word;
 use crate::quick::type_word;
 use crate::quick::unit_word;
@@ -46,6 +50,9 @@ pub(crate) fn expect_token(text: &[u8], at: usize, mark: u8) -> Step
     requires { ⌜ isMark mark ≡ true ⌝ }
     ensures { λ r. ⌜ r ≡ stepOf (need (now (text .entry)) (markSort mark) at) ⌝ }
 {
+    if starts(text, at, mark) {
+        return Step::Next(at + 1);
+    }
     let from = tokenizer::skip_spaces(text, at);
     if from >= text.len() {
         return Step::Refused(5);
@@ -63,11 +70,18 @@ pub(crate) fn next_if(text: &[u8], at: usize, mark: u8) -> Look
     requires { ⌜ isMark mark ≡ true ⌝ }
     ensures { λ r. ⌜ r ≡ lookOf (need (now (text .entry)) (markSort mark) at) ⌝ }
 {
-    let from = tokenizer::skip_spaces(text, at);
-    if from >= text.len() {
+    if at >= text.len() {
         return Look::Other;
     }
-    if text[from] == mark {
+    let b = text[at];
+    if b == mark {
+        return Look::Next(at + 1);
+    }
+    if b != 32 {
+        return Look::Other;
+    }
+    let from = tokenizer::skip_spaces(text, at + 1);
+    if starts(text, from, mark) {
         return Look::Next(from + 1);
     }
     Look::Other
@@ -86,6 +100,13 @@ fn nullability_word(text: &[u8], at: usize, from: usize) -> Nullability
             next: sure,
         };
     }
+    let null = behind_word(text, from, b"nullable");
+    if null > 0 {
+        return Nullability {
+            role: 1,
+            next: null,
+        };
+    }
     let token = tokenizer::next_token(text, from);
     let kind = token.kind;
     let TokenKind::Nullability(role) = kind else {
@@ -97,8 +118,8 @@ fn nullability_word(text: &[u8], at: usize, from: usize) -> Nullability
     }
 }
 
-// Nullability, which may be left out. Both of its words begin with an n.
-pub(crate) fn parse_opt_nullable(text: &[u8], at: usize) -> Nullability
+// Nullability behind any spaces. Both of its words begin with an n.
+fn nullability_behind(text: &[u8], at: usize) -> Nullability
     ensures role { λ r. ⌜ r .role ≡ roleAt (now (text .entry)) at ⌝ }
     ensures next { λ r. ⌜ r .next ≡ afterRole (now (text .entry)) at ⌝ }
 {
@@ -107,6 +128,50 @@ pub(crate) fn parse_opt_nullable(text: &[u8], at: usize) -> Nullability
         return nullability_word(text, at, from);
     }
     Nullability { role: 1, next: at }
+}
+
+// Whether a capital letter stands at a place, as in every word of a type.
+fn starts_type(text: &[u8], at: usize) -> bool
+    ensures { λ r. ⌜ (r ≡ true → (at < length (now (text .entry))) × (64 < getD (now (text .entry)) at 0) × (getD (now (text .entry)) at 0 < 91)) ⌝ }
+{
+    if at >= text.len() {
+        return false;
+    }
+    let b = text[at];
+    if b < 65 {
+        return false;
+    }
+    b <= 90
+}
+
+// Nullability, which may be left out. Behind one space it is told at once.
+pub(crate) fn parse_opt_nullable(text: &[u8], at: usize) -> Nullability
+    ensures role { λ r. ⌜ r .role ≡ roleAt (now (text .entry)) at ⌝ }
+    ensures next { λ r. ⌜ r .next ≡ afterRole (now (text .entry)) at ⌝ }
+{
+    if !starts(text, at, 32) {
+        let null = nullability_behind(text, at);
+        return Nullability {
+            role: null.role,
+            next: null.next,
+        };
+    }
+    let from = at + 1;
+    if starts_type(text, from) {
+        return Nullability { role: 1, next: at };
+    }
+    let sure = behind_word(text, from, b"non-null");
+    if sure > 0 {
+        return Nullability {
+            role: 2,
+            next: sure,
+        };
+    }
+    let null = nullability_behind(text, at);
+    Nullability {
+        role: null.role,
+        next: null.next,
+    }
 }
 
 // Whether a whole, non-empty double-quoted string is next.
@@ -125,13 +190,38 @@ pub(crate) fn peek_double_quoted(text: &[u8], at: usize) -> bool
     true
 }
 
-// A double-quoted string is needed where its opening mark stands.
-fn double_quoted(text: &[u8], at: usize) -> Quoted
+// A place at or behind `from` before which all bytes are above the backslash, as most letters are: no string ends there.
+fn past_letters(text: &[u8], from: usize) -> usize
+    requires { ⌜ from ≤ length (now text) ⌝ }
+    ensures { λ r. ⌜ quoteEnd (now (text .entry)) 34 false r ≡ quoteEnd (now (text .entry)) 34 false from ⌝ }
+{
+    let mut i = from;
+    while text.len() - i >= 4 {
+        if text[i] <= 92 {
+            return i;
+        }
+        if text[i + 1] <= 92 {
+            return i + 1;
+        }
+        if text[i + 2] <= 92 {
+            return i + 2;
+        }
+        if text[i + 3] <= 92 {
+            return i + 3;
+        }
+        i += 4;
+    }
+    i
+}
+
+// A double-quoted string is needed where its opening mark stands. It ends at the place `from` or behind it.
+fn double_quoted(text: &[u8], at: usize, from: usize) -> Quoted
     requires { ⌜ (at < length (now text)) × (getD (now text) at 0 ≡ 34) ⌝ }
+    requires { ⌜ quoteEnd (now text) 34 false from ≡ quoteEnd (now text) 34 false (at + 1) ⌝ }
     ensures { λ r. ⌜ r ≡ quotedOf (need (now (text .entry)) doubleQuoted at) ⌝ }
 {
     let start = at + 1;
-    let end = tokenizer::string_end(text, start, 34);
+    let end = tokenizer::string_end(text, from, 34);
     if end >= text.len() {
         return Quoted::Refused(6);
     }
@@ -141,20 +231,28 @@ fn double_quoted(text: &[u8], at: usize) -> Quoted
     Quoted::String(start, end - start, end + 1)
 }
 
+// A double-quoted string is needed, and read as a token.
+fn double_quoted_token(text: &[u8], at: usize) -> Quoted
+    ensures { λ r. ⌜ r ≡ quotedOf (need (now (text .entry)) doubleQuoted at) ⌝ }
+{
+    let token = tokenizer::next_token(text, at);
+    let kind = token.kind;
+    let TokenKind::DoubleQuotedString = kind else {
+        return Quoted::Refused(refusal(kind));
+    };
+    Quoted::String(token.start, token.size, token.next)
+}
+
 // A double-quoted string is needed. Where its mark stands it is read at once.
 pub(crate) fn parse_double_quoted_string(text: &[u8], at: usize) -> Quoted
     ensures { λ r. ⌜ r ≡ quotedOf (need (now (text .entry)) doubleQuoted at) ⌝ }
 {
     let from = tokenizer::skip_spaces(text, at);
     if starts(text, from, 34) {
-        return double_quoted(text, from);
+        let letters = past_letters(text, from + 1);
+        return double_quoted(text, from, letters);
     }
-    let token = tokenizer::next_token(text, from);
-    let kind = token.kind;
-    let TokenKind::DoubleQuotedString = kind else {
-        return Quoted::Refused(refusal(kind));
-    };
-    Quoted::String(token.start, token.size, token.next)
+    double_quoted_token(text, at)
 }
 
 // A single-quoted string is needed.
@@ -227,6 +325,11 @@ pub(crate) fn parse_union_mode(text: &[u8], at: usize) -> Valued
 pub(crate) fn parse_map_sorted(text: &[u8], at: usize) -> Valued
     ensures { λ r. ⌜ r ≡ valuedOf (need (now (text .entry)) mapSorted at) ⌝ }
 {
+    let from = tokenizer::skip_spaces(text, at);
+    let plain = behind_word(text, from, b"unsorted");
+    if plain > 0 {
+        return Valued::Value(0, plain);
+    }
     let token = tokenizer::next_token(text, at);
     let kind = token.kind;
     let TokenKind::MapSorted(sorted) = kind else {
@@ -269,8 +372,52 @@ fn limit(negative: bool, least: u64, most: u64) -> u64
     most
 }
 
-// A number from -least to most is needed: the Rust's `parse_i8`, `parse_u8` and `parse_i32`.
-pub(crate) fn parse_number(text: &[u8], at: usize, least: u64, most: u64) -> Number
+// Whether a byte is a decimal digit.
+fn is_digit(b: u8) -> bool
+    ensures { λ r. ⌜ (r ≡ true → (48 ≤ b) × (b ≤ 57)) ⌝ }
+{
+    if b < 48 {
+        return false;
+    }
+    b <= 57
+}
+
+// A number of one or two digits at a place, if a mark or a space stands behind it.
+fn short_number(text: &[u8], at: usize) -> Word
+    ensures { λ r. ⌜ Found (Integer false (r .value)) (now (text .entry)) at (r .next) ⌝ }
+{
+    let none = Word { value: 0, next: 0 };
+    if at >= text.len() {
+        return none;
+    }
+    if text.len() - at < 3 {
+        return none;
+    }
+    let first = text[at];
+    if !is_digit(first) {
+        return none;
+    }
+    let second = text[at + 1];
+    if tokenizer::is_separator(second) {
+        return Word {
+            value: (first - 48) as u32,
+            next: at + 1,
+        };
+    }
+    if !is_digit(second) {
+        return none;
+    }
+    if tokenizer::is_separator(text[at + 2]) {
+        return Word {
+            value: 10 * (first - 48) as u32 + (second - 48) as u32,
+            next: at + 2,
+        };
+    }
+    none
+}
+
+// A number from -least to most is needed, and read as a token.
+fn number_token(text: &[u8], at: usize, least: u64, most: u64) -> Number
     ensures { λ r. ⌜ r ≡ numberOf (numberIn (now (text .entry)) least most at) ⌝ }
 {
     let token = tokenizer::next_token(text, at);
@@ -282,6 +429,21 @@ pub(crate) fn parse_number(text: &[u8], at: usize, least: u64, most: u64) -> Num
         return Number::Refused(10);
     }
     Number::Value(negative, magnitude, token.next)
+}
+
+// A number from -least to most is needed: the Rust's `parse_i8`, `parse_u8` and `parse_i32`.
+pub(crate) fn parse_number(text: &[u8], at: usize, least: u64, most: u64) -> Number
+    ensures { λ r. ⌜ r ≡ numberOf (numberIn (now (text .entry)) least most at) ⌝ }
+{
+    let from = tokenizer::skip_spaces(text, at);
+    let short = short_number(text, from);
+    let magnitude = short.value as u64;
+    if short.next > 0 {
+        if magnitude <= most {
+            return Number::Value(false, magnitude, short.next);
+        }
+    }
+    number_token(text, at, least, most)
 }
 
 // A number from 0 to most is needed.
@@ -333,7 +495,7 @@ fn parse_some(text: &[u8], at: usize) -> Quoted
             return Quoted::Refused(n);
         }
     };
-    match parse_double_quoted_string(text, open) {
+    match double_quoted_token(text, open) {
         Quoted::Refused(n) => Quoted::Refused(n),
         Quoted::String(start, size, behind) => match expect_token(text, behind, 41) {
             Step::Refused(n) => Quoted::Refused(n),
@@ -348,7 +510,7 @@ fn parse_zone_string(text: &[u8], at: usize) -> Quoted
 {
     let from = tokenizer::skip_spaces(text, at);
     if starts(text, from, 34) {
-        return double_quoted(text, from);
+        return double_quoted(text, from, from + 1);
     }
     let token = tokenizer::next_token(text, at);
     let kind = token.kind;

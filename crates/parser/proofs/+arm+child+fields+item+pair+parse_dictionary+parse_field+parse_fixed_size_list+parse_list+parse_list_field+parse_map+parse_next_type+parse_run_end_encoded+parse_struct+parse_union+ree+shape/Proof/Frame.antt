@@ -64,6 +64,7 @@ use Rattle.parser.proofs.rows.entries_refusal.Reads as entries-refusal-
 use Rattle.parser.proofs.rows.put_field.Reads as put-field-reads
 use Rattle.parser.proofs.rows.put_row.Reads as put-row-reads
 use Rattle.parser.proofs.rows.role_of.Reads as role-of-reads
+use Rattle.parser.proofs.rows.rows_of.Reads as rows-of-reads
 use Rattle.parser.proofs.tokens.expect_token.Reads as expect-token-reads
 use Rattle.parser.proofs.tokens.next_if.Reads as next-if-reads
 use Rattle.parser.proofs.tokens.next_if_x.Reads as next-if-x-reads
@@ -313,7 +314,7 @@ abbrev pub calls-parse-dictionary : ℕ → parse-dictionary-lts.Claims
 calls-parse-dictionary t = (expect-token-reads.Asked, expect-token-reads.Learnt, parse-next-type-below t, parse-next-type.Post, close-reads.Asked, close-reads.Learnt)
 
 abbrev pub calls-parse-field : ℕ → parse-field-lts.Claims
-calls-parse-field t = (parse-double-quoted-string-reads.Asked, parse-double-quoted-string-reads.Learnt, expect-token-reads.Asked, expect-token-reads.Learnt, parse-opt-nullable-reads.Asked, parse-opt-nullable-reads.Learnt, parse-next-type-below t, parse-next-type.Post, put-field-reads.Asked, put-field-reads.Learnt)
+calls-parse-field t = (parse-double-quoted-string-reads.Asked, parse-double-quoted-string-reads.Learnt, expect-token-reads.Asked, expect-token-reads.Learnt, parse-opt-nullable-reads.Asked, parse-opt-nullable-reads.Learnt, parse-next-type-below t, parse-next-type.Post, put-field-reads.Asked, put-field-reads.Learnt, rows-of-reads.Asked, rows-of-reads.Learnt)
 
 abbrev pub calls-parse-list : ℕ → parse-list-lts.Claims
 calls-parse-list t = (expect-token-reads.Asked, expect-token-reads.Learnt, parse-list-field-below t, parse-list-field.Post, close-reads.Asked, close-reads.Learnt)

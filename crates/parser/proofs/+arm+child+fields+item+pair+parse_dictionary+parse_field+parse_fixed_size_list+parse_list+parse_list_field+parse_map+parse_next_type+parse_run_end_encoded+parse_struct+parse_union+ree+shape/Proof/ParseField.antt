@@ -1,5 +1,5 @@
 use Rattle.parser.proofs.Answers.{got-quoted, got-step, got-tree, lost-quoted, lost-step, lost-tree}
-use Rattle.parser.proofs.Readers.{field-1, field-2, field-3, field-4, meets-refused, row-inside, tree-most, tree-some}
+use Rattle.parser.proofs.Readers.{field-1, field-2, field-3, field-5, meets-refused, row-inside, tree-most, tree-some}
 use Rattle.parser.proofs.Zones.{name-fits}
 use mathlib.Core.Path.{_≡_, refl, sym, _∙_}
 use borrow.Author.Needs.{needs}
@@ -52,6 +52,9 @@ module _ (t : ℕ) where
   put-field-requires : lts.Need-put-field-requires (calls t) (at t) parse-field.Post
   put-field-requires c κs = row-inside _ _ (c .before .before .before .before .before .before .parse-next-type .last .1 .0) _ _ (c .before .before .before .before .before .before .before .before .before .before .before .before .before .before .before .before .before .before .before .pre .1) (c .before .before .before .before .before .before .parse-next-type .kept .1 .0) _ (tree-some _ _ _ _ _ _ _ (got-tree _ _ _ _ _ _ _ _ (c .before .before .before .before .before .before .parse-next-type .ensures) (c .before .before .next .given .1))) (tree-most _ _ _ _ _ _ _ (got-tree _ _ _ _ _ _ _ _ (c .before .before .before .before .before .before .parse-next-type .ensures) (c .before .before .next .given .1)))
 
+  rows-of-requires : lts.Need-rows-of-requires (calls t) (at t) parse-field.Post
+  rows-of-requires c κs = let h = row-inside _ _ (c .before .before .before .before .before .before .before .before .before .before .parse-next-type .last .1 .0) _ _ (c .before .before .before .before .before .before .before .before .before .before .before .before .before .before .before .before .before .before .before .before .before .before .before .pre .1) (c .before .before .before .before .before .before .before .before .before .before .parse-next-type .kept .1 .0) _ (tree-some _ _ _ _ _ _ _ (got-tree _ _ _ _ _ _ _ _ (c .before .before .before .before .before .before .before .before .before .before .parse-next-type .ensures) (c .before .before .before .before .before .before .next .given .1))) (tree-most _ _ _ _ _ _ _ (got-tree _ _ _ _ _ _ _ _ (c .before .before .before .before .before .before .before .before .before .before .parse-next-type .ensures) (c .before .before .before .before .before .before .next .given .1))) in let l = c .before .before .before .put-field .kept .0 in omega arith
+
   returns : lts.Need-returns (calls t) (at t) parse-field.Post
   returns c = meets-refused _ _ _ _ _ _ (field-1 _ _ _ _ _ _ (lost-quoted _ _ (sym (c .before .n .given .1) ∙ c .before .before .before .parse-double-quoted-string .ensures)))
 
@@ -68,7 +71,7 @@ module _ (t : ℕ) where
   same-length-2 c = search needs
 
   returns-4 : lts.Need-returns-4 (calls t) (at t) parse-field.Post
-  returns-4 c = let q = (got-quoted _ _ _ _ (sym (c .before .before .before .before .before .before .before .before .before .before .before .before .before .before .before .before .before .start .given .1) ∙ c .before .before .before .before .before .before .before .before .before .before .before .before .before .before .before .before .before .before .before .parse-double-quoted-string .ensures)) in let c0 = (got-step _ _ (sym (c .before .before .before .before .before .before .before .before .before .before .before .before .before .colon .given .1) ∙ c .before .before .before .before .before .before .before .before .before .before .before .before .before .before .before .expect-token .ensures)) in field-4 _ _ _ _ _ (q .0) _ _ _ (q .1) (c0 .0) _ _ _ (c0 .1) (c .before .before .before .before .before .before .before .before .before .before .before .parse-opt-nullable .ensures .0) (c .before .before .before .before .before .before .before .before .before .before .before .parse-opt-nullable .ensures .1) _ _ _ _ _ _ (got-tree _ _ _ _ _ _ _ _ (c .before .before .before .before .before .before .before .before .before .parse-next-type .ensures) (c .before .before .before .before .before .next .given .1)) (c .before .before .put-field .ensures)
+  returns-4 c = let q = (got-quoted _ _ _ _ (sym (c .before .before .before .before .before .before .before .before .before .before .before .before .before .before .before .before .before .before .before .start .given .1) ∙ c .before .before .before .before .before .before .before .before .before .before .before .before .before .before .before .before .before .before .before .before .before .parse-double-quoted-string .ensures)) in let c0 = (got-step _ _ (sym (c .before .before .before .before .before .before .before .before .before .before .before .before .before .before .before .colon .given .1) ∙ c .before .before .before .before .before .before .before .before .before .before .before .before .before .before .before .before .before .expect-token .ensures)) in field-5 _ _ _ _ _ (q .0) _ _ _ (q .1) (c0 .0) _ _ _ (c0 .1) (c .before .before .before .before .before .before .before .before .before .before .before .before .before .parse-opt-nullable .ensures .0) (c .before .before .before .before .before .before .before .before .before .before .before .before .before .parse-opt-nullable .ensures .1) _ _ _ _ _ _ _ (c .before .before .before .before .before .before .before .before .before .before .before .before .before .before .before .before .before .before .before .before .before .before .before .before .pre .1) (got-tree _ _ _ _ _ _ _ _ (c .before .before .before .before .before .before .before .before .before .before .before .parse-next-type .ensures) (c .before .before .before .before .before .before .before .next .given .1)) (c .before .before .before .before .put-field .ensures) (c .rows-of .ensures)
 
   pub closed : {M : Type 1} → lts.Closed (calls t) (at t) parse-field.Post M
-  closed = lts.spec (calls t) (at t) parse-field.Post parse-double-quoted-string-requires enum-known-n enum-known-start expect-token-requires enum-known-n-2 enum-known-colon parse-opt-nullable-requires parse-next-type-requires enum-known-n-3 enum-known-next cast-put-field cast-put-field-2 put-field-requires returns returns-2 same-length returns-3 same-length-2 returns-4
+  closed = lts.spec (calls t) (at t) parse-field.Post parse-double-quoted-string-requires enum-known-n enum-known-start expect-token-requires enum-known-n-2 enum-known-colon parse-opt-nullable-requires parse-next-type-requires enum-known-n-3 enum-known-next cast-put-field cast-put-field-2 put-field-requires rows-of-requires returns returns-2 same-length returns-3 same-length-2 returns-4

@@ -2,7 +2,7 @@
 use mathlib.Core.Path.{_≡_}
 use Prim.Native.Nat.{ℕ, _+_, _-_, _≤_, _<_}
 use lib.ListN.{length, getD}
-use Rattle.parser.proofs.WordLaws.{same-more}
+use Rattle.parser.proofs.WordLaws.{four-more}
 use Rattle.tokenizer.proofs.StringLaws.{never}
 use borrow.Author.Needs.{needs}
 use native.Mathlib.Omega.{arith}
@@ -10,9 +10,11 @@ use Rattle.parser.proofs.quick.has_bytes.Statement.{statement}
 use Rattle.parser.proofs.quick.has_bytes.Tie as tie
 use Rattle.parser.proofs.quick.has_bytes.Reads as reads
 use Rattle.parser.proofs.quick.has_bytes.Lts as lts
+use Rattle.parser.proofs.quick.four.Reads as four-reads
+use Rattle.parser.proofs.quick.has_rest.Reads as has-rest-reads
 
 abbrev Inv-loop : tie.InvT-loop
-Inv-loop text at part i₀ i = (i ≤ length part) × ((at + length part ≤ length text) × ((k : ℕ) → k < i → getD text (at + k) 0 ≡ getD part k 0))
+Inv-loop text at part i₀ i = (i ≤ length part) × (at + length part ≤ length text) × ((k : ℕ) → k < i → getD text (at + k) 0 ≡ getD part k 0)
 
 abbrev μ-loop : tie.MeasureT-loop
 μ-loop text at part i₀ i = length part - i
@@ -24,16 +26,19 @@ returns : tie.Need-returns Inv-loop μ-loop
 returns c = (λ e. never e, λ e. never e)
 
 loop-holds : tie.Need-loop-holds Inv-loop μ-loop
-loop-holds c = (search needs, (search needs, λ k l. absurd (omega arith)))
+loop-holds c = (search needs, search needs, λ k l. absurd (omega arith))
 
-add-if2 : tie.Need-add-if2 Inv-loop μ-loop
-add-if2 c = search needs
+sub-loop : tie.Need-sub-loop Inv-loop μ-loop
+sub-loop c = search needs
 
-shared-slice-read-if2 : tie.Need-shared-slice-read-if2 Inv-loop μ-loop
-shared-slice-read-if2 c = let a = c .before .before .loop .inv .1 .0 in let t = c .before .loop-test .taken in omega arith
+add-four : tie.Need-add-four Inv-loop μ-loop
+add-four c = let v = c .before .loop .inv .1 in let t = c .loop-test .taken in omega arith
 
-shared-slice-read-if2-2 : tie.Need-shared-slice-read-if2-2 Inv-loop μ-loop
-shared-slice-read-if2-2 c = search needs
+four-requires : tie.Need-four-requires Inv-loop μ-loop
+four-requires c κs = let v = c .before .loop .inv .1 in let t = c .loop-test .taken in omega arith
+
+four-requires-2 : tie.Need-four-requires-2 Inv-loop μ-loop
+four-requires-2 c κs = search needs
 
 returns-2 : tie.Need-returns-2 Inv-loop μ-loop
 returns-2 c = (λ e. never e, λ e. never e)
@@ -45,10 +50,13 @@ loop-less : tie.Need-loop-less Inv-loop μ-loop
 loop-less c = search needs
 
 loop-again : tie.Need-loop-again Inv-loop μ-loop
-loop-again c = (search needs, (c .before .before .before .before .loop .inv .1 .0, same-more (c .before .before .before .before .before .before .args .text .now) (c .before .before .before .before .before .before .args .part .now) (c .before .before .before .before .before .before .args .at) _ (c .before .before .before .before .loop .inv .1 .1) (c .if2 .left)))
+loop-again c = (search needs, c .before .before .before .before .loop .inv .1, four-more (c .before .before .before .before .before .before .before .before .args .text .now) (c .before .before .before .before .before .before .before .before .args .part .now) (c .before .before .before .before .before .before .before .before .args .at) _ _ _ (c .before .before .four .ensures) (c .before .four2 .ensures) (c .if2 .left) (c .before .before .before .before .loop .inv .2))
+
+has-rest-requires : tie.Need-has-rest-requires Inv-loop μ-loop
+has-rest-requires c κs = ((c .before .loop .inv .1, c .before .loop .inv .0), c .before .loop .inv .2)
 
 returns-3 : tie.Need-returns-3 Inv-loop μ-loop
-returns-3 c = (λ e. c .before .loop .inv .1 .0, λ e k l. c .before .loop .inv .1 .1 k (let t = c .loop-test .left in omega arith))
+returns-3 c = (λ e. c .before .before .loop .inv .1, λ e. c .has-rest .ensures e)
 
 pub has-bytes-spec : {M : Type 1} → statement M
 has-bytes-spec =
@@ -59,11 +67,13 @@ has-bytes-spec =
     sub-if1
     returns
     loop-holds
-    add-if2
-    shared-slice-read-if2
-    shared-slice-read-if2-2
+    sub-loop
+    add-four
+    four-requires
+    four-requires-2
     returns-2
     add-i
     loop-less
     loop-again
+    has-rest-requires
     returns-3)

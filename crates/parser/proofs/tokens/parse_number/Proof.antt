@@ -1,43 +1,39 @@
-use Rattle.parser.proofs.TokenLaws.{but, number-lost, number-out, number-in}
+use Rattle.parser.proofs.TokenLaws.{number-found}
 use native.Mathlib.Omega.{arith}
 use borrow.Author.Needs.{needs}
 use Rattle.parser.proofs.tokens.parse_number.Statement.{statement}
 use Rattle.parser.proofs.tokens.parse_number.Tie as tie
 use Rattle.parser.proofs.tokens.parse_number.Reads as reads
 use Rattle.parser.proofs.tokens.parse_number.Lts as lts
-use Rattle.parser.proofs.tokens.limit.Reads as limit-reads
-use Rattle.parser.proofs.tokens.refusal.Reads as refusal-reads
-use Rattle.tokenizer.proofs.next_token.Reads as next-token-reads
+use Rattle.parser.proofs.tokens.number_token.Reads as number-token-reads
+use Rattle.parser.proofs.tokens.short_number.Reads as short-number-reads
+use Rattle.tokenizer.proofs.skip_spaces.Reads as skip-spaces-reads
 
-next-token-requires : tie.Need-next-token-requires
-next-token-requires c κs = search needs
+skip-spaces-requires : tie.Need-skip-spaces-requires
+skip-spaces-requires c κs = search needs
 
-enum-known-kind : tie.Need-enum-known-kind
-enum-known-kind c = search needs
+short-number-requires : tie.Need-short-number-requires
+short-number-requires c κs = search needs
 
-refusal-requires : tie.Need-refusal-requires
-refusal-requires c κs = search needs
+cast-magnitude : tie.Need-cast-magnitude
+cast-magnitude c = search needs
 
 returns : tie.Need-returns
-returns c = number-lost _ _ _ _ _ (c .before .before .next-token .ensures) (but 4) tt (c .before .match .keys2) _ (c .refusal .ensures)
+returns c = number-found _ _ _ (c .before .before .before .before .before .skip-spaces .ensures) _ _ _ _ (c .before .before .before .before .short-number .ensures) (c .before .if1 .taken) (c .if2 .taken)
 
-limit-requires : tie.Need-limit-requires
-limit-requires c κs = search needs
+number-token-requires : tie.Need-number-token-requires
+number-token-requires c κs = search needs
 
 returns-2 : tie.Need-returns-2
-returns-2 c = number-out _ _ _ _ _ (c .before .before .before .before .before .next-token .ensures) _ _ _ (c .before .before .before .kind .given .1) (c .before .limit .ensures) (c .if1 .taken)
-
-returns-3 : tie.Need-returns-3
-returns-3 c = number-in _ _ _ _ _ (c .before .before .before .before .before .next-token .ensures) _ _ _ (c .before .before .before .kind .given .1) (c .before .limit .ensures) (c .if1 .left)
+returns-2 c = search needs
 
 pub parse-number-spec : {M : Type 1} → statement M
 parse-number-spec =
     tie.close
     (tie.spec
-    next-token-requires
-    enum-known-kind
-    refusal-requires
+    skip-spaces-requires
+    short-number-requires
+    cast-magnitude
     returns
-    limit-requires
-    returns-2
-    returns-3)
+    number-token-requires
+    returns-2)

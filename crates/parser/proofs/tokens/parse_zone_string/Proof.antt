@@ -4,7 +4,7 @@ use Rattle.parser.proofs.Zones.{zone-refused, zone-done, zone-none, zon
 use Rattle.parser.proofs.TokenLaws.{only-sort}
 use mathlib.Core.List.{[], _∷_}
 use Rattle.parser.specs.Steps.{zoneStep}
-use mathlib.Core.Path.{sym, ap, _∙_}
+use mathlib.Core.Path.{refl, sym, ap, _∙_}
 use native.Mathlib.Omega.{arith}
 use borrow.Author.Needs.{needs}
 use Rattle.parser.proofs.tokens.parse_zone_string.Statement.{statement}
@@ -24,8 +24,11 @@ skip-spaces-requires c κs = search needs
 starts-requires : tie.Need-starts-requires
 starts-requires c κs = search needs
 
+add-double-quoted : tie.Need-add-double-quoted
+add-double-quoted c = let h = c .before .starts .ensures .0 (c .if1 .taken) in omega arith
+
 double-quoted-requires : tie.Need-double-quoted-requires
-double-quoted-requires c κs = c .before .starts .ensures .0 (c .if1 .taken)
+double-quoted-requires c κs = (c .before .starts .ensures .0 (c .if1 .taken), refl)
 
 returns : tie.Need-returns
 returns c = c .double-quoted .ensures ∙ zone-begun _ _ _ (c .before .before .before .skip-spaces .ensures) (c .before .before .starts .ensures .0 (c .before .if1 .taken) .0) (c .before .before .starts .ensures .0 (c .before .if1 .taken) .1)
@@ -66,6 +69,7 @@ parse-zone-string-spec =
     (tie.spec
     skip-spaces-requires
     starts-requires
+    add-double-quoted
     double-quoted-requires
     returns
     next-token-requires

@@ -1,0 +1,28 @@
+use Rattle.parser.proofs.TokenLaws.{but, quoted-here, quoted-lost, only-sort}
+use native.Mathlib.Omega.{arith}
+use borrow.Author.Needs.{needs}
+use Rattle.parser.proofs.tokens.double_quoted_token.Statement.{statement}
+use Rattle.parser.proofs.tokens.double_quoted_token.Tie as tie
+use Rattle.parser.proofs.tokens.double_quoted_token.Reads as reads
+use Rattle.parser.proofs.tokens.double_quoted_token.Lts as lts
+use Rattle.parser.proofs.tokens.refusal.Reads as refusal-reads
+use Rattle.tokenizer.proofs.next_token.Reads as next-token-reads
+
+next-token-requires : tie.Need-next-token-requires
+next-token-requires c κs = search needs
+
+enum-told : tie.Need-enum-told
+enum-told c = search needs
+
+refusal-requires : tie.Need-refusal-requires
+refusal-requires c κs = search needs
+
+returns : tie.Need-returns
+returns c = quoted-lost _ _ _ _ (c .before .before .next-token .ensures) (but 5) tt (c .before .match .keys2) _ (c .refusal .ensures)
+
+returns-2 : tie.Need-returns-2
+returns-2 c = quoted-here _ _ _ _ (c .before .before .next-token .ensures) (only-sort 5 (c .before .before .next-token .result .kind) (c .before .match .keys1))
+
+pub double-quoted-token-spec : {M : Type 1} → statement M
+double-quoted-token-spec =
+    tie.close (tie.spec next-token-requires enum-told refusal-requires returns returns-2)

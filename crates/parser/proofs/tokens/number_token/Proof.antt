@@ -1,0 +1,43 @@
+use Rattle.parser.proofs.TokenLaws.{but, number-lost, number-out, number-in}
+use native.Mathlib.Omega.{arith}
+use borrow.Author.Needs.{needs}
+use Rattle.parser.proofs.tokens.number_token.Statement.{statement}
+use Rattle.parser.proofs.tokens.number_token.Tie as tie
+use Rattle.parser.proofs.tokens.number_token.Reads as reads
+use Rattle.parser.proofs.tokens.number_token.Lts as lts
+use Rattle.parser.proofs.tokens.limit.Reads as limit-reads
+use Rattle.parser.proofs.tokens.refusal.Reads as refusal-reads
+use Rattle.tokenizer.proofs.next_token.Reads as next-token-reads
+
+next-token-requires : tie.Need-next-token-requires
+next-token-requires c κs = search needs
+
+enum-known-kind : tie.Need-enum-known-kind
+enum-known-kind c = search needs
+
+refusal-requires : tie.Need-refusal-requires
+refusal-requires c κs = search needs
+
+returns : tie.Need-returns
+returns c = number-lost _ _ _ _ _ (c .before .before .next-token .ensures) (but 4) tt (c .before .match .keys2) _ (c .refusal .ensures)
+
+limit-requires : tie.Need-limit-requires
+limit-requires c κs = search needs
+
+returns-2 : tie.Need-returns-2
+returns-2 c = number-out _ _ _ _ _ (c .before .before .before .before .before .next-token .ensures) _ _ _ (c .before .before .before .kind .given .1) (c .before .limit .ensures) (c .if1 .taken)
+
+returns-3 : tie.Need-returns-3
+returns-3 c = number-in _ _ _ _ _ (c .before .before .before .before .before .next-token .ensures) _ _ _ (c .before .before .before .kind .given .1) (c .before .limit .ensures) (c .if1 .left)
+
+pub number-token-spec : {M : Type 1} → statement M
+number-token-spec =
+    tie.close
+    (tie.spec
+    next-token-requires
+    enum-known-kind
+    refusal-requires
+    returns
+    limit-requires
+    returns-2
+    returns-3)
