@@ -24,7 +24,7 @@ byteWeight c = if ltb c 32 then 255 else c
 -- stands behind it, and the six marks and spaces about a field's name.
 unfoldable pub kindBounds : List ℕ
 kindBounds =
-    10 ∷ 13 ∷ 10 ∷ 11 ∷ 11 ∷ 11 ∷ 11 ∷ 12 ∷ 12 ∷ 12 ∷ 13 ∷ 13 ∷ 13 ∷ 24 ∷ 12 ∷ 12 ∷ 17 ∷ 17 ∷ 19 ∷ 28 ∷ 12 ∷ 33 ∷ 17 ∷ 16 ∷ 10 ∷ 15 ∷ 14
+    13 ∷ 13 ∷ 13 ∷ 13 ∷ 13 ∷ 13 ∷ 13 ∷ 13 ∷ 13 ∷ 13 ∷ 13 ∷ 13 ∷ 13 ∷ 24 ∷ 12 ∷ 12 ∷ 17 ∷ 17 ∷ 19 ∷ 28 ∷ 12 ∷ 33 ∷ 17 ∷ 16 ∷ 10 ∷ 15 ∷ 14
     ∷ 17 ∷ 21 ∷ 39 ∷ 22 ∷ 26 ∷ 14 ∷ 19 ∷ 18 ∷ 26 ∷ 26 ∷ 27 ∷ 27 ∷ 21 ∷ 21 ∷ []
 
 unfoldable pub kindBound : ℕ → ℕ

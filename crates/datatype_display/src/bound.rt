@@ -10,6 +10,7 @@ ghost use Rattle.row_table.specs.Sound.{isSound};
 ghost use Rattle.datatype_display.specs.Bound.{isPrintable, byteWeight, kindBound, boundAt, treeBound, Prints};
 use crate::ascii::greater;
 use crate::row::word;
+use datatype::kind::TIMESTAMP;
 use datatype::kind::UNION;
 use datatype::rows::KIND;
 use datatype::rows::MAX_TEXT;
@@ -42,24 +43,14 @@ fn is_printable(s: &[u8]) -> bool
     top <= 126
 }
 
-// The share of a kind.
+// The share of a kind: the kinds before Timestamp, which are words alone, share the greatest of theirs.
 fn kind_bound(kind: u32) -> usize
     ensures { λ r. ⌜ r ≡ kindBound kind ⌝ }
 {
+    if kind < TIMESTAMP {
+        return 13;
+    }
     match kind {
-        0 => 10,
-        1 => 13,
-        2 => 10,
-        3 => 11,
-        4 => 11,
-        5 => 11,
-        6 => 11,
-        7 => 12,
-        8 => 12,
-        9 => 12,
-        10 => 13,
-        11 => 13,
-        12 => 13,
         13 => 24,
         14 => 12,
         15 => 12,
@@ -99,7 +90,7 @@ fn wide(x: u32) -> usize
     x as usize
 }
 
-// The share of row i.
+// The share of row i, which is below 2^37: no sum over rows can overflow.
 fn row_bound(rows: &[u32], i: usize) -> usize
     requires { ⌜ rowWords * (i + 1) ≤ length (now rows) ⌝ }
     ensures { λ r. ⌜ r ≡ boundAt (now (rows .entry)) i ⌝ }

@@ -36,6 +36,10 @@ use crate::tokens::peek_double_quoted;
 use datatype::clear_words;
 use datatype::kind::STRUCT;
 use datatype::kind::UNION;
+use datatype::rows::MAX_LEVELS;
+use datatype::rows::MAX_ROWS;
+use datatype::rows::MAX_TEXT;
+use datatype::rows::ROW_WORDS;
 
 mod leaves;
 mod quick;
@@ -627,11 +631,11 @@ fn parse_next_type(
 fn rows_lent(words: usize) -> usize
     ensures { λ r. ⌜ r ≡ rowsLent words ⌝ }
 {
-    let whole = words / 11;
-    if whole < 1024 {
+    let whole = words / ROW_WORDS;
+    if whole < MAX_ROWS {
         return whole;
     }
-    1024
+    MAX_ROWS
 }
 
 // Reads the type that a text begins with into lent rows: the place behind it and how many rows it fills, or the
@@ -640,7 +644,7 @@ pub fn parse_first_type(text: &[u8], rows: &mut [u32]) -> Read
     ensures answer { λ r. ⌜ r ≡ readOf (firstType (now (text .entry)) (rowsLent (length (now (rows .entry))))) ⌝ }
     ensures contents { λ r. ⌜ now (rows .exit) ≡ rowsOf (now (rows .entry)) (firstType (now (text .entry)) (rowsLent (length (now (rows .entry))))) ⌝ }
 {
-    if text.len() > 16384 {
+    if text.len() > MAX_TEXT {
         clear_words(rows);
         return Read::Refused(1);
     }
@@ -649,7 +653,7 @@ pub fn parse_first_type(text: &[u8], rows: &mut [u32]) -> Read
         return Read::Refused(2);
     }
     let left = rows_lent(rows.len());
-    match parse_next_type(text, rows, 0, 0, left, 64) {
+    match parse_next_type(text, rows, 0, 0, left, MAX_LEVELS) {
         Read::Tree(next, used) => Read::Tree(next, used),
         Read::Refused(n) => {
             clear_words(rows);

@@ -8,6 +8,18 @@ ghost use Rattle.datatype.specs.Table.{rowWords, wordsOf};
 ghost use Rattle.row_table.specs.Run.{Nests, forestAt};
 ghost use Rattle.parser.specs.Parse.{bareRow};
 ghost use Rattle.parser.specs.Steps.{entriesOf, roleOf};
+use datatype::rows::HOME;
+use datatype::rows::ID;
+use datatype::rows::KIND;
+use datatype::rows::PARAM;
+use datatype::rows::ROLE;
+use datatype::rows::ROW_WORDS;
+use datatype::rows::SCALE;
+use datatype::rows::SIZE;
+use datatype::rows::START;
+use datatype::rows::SUBTREE;
+use datatype::rows::ZONE_SIZE;
+use datatype::rows::ZONE_START;
 
 // Writes the row of a type that is no field.
 pub(crate) fn put_row(
@@ -23,18 +35,18 @@ pub(crate) fn put_row(
     requires { ⌜ rowWords * row + rowWords ≤ length (now rows) ⌝ }
     ensures { λ _. ⌜ now (rows .exit) ≡ sets (now (rows .entry)) (rowWords * row) (wordsOf (bareRow kind param scale «zone_start» «zone_size») size) ⌝ }
 {
-    let i = 11 * row;
+    let i = ROW_WORDS * row;
     rows[i] = kind;
-    rows[i + 1] = size;
-    rows[i + 2] = 0;
-    rows[i + 3] = 0;
-    rows[i + 4] = param;
-    rows[i + 5] = scale;
-    rows[i + 6] = 0;
-    rows[i + 7] = 0;
-    rows[i + 8] = 0;
-    rows[i + 9] = zone_start;
-    rows[i + 10] = zone_size;
+    rows[i + SUBTREE] = size;
+    rows[i + ROLE] = 0;
+    rows[i + ID] = 0;
+    rows[i + PARAM] = param;
+    rows[i + SCALE] = scale;
+    rows[i + HOME] = 0;
+    rows[i + START] = 0;
+    rows[i + SIZE] = 0;
+    rows[i + ZONE_START] = zone_start;
+    rows[i + ZONE_SIZE] = zone_size;
 }
 
 // Writes what makes a row a field's: role, union id, and where its name stands.
@@ -50,12 +62,12 @@ pub(crate) fn put_field(
     requires { ⌜ rowWords * row + rowWords ≤ length (now rows) ⌝ }
     ensures { λ _. ⌜ now (rows .exit) ≡ sets (sets (now (rows .entry)) (rowWords * row + 2) (role ∷ id ∷ [])) (rowWords * row + 6) (home ∷ start ∷ size ∷ []) ⌝ }
 {
-    let i = 11 * row;
-    rows[i + 2] = role;
-    rows[i + 3] = id;
-    rows[i + 6] = home;
-    rows[i + 7] = start;
-    rows[i + 8] = size;
+    let i = ROW_WORDS * row;
+    rows[i + ROLE] = role;
+    rows[i + ID] = id;
+    rows[i + HOME] = home;
+    rows[i + START] = start;
+    rows[i + SIZE] = size;
 }
 
 // Word k of a row.
@@ -63,7 +75,7 @@ fn word(rows: &[u32], row: usize, k: usize) -> usize
     requires { ⌜ (rowWords * (row + 1) ≤ length (now rows)) × (k < rowWords) ⌝ }
     ensures { λ r. ⌜ (r ≡ getD (now (rows .entry)) (rowWords * row + k) 0) × (r < 4294967296) ⌝ }
 {
-    rows[11 * row + k] as usize
+    rows[ROW_WORDS * row + k] as usize
 }
 
 // How many rows there are from a row on to the end of its subtree, as the row says.
@@ -71,7 +83,7 @@ pub(crate) fn rows_of(rows: &[u32], row: usize) -> usize
     requires { ⌜ rowWords * row + rowWords ≤ length (now rows) ⌝ }
     ensures { λ r. ⌜ r ≡ getD (now (rows .entry)) (rowWords * row + 1) 0 ⌝ }
 {
-    word(rows, row, 1)
+    word(rows, row, SUBTREE)
 }
 
 // The role of a row whose subtree lies before the row `end`.
@@ -79,7 +91,7 @@ pub(crate) fn role_of(rows: &[u32], row: usize, end: usize) -> usize
     requires { ⌜ Nests (now rows) row (end - row) × (row < end) ⌝ }
     ensures { λ r. ⌜ r ≡ roleOf (forestAt (now (rows .entry)) row (end - row)) ⌝ }
 {
-    word(rows, row, 2)
+    word(rows, row, ROLE)
 }
 
 // The refusal of Map's entries, whose row stands before the row `end` with all of its subtree, or 0.
@@ -87,25 +99,25 @@ pub(crate) fn entries_refusal(rows: &[u32], row: usize, end: usize) -> u32
     requires { ⌜ Nests (now rows) row (end - row) × (row < end) × (end ≤ 1024) ⌝ }
     ensures { λ r. ⌜ r ≡ entriesOf (forestAt (now (rows .entry)) row (end - row)) ⌝ }
 {
-    if word(rows, row, 2) != 2 {
+    if word(rows, row, ROLE) != 2 {
         return 13;
     }
-    if word(rows, row, 0) != 32 {
+    if word(rows, row, KIND) != 32 {
         return 14;
     }
-    let behind = row + word(rows, row, 1);
+    let behind = row + word(rows, row, SUBTREE);
     let key = row + 1;
     if key >= behind {
         return 14;
     }
-    let value = key + word(rows, key, 1);
+    let value = key + word(rows, key, SUBTREE);
     if value >= behind {
         return 14;
     }
-    if value + word(rows, value, 1) != behind {
+    if value + word(rows, value, SUBTREE) != behind {
         return 14;
     }
-    if word(rows, key, 2) != 2 {
+    if word(rows, key, ROLE) != 2 {
         return 13;
     }
     0

@@ -1,175 +1,126 @@
 use Rattle.datatype_display.specs.Bound.{kindBounds, kindBound}
-use Rattle.datatype_display.proofs.BoundLaws.{bound-rest}
+use Rattle.datatype_display.proofs.BoundLaws.{bound-first, bound-rest}
 use mathlib.Core.Path.{ap, sym}
 use Rattle.datatype_display.proofs.bound.kind_bound.Statement.{statement}
 use Rattle.datatype_display.proofs.bound.kind_bound.Tie as tie
 
 returns : tie.Need-returns
-unfolding kindBounds kindBound
-returns c = ap kindBound (sym (c .match .keys1))
+returns c = bound-first _ (c .if1 .taken)
 
 returns-2 : tie.Need-returns-2
 unfolding kindBounds kindBound
-returns-2 c = ap kindBound (sym (c .match .keys2))
+returns-2 c = ap kindBound (sym (c .match .keys1))
 
 returns-3 : tie.Need-returns-3
 unfolding kindBounds kindBound
-returns-3 c = ap kindBound (sym (c .match .keys3))
+returns-3 c = ap kindBound (sym (c .match .keys2))
 
 returns-4 : tie.Need-returns-4
 unfolding kindBounds kindBound
-returns-4 c = ap kindBound (sym (c .match .keys4))
+returns-4 c = ap kindBound (sym (c .match .keys3))
 
 returns-5 : tie.Need-returns-5
 unfolding kindBounds kindBound
-returns-5 c = ap kindBound (sym (c .match .keys5))
+returns-5 c = ap kindBound (sym (c .match .keys4))
 
 returns-6 : tie.Need-returns-6
 unfolding kindBounds kindBound
-returns-6 c = ap kindBound (sym (c .match .keys6))
+returns-6 c = ap kindBound (sym (c .match .keys5))
 
 returns-7 : tie.Need-returns-7
 unfolding kindBounds kindBound
-returns-7 c = ap kindBound (sym (c .match .keys7))
+returns-7 c = ap kindBound (sym (c .match .keys6))
 
 returns-8 : tie.Need-returns-8
 unfolding kindBounds kindBound
-returns-8 c = ap kindBound (sym (c .match .keys8))
+returns-8 c = ap kindBound (sym (c .match .keys7))
 
 returns-9 : tie.Need-returns-9
 unfolding kindBounds kindBound
-returns-9 c = ap kindBound (sym (c .match .keys9))
+returns-9 c = ap kindBound (sym (c .match .keys8))
 
 returns-10 : tie.Need-returns-10
 unfolding kindBounds kindBound
-returns-10 c = ap kindBound (sym (c .match .keys10))
+returns-10 c = ap kindBound (sym (c .match .keys9))
 
 returns-11 : tie.Need-returns-11
 unfolding kindBounds kindBound
-returns-11 c = ap kindBound (sym (c .match .keys11))
+returns-11 c = ap kindBound (sym (c .match .keys10))
 
 returns-12 : tie.Need-returns-12
 unfolding kindBounds kindBound
-returns-12 c = ap kindBound (sym (c .match .keys12))
+returns-12 c = ap kindBound (sym (c .match .keys11))
 
 returns-13 : tie.Need-returns-13
 unfolding kindBounds kindBound
-returns-13 c = ap kindBound (sym (c .match .keys13))
+returns-13 c = ap kindBound (sym (c .match .keys12))
 
 returns-14 : tie.Need-returns-14
 unfolding kindBounds kindBound
-returns-14 c = ap kindBound (sym (c .match .keys14))
+returns-14 c = ap kindBound (sym (c .match .keys13))
 
 returns-15 : tie.Need-returns-15
 unfolding kindBounds kindBound
-returns-15 c = ap kindBound (sym (c .match .keys15))
+returns-15 c = ap kindBound (sym (c .match .keys14))
 
 returns-16 : tie.Need-returns-16
 unfolding kindBounds kindBound
-returns-16 c = ap kindBound (sym (c .match .keys16))
+returns-16 c = ap kindBound (sym (c .match .keys15))
 
 returns-17 : tie.Need-returns-17
 unfolding kindBounds kindBound
-returns-17 c = ap kindBound (sym (c .match .keys17))
+returns-17 c = ap kindBound (sym (c .match .keys16))
 
 returns-18 : tie.Need-returns-18
 unfolding kindBounds kindBound
-returns-18 c = ap kindBound (sym (c .match .keys18))
+returns-18 c = ap kindBound (sym (c .match .keys17))
 
 returns-19 : tie.Need-returns-19
 unfolding kindBounds kindBound
-returns-19 c = ap kindBound (sym (c .match .keys19))
+returns-19 c = ap kindBound (sym (c .match .keys18))
 
 returns-20 : tie.Need-returns-20
 unfolding kindBounds kindBound
-returns-20 c = ap kindBound (sym (c .match .keys20))
+returns-20 c = ap kindBound (sym (c .match .keys19))
 
 returns-21 : tie.Need-returns-21
 unfolding kindBounds kindBound
-returns-21 c = ap kindBound (sym (c .match .keys21))
+returns-21 c = ap kindBound (sym (c .match .keys20))
 
 returns-22 : tie.Need-returns-22
 unfolding kindBounds kindBound
-returns-22 c = ap kindBound (sym (c .match .keys22))
+returns-22 c = ap kindBound (sym (c .match .keys21))
 
 returns-23 : tie.Need-returns-23
 unfolding kindBounds kindBound
-returns-23 c = ap kindBound (sym (c .match .keys23))
+returns-23 c = ap kindBound (sym (c .match .keys22))
 
 returns-24 : tie.Need-returns-24
 unfolding kindBounds kindBound
-returns-24 c = ap kindBound (sym (c .match .keys24))
+returns-24 c = ap kindBound (sym (c .match .keys23))
 
 returns-25 : tie.Need-returns-25
 unfolding kindBounds kindBound
-returns-25 c = ap kindBound (sym (c .match .keys25))
+returns-25 c = ap kindBound (sym (c .match .keys24))
 
 returns-26 : tie.Need-returns-26
 unfolding kindBounds kindBound
-returns-26 c = ap kindBound (sym (c .match .keys26))
+returns-26 c = ap kindBound (sym (c .match .keys25))
 
 returns-27 : tie.Need-returns-27
 unfolding kindBounds kindBound
-returns-27 c = ap kindBound (sym (c .match .keys27))
+returns-27 c = ap kindBound (sym (c .match .keys26))
 
 returns-28 : tie.Need-returns-28
 unfolding kindBounds kindBound
-returns-28 c = ap kindBound (sym (c .match .keys28))
+returns-28 c = ap kindBound (sym (c .match .keys27))
 
 returns-29 : tie.Need-returns-29
 unfolding kindBounds kindBound
-returns-29 c = ap kindBound (sym (c .match .keys29))
+returns-29 c = ap kindBound (sym (c .match .keys28))
 
 returns-30 : tie.Need-returns-30
-unfolding kindBounds kindBound
-returns-30 c = ap kindBound (sym (c .match .keys30))
-
-returns-31 : tie.Need-returns-31
-unfolding kindBounds kindBound
-returns-31 c = ap kindBound (sym (c .match .keys31))
-
-returns-32 : tie.Need-returns-32
-unfolding kindBounds kindBound
-returns-32 c = ap kindBound (sym (c .match .keys32))
-
-returns-33 : tie.Need-returns-33
-unfolding kindBounds kindBound
-returns-33 c = ap kindBound (sym (c .match .keys33))
-
-returns-34 : tie.Need-returns-34
-unfolding kindBounds kindBound
-returns-34 c = ap kindBound (sym (c .match .keys34))
-
-returns-35 : tie.Need-returns-35
-unfolding kindBounds kindBound
-returns-35 c = ap kindBound (sym (c .match .keys35))
-
-returns-36 : tie.Need-returns-36
-unfolding kindBounds kindBound
-returns-36 c = ap kindBound (sym (c .match .keys36))
-
-returns-37 : tie.Need-returns-37
-unfolding kindBounds kindBound
-returns-37 c = ap kindBound (sym (c .match .keys37))
-
-returns-38 : tie.Need-returns-38
-unfolding kindBounds kindBound
-returns-38 c = ap kindBound (sym (c .match .keys38))
-
-returns-39 : tie.Need-returns-39
-unfolding kindBounds kindBound
-returns-39 c = ap kindBound (sym (c .match .keys39))
-
-returns-40 : tie.Need-returns-40
-unfolding kindBounds kindBound
-returns-40 c = ap kindBound (sym (c .match .keys40))
-
-returns-41 : tie.Need-returns-41
-unfolding kindBounds kindBound
-returns-41 c = ap kindBound (sym (c .match .keys41))
-
-returns-42 : tie.Need-returns-42
-returns-42 c = bound-rest _ (c .match .rest)
+returns-30 c = bound-rest _ (c .before .if1 .left) (c .match .rest)
 
 pub kind-bound-spec : {M : Type 1} → statement M
 kind-bound-spec =
@@ -204,16 +155,4 @@ kind-bound-spec =
     returns-27
     returns-28
     returns-29
-    returns-30
-    returns-31
-    returns-32
-    returns-33
-    returns-34
-    returns-35
-    returns-36
-    returns-37
-    returns-38
-    returns-39
-    returns-40
-    returns-41
-    returns-42)
+    returns-30)
