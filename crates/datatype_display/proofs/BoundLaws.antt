@@ -7,7 +7,7 @@ use native.Mathlib.Decide.{decLt}
 use native.Mathlib.Omega.{arith}
 use lib.ListN.{length, getD, take, drop}
 use lib.Seq.{drop-drop}
-use lib.Dec.{T, leb, ltb, eqb, leb→le, eqb→eq}
+use lib.Dec.{T, leb, eqb, leb→le, eqb→eq}
 use borrow.Author.Tests.{lt-ltb, le-ltb, le-leb, lt-leb, eq-eqb, ne-eqb}
 use Rattle.tokenizer.proofs.Listed.{NoneOf}
 use Rattle.datatype.specs.Kind.{has, kinds}
@@ -38,32 +38,26 @@ weight-printable c w e =
 
 -- ---- kinds
 
-past : (l : List ℕ) (k : ℕ) → length l ≤ k → 0 ≡ getD l k 0
-past [] k h = refl
-past (x ∷ l) zero h = absurd (omega arith)
-past (x ∷ l) (suc k) h = past l k (omega arith)
+past : (l : List ℕ) (k d : ℕ) → length l ≤ k → d ≡ getD l k d
+past [] k d h = refl
+past (x ∷ l) zero d h = absurd (omega arith)
+past (x ∷ l) (suc k) d h = past l k d (omega arith)
 
-bounds-end : (k : ℕ) → 41 ≤ k → 0 ≡ kindBound k
+bounds-end : (k : ℕ) → 41 ≤ k → 13 ≡ kindBound k
 unfolding kindBounds kindBound
-bounds-end k h = past kindBounds k h
+bounds-end k h = past kindBounds k 13 h
 
-first-below : T (allBelow 13 (λ k. eqb (kindBound k) 13))
+words-alone : T (allBelow kinds (λ k. has k (13 ∷ 14 ∷ 15 ∷ 16 ∷ 17 ∷ 18 ∷ 19 ∷ 20 ∷ 21 ∷ 22 ∷ 23 ∷ 24 ∷ 25 ∷ 26 ∷ 27 ∷ 28 ∷ 29 ∷ 30 ∷ 31 ∷ 32 ∷ 33 ∷ 34 ∷ 35 ∷ 36 ∷ 37 ∷ 38 ∷ 39 ∷ 40 ∷ []) || eqb (kindBound k) 13))
 unfolding kindBounds kindBound
-first-below = tt
+words-alone = tt
 
-pub bound-first : (k : ℕ) → k < 13 → 13 ≡ kindBound k
-bound-first k h = sym (eqb→eq (kindBound k) 13 (below-at 13 (λ k. eqb (kindBound k) 13) first-below k h))
-
-pub bound-rest : (k : ℕ) → 13 ≤ k → NoneOf k (Unit {0}) (13 ∷ 14 ∷ 15 ∷ 16 ∷ 17 ∷ 18 ∷ 19 ∷ 20 ∷ 21 ∷ 22 ∷ 23 ∷ 24 ∷ 25 ∷ 26 ∷ 27 ∷ 28 ∷ 29 ∷ 30 ∷ 31 ∷ 32 ∷ 33 ∷ 34 ∷ 35 ∷ 36 ∷ 37 ∷ 38 ∷ 39 ∷ 40 ∷ []) → 0 ≡ kindBound k
-bound-rest k l n =
+pub bound-rest : (k : ℕ) → NoneOf k (Unit {0}) (13 ∷ 14 ∷ 15 ∷ 16 ∷ 17 ∷ 18 ∷ 19 ∷ 20 ∷ 21 ∷ 22 ∷ 23 ∷ 24 ∷ 25 ∷ 26 ∷ 27 ∷ 28 ∷ 29 ∷ 30 ∷ 31 ∷ 32 ∷ 33 ∷ 34 ∷ 35 ∷ 36 ∷ 37 ∷ 38 ∷ 39 ∷ 40 ∷ []) → 13 ≡ kindBound k
+bound-rest k n =
     let xs : List ℕ = 13 ∷ 14 ∷ 15 ∷ 16 ∷ 17 ∷ 18 ∷ 19 ∷ 20 ∷ 21 ∷ 22 ∷ 23 ∷ 24 ∷ 25 ∷ 26 ∷ 27 ∷ 28 ∷ 29 ∷ 30 ∷ 31 ∷ 32 ∷ 33 ∷ 34 ∷ 35 ∷ 36 ∷ 37 ∷ 38 ∷ 39 ∷ 40 ∷ [] in
     elim (decLt k kinds) [
-      | yes h ↦ absurd (past-first k l (rw (none-has k (Unit {0}) xs n .1) at (below-at kinds (λ k. ltb k 13 || has k xs) tt k h)))
+      | yes h ↦ sym (eqb→eq (kindBound k) 13 (rw (none-has k (Unit {0}) xs n .1) at (below-at kinds (λ k. has k xs || eqb (kindBound k) 13) words-alone k h)))
       | no h ↦ bounds-end k (omega arith)
     ]
-  where
-    past-first : (k : ℕ) → 13 ≤ k → T (ltb k 13 || false) → ⊥
-    past-first k l t = rw (le-ltb k 13 l) at t
 
 few-below : T (allBelow kinds (λ k. leb (kindBound k) 39))
 unfolding kindBounds kindBound

@@ -28,7 +28,7 @@ kindBounds =
     ∷ 17 ∷ 21 ∷ 39 ∷ 22 ∷ 26 ∷ 14 ∷ 19 ∷ 18 ∷ 26 ∷ 26 ∷ 27 ∷ 27 ∷ 21 ∷ 21 ∷ []
 
 unfoldable pub kindBound : ℕ → ℕ
-kindBound k = getD kindBounds k 0
+kindBound k = getD kindBounds k 13
 
 -- What a union writes about each of its fields besides: it has no more fields than rows.
 unfoldable pub idBound : ℕ → ℕ

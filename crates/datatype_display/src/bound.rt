@@ -10,7 +10,6 @@ ghost use Rattle.row_table.specs.Sound.{isSound};
 ghost use Rattle.datatype_display.specs.Bound.{isPrintable, byteWeight, kindBound, boundAt, treeBound, Prints};
 use crate::ascii::greater;
 use crate::row::word;
-use datatype::kind::TIMESTAMP;
 use datatype::kind::UNION;
 use datatype::rows::KIND;
 use datatype::rows::MAX_TEXT;
@@ -43,13 +42,10 @@ fn is_printable(s: &[u8]) -> bool
     top <= 126
 }
 
-// The share of a kind: the kinds before Timestamp, which are words alone, share the greatest of theirs.
+// The share of a kind: the kinds before Timestamp, which are words alone, have the greatest of theirs.
 fn kind_bound(kind: u32) -> usize
     ensures { λ r. ⌜ r ≡ kindBound kind ⌝ }
 {
-    if kind < TIMESTAMP {
-        return 13;
-    }
     match kind {
         13 => 24,
         14 => 12,
@@ -79,7 +75,7 @@ fn kind_bound(kind: u32) -> usize
         38 => 27,
         39 => 21,
         40 => 21,
-        _ => 0,
+        _ => 13,
     }
 }
 
