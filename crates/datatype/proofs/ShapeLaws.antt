@@ -1,11 +1,11 @@
 -- The shapes of kinds, for a `match` over kinds: those that are not leaves one by one, and all others.
-use mathlib.Core.Path.{_≡_, refl}
+use mathlib.Core.Path.{_≡_, refl, sym}
 use mathlib.Core.Bool.{Bool, true, false, _||_}
 use mathlib.Core.List.{List, [], _∷_}
 use Prim.Native.Nat.{ℕ, _≤_, _<_}
 use native.Mathlib.Decide.{decLt}
 use native.Mathlib.Omega.{arith}
-use lib.Dec.{T}
+use lib.Dec.{T, eqb, eqb→eq}
 use borrow.Author.Tests.{ne-eqb}
 use Rattle.tokenizer.proofs.Listed.{NoneOf}
 use Rattle.datatype.specs.Kind.{Shape, leaf, timestamp, time, interval, fixed, list, fixedList, struct, union, dictionary, decimal, mapping, runEnds, kinds, shapeOf, has}
@@ -60,6 +60,10 @@ leaf-or = tt
 pub none-has : (k : ℕ) (A : Type 0) (xs : List ℕ) → NoneOf k A xs → A × (has k xs ≡ false)
 none-has k A [] n = (n, refl)
 none-has k A (x ∷ xs) n = let r = none-has k (A × (k ≡ x → ⊥)) xs n in (r .0 .0, rw (ne-eqb k x (r .0 .1)) (r .1))
+
+-- All kinds but some have one number: the test is computed once.
+pub else-value : (f : ℕ → ℕ) (v : ℕ) (xs : List ℕ) → T (allBelow kinds (λ k. has k xs || eqb (f k) v)) → (k : ℕ) → k < kinds → NoneOf k (Unit {0}) xs → v ≡ f k
+else-value f v xs t k h n = sym (eqb→eq (f k) v (rw (none-has k (Unit {0}) xs n .1) at (below-at kinds (λ k. has k xs || eqb (f k) v) t k h)))
 
 pub leaf-kind : (k : ℕ) → k < 41 → NoneOf k (Unit {0}) branching → shapeOf k ≡ leaf
 leaf-kind k h n =

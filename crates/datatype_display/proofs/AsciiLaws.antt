@@ -9,7 +9,7 @@ use lib.Seq.{drop-cons}
 use lib.Dec.{T, leb, leb→le, le→leb}
 use borrow.Author.Tests.{le-leb}
 use Rattle.tokenizer.specs.Text.{same, bytes, all, if_then_else_}
-use Rattle.tokenizer.proofs.Basics.{and-l, and-r, both, is-true, of-true}
+use Rattle.tokenizer.proofs.Basics.{and-l, and-r, both, is-true, of-true, all-take, all-drop}
 use Rattle.datatype.specs.Kind.{Shape, runEnds, shapeOf}
 use Rattle.datatype.specs.Tree.{Forest, ∅, node, count, roots, depth, Row, Label, part, nameOf, zoneOf, labelOf, labels}
 use Rattle.datatype.specs.Table.{rowWords, treeOf}
@@ -225,22 +225,12 @@ module _ (text names table : List ℕ) (level start end : ℕ) where
 -- ---- a text whose bytes all pass a test
 
 module _ (test : ℕ → Bool) where
-  take-all : (n : ℕ) (s : List ℕ) → T (all test s) → T (all test (take n s))
-  take-all zero s t = tt
-  take-all (suc n) [] t = tt
-  take-all (suc n) (c ∷ s) t = both (test c) (all test (take n s)) (and-l (test c) (all test s) t) (take-all n s (and-r (test c) (all test s) t))
-
-  drop-all : (n : ℕ) (s : List ℕ) → T (all test s) → T (all test (drop n s))
-  drop-all zero s t = t
-  drop-all (suc n) [] t = tt
-  drop-all (suc n) (c ∷ s) t = drop-all n s (and-r (test c) (all test s) t)
-
   -- a part of a list that passes a test, and a name or a zone
   part-all : (s : List ℕ) (start size : ℕ) → T (all test s) → all test (part s start size) ≡ true
   part-all s start size t = go (leb (start + size) (length s))
     where
       go : (b : Bool) → all test (if b then take size (drop start s) else []) ≡ true
-      go true = is-true _ (take-all size (drop start s) (drop-all start s t))
+      go true = is-true _ (all-take test size (drop start s) (all-drop test start s t))
       go false = refl
 
   pub name-all : (text names : List ℕ) → T (all test text) → T (all test names) → (home start size : ℕ) → all test (nameOf text names home start size) ≡ true

@@ -5,19 +5,20 @@ use mathlib.Core.List.{List, [], _∷_}
 use Prim.Native.Nat.{ℕ, zero, suc, _+_, _-_, _*_, _/_, _≤_, _<_}
 use native.Mathlib.Decide.{decLt}
 use native.Mathlib.Omega.{arith}
-use lib.ListN.{length, getD, take, drop}
+use lib.ListN.{length, getD, take, drop, List·getD-eq-default}
 use lib.Seq.{drop-drop}
-use lib.Dec.{T, leb, eqb, leb→le, eqb→eq}
+use lib.Dec.{T, leb, eqb, leb→le}
 use borrow.Author.Tests.{lt-ltb, le-ltb, le-leb, lt-leb, eq-eqb, ne-eqb}
+use Rattle.tokenizer.specs.Text.{isPrintable}
 use Rattle.tokenizer.proofs.Listed.{NoneOf}
 use Rattle.datatype.specs.Kind.{has, kinds}
 use Rattle.datatype.specs.Table.{rowWords}
 use Rattle.datatype.proofs.Tests.{allBelow, below-at}
-use Rattle.datatype.proofs.ShapeLaws.{none-has}
+use Rattle.datatype.proofs.ShapeLaws.{else-value}
 use Rattle.row_table.specs.Equal.{firstRows, wholeRows}
 use Rattle.row_table.specs.Run.{sizeAt}
 use Rattle.row_table.proofs.EqualLaws.{row-word}
-use Rattle.datatype_display.specs.Bound.{isPrintable, byteWeight, kindBounds, kindBound, idBound, rowBound, boundAt, rowsBound, treeBound}
+use Rattle.datatype_display.specs.Bound.{byteWeight, kindBounds, kindBound, idBound, rowBound, boundAt, rowsBound, treeBound}
 
 -- ---- bytes
 
@@ -38,26 +39,20 @@ weight-printable c w e =
 
 -- ---- kinds
 
-past : (l : List ℕ) (k d : ℕ) → length l ≤ k → d ≡ getD l k d
-past [] k d h = refl
-past (x ∷ l) zero d h = absurd (omega arith)
-past (x ∷ l) (suc k) d h = past l k d (omega arith)
-
 bounds-end : (k : ℕ) → 41 ≤ k → 13 ≡ kindBound k
 unfolding kindBounds kindBound
-bounds-end k h = past kindBounds k 13 h
+bounds-end k h = sym (List·getD-eq-default kindBounds 13 {n = k} h)
 
-words-alone : T (allBelow kinds (λ k. has k (13 ∷ 14 ∷ 15 ∷ 16 ∷ 17 ∷ 18 ∷ 19 ∷ 20 ∷ 21 ∷ 22 ∷ 23 ∷ 24 ∷ 25 ∷ 26 ∷ 27 ∷ 28 ∷ 29 ∷ 30 ∷ 31 ∷ 32 ∷ 33 ∷ 34 ∷ 35 ∷ 36 ∷ 37 ∷ 38 ∷ 39 ∷ 40 ∷ []) || eqb (kindBound k) 13))
+-- the kinds that the code names one by one
+abbrev pub named : List ℕ
+named = 13 ∷ 14 ∷ 15 ∷ 16 ∷ 17 ∷ 18 ∷ 19 ∷ 20 ∷ 21 ∷ 22 ∷ 23 ∷ 24 ∷ 25 ∷ 26 ∷ 27 ∷ 28 ∷ 29 ∷ 30 ∷ 31 ∷ 32 ∷ 33 ∷ 34 ∷ 35 ∷ 36 ∷ 37 ∷ 38 ∷ 39 ∷ 40 ∷ []
+
+words-alone : T (allBelow kinds (λ k. has k named || eqb (kindBound k) 13))
 unfolding kindBounds kindBound
 words-alone = tt
 
-pub bound-rest : (k : ℕ) → NoneOf k (Unit {0}) (13 ∷ 14 ∷ 15 ∷ 16 ∷ 17 ∷ 18 ∷ 19 ∷ 20 ∷ 21 ∷ 22 ∷ 23 ∷ 24 ∷ 25 ∷ 26 ∷ 27 ∷ 28 ∷ 29 ∷ 30 ∷ 31 ∷ 32 ∷ 33 ∷ 34 ∷ 35 ∷ 36 ∷ 37 ∷ 38 ∷ 39 ∷ 40 ∷ []) → 13 ≡ kindBound k
-bound-rest k n =
-    let xs : List ℕ = 13 ∷ 14 ∷ 15 ∷ 16 ∷ 17 ∷ 18 ∷ 19 ∷ 20 ∷ 21 ∷ 22 ∷ 23 ∷ 24 ∷ 25 ∷ 26 ∷ 27 ∷ 28 ∷ 29 ∷ 30 ∷ 31 ∷ 32 ∷ 33 ∷ 34 ∷ 35 ∷ 36 ∷ 37 ∷ 38 ∷ 39 ∷ 40 ∷ [] in
-    elim (decLt k kinds) [
-      | yes h ↦ sym (eqb→eq (kindBound k) 13 (rw (none-has k (Unit {0}) xs n .1) at (below-at kinds (λ k. has k xs || eqb (kindBound k) 13) words-alone k h)))
-      | no h ↦ bounds-end k (omega arith)
-    ]
+pub bound-rest : (k : ℕ) → NoneOf k (Unit {0}) named → 13 ≡ kindBound k
+bound-rest k n = elim (decLt k kinds) [ yes h ↦ else-value kindBound 13 named words-alone k h n | no h ↦ bounds-end k (omega arith) ]
 
 few-below : T (allBelow kinds (λ k. leb (kindBound k) 39))
 unfolding kindBounds kindBound

@@ -13,7 +13,7 @@ use native.Mathlib.Omega.{arith}
 use lib.ListN.{length, length-append, length-take, take, drop}
 use lib.Dec.{T, leb, ltb, eqb, leb→le, ltb→lt, lt→ltb, eqb→eq}
 use borrow.Author.Tests.{lt-ltb, le-ltb, le-leb, eq-eqb, ne-eqb}
-use Rattle.tokenizer.specs.Text.{bytes, same, all, if_then_else_}
+use Rattle.tokenizer.specs.Text.{bytes, same, all, if_then_else_, isPrintable}
 use Rattle.tokenizer.specs.Words.{words}
 use Rattle.tokenizer.proofs.Basics.{and-l, and-r, both, is-true, of-true}
 use Rattle.datatype.specs.Kind.{Shape, leaf, timestamp, time, interval, fixed, list, fixedList, struct, union, dictionary, decimal, mapping, runEnds, kinds, shapeOf}
@@ -27,7 +27,7 @@ use Rattle.row_table.proofs.RowList.{rowsOf, whole-rows, count-labels}
 use Rattle.row_table.proofs.SoundTree.{RowFits, rows-fit, SoundTree, sound-tree, sound-count, sound-labels}
 use Rattle.datatype_display.specs.Display.{kindWord, digitsWith, digits, unitText, intervalText, modeText, sortedText, scaleText, escape, escaped, quoted, Shown, nullityText, fieldText, listNameText, listFieldText, structText, unionText, zoneText, defaultNames, runEndText, shapeText, typeText, display, untyped, ownLength, displayLength}
 use Rattle.datatype_display.specs.Print.{isAscii}
-use Rattle.datatype_display.specs.Bound.{isPrintable, kindBounds, kindBound, idBound, rowBound, rowsBound, treeBound, Prints}
+use Rattle.datatype_display.specs.Bound.{kindBounds, kindBound, idBound, rowBound, rowsBound, treeBound, Prints}
 use Rattle.datatype_display.proofs.Escapes.{escape-34, escape-92, escape-rest}
 use Rattle.datatype_display.proofs.AsciiLaws.{name-all, zone-all, tree-ascii}
 use Rattle.datatype_display.proofs.Length.{display-length}

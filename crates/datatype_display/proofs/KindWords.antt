@@ -15,7 +15,7 @@ use Rattle.tokenizer.proofs.Basics.{and-l, and-r}
 use Rattle.tokenizer.proofs.Listed.{NoneOf, same-path}
 use Rattle.datatype.specs.Kind.{has, kinds}
 use Rattle.datatype.proofs.Tests.{allBelow, below-at}
-use Rattle.datatype.proofs.ShapeLaws.{none-has}
+use Rattle.datatype.proofs.ShapeLaws.{else-value}
 use Rattle.datatype.proofs.Sets.{sets-append}
 use Rattle.datatype_display.specs.Display.{kindWord}
 use Rattle.datatype_display.specs.Steps.{Wrote, Moved, Put, four, eight, kindSizes, shortWord, longHead, longTail, kindText}
@@ -160,18 +160,14 @@ sizes-rest zero n = absurd (n .0 .1 refl)
 sizes-rest (suc zero) n = absurd (n .1 refl)
 sizes-rest (suc (suc g)) n = refl
 
--- The kinds that a number is zero for.
-zero-else : (f : ℕ → ℕ) (xs : List ℕ) → T (allBelow kinds (λ k. has k xs || eqb (f k) 0)) → (k : ℕ) → k < kinds → NoneOf k (Unit {0}) xs → 0 ≡ f k
-zero-else f xs t k h n = sym (eqb→eq (f k) 0 (rw (none-has k (Unit {0}) xs n .1) at (below-at kinds (λ k. has k xs || eqb (f k) 0) t k h)))
-
 pub short-rest : (k : ℕ) → k < kinds → NoneOf k (Unit {0}) (0 ∷ 1 ∷ 2 ∷ 3 ∷ 4 ∷ 5 ∷ 6 ∷ 7 ∷ 8 ∷ 9 ∷ 10 ∷ 11 ∷ 12 ∷ 14 ∷ 15 ∷ 16 ∷ 17 ∷ 18 ∷ 19 ∷ 20 ∷ 24 ∷ 26 ∷ 27 ∷ 28 ∷ 32 ∷ 33 ∷ 39 ∷ []) → 0 ≡ shortWord k
 unfolding words kindWord packed shortWord
-short-rest = zero-else shortWord (0 ∷ 1 ∷ 2 ∷ 3 ∷ 4 ∷ 5 ∷ 6 ∷ 7 ∷ 8 ∷ 9 ∷ 10 ∷ 11 ∷ 12 ∷ 14 ∷ 15 ∷ 16 ∷ 17 ∷ 18 ∷ 19 ∷ 20 ∷ 24 ∷ 26 ∷ 27 ∷ 28 ∷ 32 ∷ 33 ∷ 39 ∷ []) tt
+short-rest = else-value shortWord 0 (0 ∷ 1 ∷ 2 ∷ 3 ∷ 4 ∷ 5 ∷ 6 ∷ 7 ∷ 8 ∷ 9 ∷ 10 ∷ 11 ∷ 12 ∷ 14 ∷ 15 ∷ 16 ∷ 17 ∷ 18 ∷ 19 ∷ 20 ∷ 24 ∷ 26 ∷ 27 ∷ 28 ∷ 32 ∷ 33 ∷ 39 ∷ []) tt
 
 pub head-rest : (k : ℕ) → k < kinds → NoneOf k (Unit {0}) (13 ∷ 21 ∷ 22 ∷ 23 ∷ 25 ∷ 29 ∷ 30 ∷ 31 ∷ 34 ∷ 35 ∷ 36 ∷ 37 ∷ 38 ∷ 40 ∷ []) → 0 ≡ longHead k
 unfolding words kindWord packed longHead
-head-rest = zero-else longHead (13 ∷ 21 ∷ 22 ∷ 23 ∷ 25 ∷ 29 ∷ 30 ∷ 31 ∷ 34 ∷ 35 ∷ 36 ∷ 37 ∷ 38 ∷ 40 ∷ []) tt
+head-rest = else-value longHead 0 (13 ∷ 21 ∷ 22 ∷ 23 ∷ 25 ∷ 29 ∷ 30 ∷ 31 ∷ 34 ∷ 35 ∷ 36 ∷ 37 ∷ 38 ∷ 40 ∷ []) tt
 
 pub tail-rest : (k : ℕ) → k < kinds → NoneOf k (Unit {0}) (13 ∷ 21 ∷ 22 ∷ 23 ∷ 25 ∷ 29 ∷ 30 ∷ 31 ∷ 34 ∷ 35 ∷ 36 ∷ 37 ∷ 38 ∷ 40 ∷ []) → 0 ≡ longTail k
 unfolding words kindWord packed longTail
-tail-rest = zero-else longTail (13 ∷ 21 ∷ 22 ∷ 23 ∷ 25 ∷ 29 ∷ 30 ∷ 31 ∷ 34 ∷ 35 ∷ 36 ∷ 37 ∷ 38 ∷ 40 ∷ []) tt
+tail-rest = else-value longTail 0 (13 ∷ 21 ∷ 22 ∷ 23 ∷ 25 ∷ 29 ∷ 30 ∷ 31 ∷ 34 ∷ 35 ∷ 36 ∷ 37 ∷ 38 ∷ 40 ∷ []) tt

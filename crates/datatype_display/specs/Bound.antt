@@ -1,22 +1,19 @@
 -- A bound on the printed length, which takes far less than the length itself: where it fits the buffer, so does the
 -- text. Nothing here has to be believed, since no public function's contract cites it.
 use mathlib.Core.Path.{_≡_}
-use mathlib.Core.Bool.{Bool, true, _&&_}
+use mathlib.Core.Bool.{true}
 use mathlib.Core.List.{List, [], _∷_}
 use Prim.Native.Nat.{ℕ, _+_, _*_, _/_, _≤_, min}
 use lib.ListN.{length, getD, take, drop}
-use lib.Dec.{leb, ltb, eqb}
+use lib.Dec.{ltb, eqb}
 use Rattle.tokenizer.specs.Text.{if_then_else_}
 use Rattle.datatype.specs.Table.{rowWords, treeOf}
 use Rattle.row_table.specs.Equal.{wholeRows}
 use Rattle.datatype_display.specs.Display.{display}
 use Rattle.datatype_display.specs.Print.{quotedAscii}
 
--- Printable ASCII (document 01's term). In double quotes such a byte is written as itself or as two.
-abbrev pub isPrintable : ℕ → Bool
-isPrintable c = leb 32 c && leb c 126
-
--- A byte's weight: those that are not printable ASCII are above those that are.
+-- A byte's weight: those that are not printable ASCII are above those that are, each of which is written in double quotes
+-- as itself or as two bytes.
 unfoldable pub byteWeight : ℕ → ℕ
 byteWeight c = if ltb c 32 then 255 else c
 

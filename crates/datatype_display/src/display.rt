@@ -96,7 +96,8 @@ fn put_type<'a>(
     put_nested(text, names, rows, level, i, out, at)
 }
 
-// Writes the printed text of a sound tree.
+// Writes the printed text of a sound tree. As `put_type` does, but that one is then called from a single place, which the
+// compiler makes part of the walk.
 pub(crate) fn put_tree<'a>(text: &'a [u8], names: &'a [u8], rows: &[u32], out: &mut [u8]) -> usize
     requires { ⌜ T (isSound (now text) (now names) (now rows)) ⌝ }
     ensures { λ r. ⌜ Put (now (out .entry)) 0 (display (treeOf (now (text .entry)) (now (names .entry)) (now (rows .entry)))) r (now (out .exit)) ⌝ }

@@ -5,15 +5,15 @@ use mathlib.Core.List.{List}
 use Prim.Native.Nat.{ℕ}
 use lib.ListN.{length}
 use lib.Dec.{leb, eqb}
-use Rattle.tokenizer.specs.Text.{all}
+use Rattle.tokenizer.specs.Text.{all, isPrintable}
 use Rattle.datatype.specs.Tree.{Forest, ∅, node, Label}
 use Rattle.datatype.specs.Table.{treeOf}
 use Rattle.row_table.specs.Sound.{isSound}
 use Rattle.datatype_display.specs.Display.{display}
 
--- Printable ASCII is bytes 32 to 126; quote marks are 34 and 39, the backslash 92.
+-- Printable ASCII without quote marks, 34 and 39, or the backslash, 92.
 unfoldable pub isPlain : ℕ → Bool
-isPlain c = leb 32 c && leb c 126 && not (eqb c 34) && not (eqb c 39) && not (eqb c 92)
+isPlain c = isPrintable c && not (eqb c 34) && not (eqb c 39) && not (eqb c 92)
 
 unfoldable pub allPlain : Forest Label → Bool
 allPlain ∅ = true

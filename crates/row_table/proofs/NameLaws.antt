@@ -11,8 +11,8 @@ use borrow.Author.Tests.{le-leb, lt-leb, eq-eqb, ne-eqb, leb-true, leb-false}
 use Rattle.tokenizer.specs.Text.{same, bytes, all}
 use Rattle.tokenizer.specs.Keys.{packed}
 use Rattle.tokenizer.specs.Utf8.{isUtf8}
-use Rattle.tokenizer.proofs.Basics.{is-false, of-true, and-l, and-r, both}
-use Rattle.tokenizer.proofs.Listed.{bytes-all}
+use Rattle.tokenizer.proofs.Basics.{is-false, of-true, all-take, all-drop}
+use Rattle.tokenizer.proofs.Listed.{isByte, bytes-all, unpack}
 use Rattle.datatype.specs.Kind.{kinds, shapeOf}
 use Rattle.datatype.specs.Tree.{nameList}
 use Rattle.row_table.specs.Sound.{isListed, rulesOf}
@@ -23,34 +23,6 @@ use Rattle.row_table.proofs.Boundary.{boundary-low, boundary-high, boun
 
 -- ---- the name list
 
-abbrev isByte : ℕ → Bool
-isByte b = ltb b 256
-
-all-take : (n : ℕ) (w : List ℕ) → T (all isByte w) → T (all isByte (take n w))
-all-take zero w t = tt
-all-take (suc n) [] t = tt
-all-take (suc n) (b ∷ w) t = both (isByte b) (all isByte (take n w)) (and-l (isByte b) (all isByte w) t) (all-take n w (and-r (isByte b) (all isByte w) t))
-
-all-drop : (n : ℕ) (w : List ℕ) → T (all isByte w) → T (all isByte (drop n w))
-all-drop zero w t = t
-all-drop (suc n) [] t = tt
-all-drop (suc n) (b ∷ w) t = all-drop n w (and-r (isByte b) (all isByte w) t)
-
--- bytes that are the same number are the same, if there are equally many
-unpack : (s u : List ℕ) (v w : ℕ) → T (all isByte s) → T (all isByte u) → length s ≡ length u → packed v s ≡ packed w u → (v ≡ w) × (s ≡ u)
-unfolding packed
-unpack [] [] v w a b l e = (e, refl)
-unpack [] (y ∷ u) v w a b l e = absurd (omega arith)
-unpack (x ∷ s) [] v w a b l e = absurd (omega arith)
-unpack (x ∷ s) (y ∷ u) v w a b l e =
-    let i = unpack s u (v * 256 + x) (w * 256 + y) (and-r (isByte x) (all isByte s) a) (and-r (isByte y) (all isByte u) b) (omega arith) e in
-    let f = i .0 in
-    let g = ltb→lt x 256 (and-l (isByte x) (all isByte s) a) in
-    let h = ltb→lt y 256 (and-l (isByte y) (all isByte u) b) in
-    let p : x ≡ y = omega arith in
-    let q = i .1 in
-    (omega arith, λ j. p j ∷ q j)
-
 module _ (names : List ℕ) where
   -- the number of a part that is not the default's
   pub list-part : (from size v w : ℕ) → v ≡ packed 0 (take size (drop from names)) → w ≡ packed 0 (take size (drop from nameList)) → (v ≡ w → ⊥) → false ≡ same names nameList
@@ -59,7 +31,7 @@ module _ (names : List ℕ) where
   module _ (e : length names ≡ 18) (h : (i : ℕ) → getD names i 0 < 256) where
     list-is : (from size v : ℕ) (u : List ℕ) → T (all isByte u) → from + size ≤ 18 → length u ≡ size → v ≡ packed 0 (take size (drop from names)) → v ≡ packed 0 u → take size (drop from names) ≡ u
     list-is from size v u b l k p q =
-        unpack (take size (drop from names)) u 0 0 (all-take size (drop from names) (all-drop from names (bytes-all names h))) b (length-take-le size (drop from names) (omega (arith, length-drop from names)) ∙ sym k) (sym p ∙ q) .1
+        unpack (take size (drop from names)) u 0 0 (all-take isByte size (drop from names) (all-drop isByte from names (bytes-all names h))) b (length-take-le size (drop from names) (omega (arith, length-drop from names)) ∙ sym k) (sym p ∙ q) .1
 
     pub list-last : (a b c : ℕ) → a ≡ packed 0 (take 8 names) → a ≡ packed 0 (bytes "itemrun_") → b ≡ packed 0 (take 8 (drop 8 names)) → b ≡ packed 0 (bytes "endsvalu")
         → c ≡ packed 0 (take 2 (drop 16 names)) → eqb c (packed 0 (bytes "es")) ≡ same names nameList

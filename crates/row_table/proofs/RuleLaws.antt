@@ -12,7 +12,7 @@ use Rattle.row_table.specs.Sound.{Place, bare, field, unionField, rulesO
 use Rattle.row_table.specs.Check.{placeOf, belowOf, isDecimal, ownShape, numbersFit}
 use Rattle.datatype.proofs.Tests.{iff-eq, allBelow, below-at, sameBool, same-bool}
 use Rattle.datatype.proofs.KindLaws.{past-kinds}
-use Rattle.datatype.proofs.ShapeLaws.{none-has}
+use Rattle.datatype.proofs.ShapeLaws.{else-value}
 use Rattle.tokenizer.proofs.Listed.{NoneOf}
 
 -- ---- the four decimals
@@ -89,8 +89,7 @@ module _ (k : ℕ) where
   params-at n v e h = rw e h
 
   pub params-one : k < kinds → NoneOf k (Unit {0}) withParam → 1 ≡ (rulesOf (shapeOf k)) .params
-  params-one h n =
-      sym (eqb→eq ((rulesOf (shapeOf k)) .params) 1 (rw (none-has k (Unit {0}) withParam n .1) at (below-at kinds (λ m. has m withParam || eqb ((rulesOf (shapeOf m)) .params) 1) one-param k h)))
+  params-one h n = else-value (λ m. (rulesOf (shapeOf m)) .params) 1 withParam one-param k h n
 
   -- a kind whose word 4 has one value
   module _ (m : ℕ) (h : k < kinds) (one : m ≡ 1) (is : m ≡ (rulesOf (shapeOf k)) .params) where

@@ -2,12 +2,12 @@
 use mathlib.Core.Path.{_≡_, refl, sym, ap, _∙_, subst}
 use mathlib.Core.Bool.{Bool, true, false, not, _&&_, _||_}
 use mathlib.Core.List.{List, [], _∷_, _++_}
-use Prim.Native.Nat.{ℕ, _+_}
+use Prim.Native.Nat.{ℕ, zero, suc, _+_}
 use native.Mathlib.Omega.{arith}
 use lib.ListN.{length, take, drop}
 use lib.Seq.{drop-drop, drop-append-seam}
 use lib.Dec.{T}
-use Rattle.tokenizer.specs.Text.{if_then_else_}
+use Rattle.tokenizer.specs.Text.{all, if_then_else_}
 
 pub and-l : (a b : Bool) → T (a && b) → T a
 and-l true b t = tt
@@ -46,3 +46,15 @@ skip k at text s h = sym (drop-drop k at text) ∙ ap (drop k) h
 
 pub skip-word : (at : ℕ) (text w s : List ℕ) → drop at text ≡ w ++ s → drop (at + length w) text ≡ s
 skip-word at text w s h = skip (length w) at text (w ++ s) h ∙ drop-append-seam w s
+
+-- ---- lists whose every number passes a test: their beginnings, and what is left behind one
+module _ (test : ℕ → Bool) where
+  pub all-take : (n : ℕ) (s : List ℕ) → T (all test s) → T (all test (take n s))
+  all-take zero s t = tt
+  all-take (suc n) [] t = tt
+  all-take (suc n) (c ∷ s) t = both (test c) (all test (take n s)) (and-l (test c) (all test s) t) (all-take n s (and-r (test c) (all test s) t))
+
+  pub all-drop : (n : ℕ) (s : List ℕ) → T (all test s) → T (all test (drop n s))
+  all-drop zero s t = t
+  all-drop (suc n) [] t = tt
+  all-drop (suc n) (c ∷ s) t = all-drop n s (and-r (test c) (all test s) t)

@@ -15,7 +15,7 @@ use Rattle.tokenizer.specs.Token.{isDigit, numberKind, wordKind}
 use Rattle.tokenizer.specs.Keys.{packed, hasKey, kindWith, keyKind}
 use Rattle.tokenizer.specs.declared.TokenKind.{TokenKind}
 use Rattle.tokenizer.specs.declared.TokenKind.the-variants.{Refused}
-use Rattle.tokenizer.proofs.Basics.{and-l, and-r, both}
+use Rattle.tokenizer.proofs.Basics.{and-l, and-r, both, all-take, all-drop}
 
 -- ---- two words compared
 
@@ -73,26 +73,15 @@ module _ (v i : ℕ) (h : v < 256 ^ i) where
 -- ---- words by their keys
 
 -- every number of a list is a byte
-abbrev isByte : ℕ → Bool
+abbrev pub isByte : ℕ → Bool
 isByte b = ltb b 256
 
 pub bytes-all : (w : List ℕ) → ((i : ℕ) → getD w i 0 < 256) → T (all isByte w)
 bytes-all [] h = tt
 bytes-all (b ∷ w) h = both (isByte b) (all isByte w) (lt→ltb b 256 (h 0)) (bytes-all w (λ i. h (suc i)))
 
-all-take : (n : ℕ) (w : List ℕ) → T (all isByte w) → T (all isByte (take n w))
-all-take zero w t = tt
-all-take (suc n) [] t = tt
-all-take (suc n) (b ∷ w) t =
-    both (isByte b) (all isByte (take n w)) (and-l (isByte b) (all isByte w) t) (all-take n w (and-r (isByte b) (all isByte w) t))
-
-all-drop : (n : ℕ) (w : List ℕ) → T (all isByte w) → T (all isByte (drop n w))
-all-drop zero w t = t
-all-drop (suc n) [] t = tt
-all-drop (suc n) (b ∷ w) t = all-drop n w (and-r (isByte b) (all isByte w) t)
-
 -- bytes that are the same number are the same, if there are equally many
-unpack : (s u : List ℕ) (v w : ℕ) → T (all isByte s) → T (all isByte u) → length s ≡ length u → packed v s ≡ packed w u → (v ≡ w) × (s ≡ u)
+pub unpack : (s u : List ℕ) (v w : ℕ) → T (all isByte s) → T (all isByte u) → length s ≡ length u → packed v s ≡ packed w u → (v ≡ w) × (s ≡ u)
 unfolding packed
 unpack [] [] v w a b l e = (e, refl)
 unpack [] (y ∷ u) v w a b l e = absurd (omega arith)
@@ -113,9 +102,9 @@ module _ (w u : List ℕ) (a : T (all isByte w)) (b : T (all isByte u)) where
       let y = eqb (packed 0 (take 8 w)) (packed 0 (take 8 u)) in
       let z = eqb (packed 0 (drop 8 w)) (packed 0 (drop 8 u)) in
       let l = eqb→eq (length u) (length w) (and-l x y (and-l (x && y) z t)) in
-      let p = (unpack (take 8 w) (take 8 u) 0 0 (all-take 8 w a) (all-take 8 u b) (rw (length-take, length-take) (omega arith))
+      let p = (unpack (take 8 w) (take 8 u) 0 0 (all-take isByte 8 w a) (all-take isByte 8 u b) (rw (length-take, length-take) (omega arith))
       (eqb→eq (packed 0 (take 8 w)) (packed 0 (take 8 u)) (and-r x y (and-l (x && y) z t)))) .1 in
-      let q = (unpack (drop 8 w) (drop 8 u) 0 0 (all-drop 8 w a) (all-drop 8 u b) (rw (length-drop, length-drop) (omega arith))
+      let q = (unpack (drop 8 w) (drop 8 u) 0 0 (all-drop isByte 8 w a) (all-drop isByte 8 u b) (rw (length-drop, length-drop) (omega arith))
       (eqb→eq (packed 0 (drop 8 w)) (packed 0 (drop 8 u)) (and-r (x && y) z t))) .1 in
       sym (take-append-drop 8 w) ∙ (λ j. p j ++ q j) ∙ take-append-drop 8 u
 

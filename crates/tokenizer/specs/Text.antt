@@ -5,7 +5,7 @@ use Prim.Native.Nat.{ℕ, zero, suc, _+_, _/_, _%_}
 use Prim.Native.Char.{Char, code}
 use Prim.Native.String.{String}
 use Prim.Native.String as S
-use lib.Dec.{ltb, eqb}
+use lib.Dec.{leb, ltb, eqb}
 
 -- One of two values, by a test. Both are computed: a recursive call stands in a `let`, which waits.
 infix 20 if_then_else_
@@ -42,3 +42,7 @@ all p (x ∷ xs) = p x && all p xs
 abbrev pub isEmpty : {A : Type 0} → List A → Bool
 isEmpty [] = true
 isEmpty (x ∷ xs) = false
+
+-- Printable ASCII: bytes 32 to 126.
+abbrev pub isPrintable : ℕ → Bool
+isPrintable c = leb 32 c && leb c 126

@@ -1,4 +1,4 @@
-use Rattle.datatype_display.specs.Bound.{isPrintable}
+use Rattle.tokenizer.specs.Text.{isPrintable}
 use Rattle.datatype_display.proofs.AsciiLaws.{Tops, tops-start, tops-end, tops-more}
 use Rattle.datatype_display.proofs.BoundLaws.{weight-printable}
 use Prim.Native.Nat.{_-_}
