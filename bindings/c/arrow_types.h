@@ -181,7 +181,7 @@ uint32_t arrow_types_equal(const uint8_t *text, size_t text_length,
  * 0: *yes is 1 and *row is 0; or *yes is 0 and *row is the first row, from 0, that breaks a rule.
  * 17: the tree is not sound; *yes and *row are 0.
  *
- * The rules: a dictionary key is Int8, Int16, Int32 or Int64; run ends are Int16, Int32 or Int64.
+ * The rules: a dictionary key is Int8 to Int64 or UInt8 to UInt64; run ends are Int16, Int32 or Int64.
  */
 uint32_t arrow_types_verdict(const uint8_t *text, size_t text_length,
                              const uint8_t *names, size_t names_length,

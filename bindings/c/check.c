@@ -111,7 +111,7 @@ static void judging(void)
     CHECK(depth == 3);
     CHECK(arrow_types_verdict(TREE(&a), &yes, &row) == 0);
     CHECK(yes == 0 && row == 1);
-    a.rows[ARROW_TYPES_ROW_WORDS + ARROW_TYPES_WORD_KIND] = ARROW_TYPES_KIND_INT16;
+    a.rows[ARROW_TYPES_ROW_WORDS + ARROW_TYPES_WORD_KIND] = ARROW_TYPES_KIND_UINT64;
     CHECK(arrow_types_verdict(TREE(&a), &yes, &row) == 0);
     CHECK(yes == 1 && row == 0);
 

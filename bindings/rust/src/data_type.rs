@@ -41,7 +41,7 @@ pub struct DataType {
 pub enum Verdict {
     /// It can.
     Yes,
-    /// The first row that breaks a rule: a dictionary key that is not Int8, Int16, Int32 or Int64, or run ends that are
+    /// The first row that breaks a rule: a dictionary key that is none of the eight integer types, or run ends that are
     /// not Int16, Int32 or Int64.
     Row(usize),
 }
@@ -114,7 +114,7 @@ impl DataType {
     /// ```
     /// use arrow_types::{DataType, Kind, Verdict};
     ///
-    /// let good: DataType = "Dictionary(Int32, Utf8)".parse()?;
+    /// let good: DataType = "Dictionary(UInt8, Utf8)".parse()?;
     /// assert_eq!(good.verdict(), Verdict::Yes);
     ///
     /// let bad: DataType = "Dictionary(Utf8, Int32)".parse()?;

@@ -169,11 +169,11 @@ fn tables() {
     }
     sample.end();
     let expected = Counts {
-        sound: 781,
-        not_sound: 5_450,
+        sound: 837,
+        not_sound: 5_478,
         left_out: 6,
-        equal: 60,
-        not_equal: 721,
+        equal: 62,
+        not_equal: 775,
     };
     assert_eq!(counts, expected);
 }

@@ -9,6 +9,8 @@ pub const INT16: u32 = 3;
 
 pub const INT64: u32 = 5;
 
+pub const UINT64: u32 = 9;
+
 pub const TIMESTAMP: u32 = 13;
 
 pub const TIME32: u32 = 16;

@@ -1,6 +1,6 @@
 -- The layout verdict: the scan over the rows of `layout.rt` finds the first row of the tree that breaks a rule.
 use mathlib.Core.Path.{_≡_, refl, sym, ap, _∙_, subst}
-use mathlib.Core.Bool.{Bool, true, false, _||_, and-true, and-false}
+use mathlib.Core.Bool.{Bool, true, false, _||_, _&&_}
 use mathlib.Core.List.{List, [], _++_, append-assoc, append-nil}
 use mathlib.Core.Option.{Option, none, some}
 use Prim.Native.Nat.{ℕ, zero, suc, _+_, _-_, _*_, _/_, _≤_, _<_}
@@ -30,36 +30,29 @@ use Rattle.row_table.proofs.RowList.{rowsOf, whole-rows, count-labels}
 
 -- ---- what a row is asked
 
+module _ (least k most : ℕ) where
+  pub between-below : k < least → false ≡ (leb least k && leb k most)
+  between-below h = rw (lt-leb least k h)
+
+  pub between-from : least ≤ k → leb k most ≡ (leb least k && leb k most)
+  between-from h = rw (le-leb least k h)
+
 module _ (asked k : ℕ) where
   pub allowed-1 : asked ≡ 0 → true ≡ kindAllowed (askedOf asked) k
   unfolding kindAllowed
   allowed-1 e = rw e
 
-  pub allowed-2 : (asked ≡ 0 → ⊥) → 5 < k → false ≡ kindAllowed (askedOf asked) k
-  allowed-2 z h = go asked z
-    where
-      at-key : false ≡ kindAllowed key k
-      at-key = unfold kindAllowed in rw (lt-leb k 5 h) (sym (and-false (leb 2 k)))
-
-      at-runEnd : false ≡ kindAllowed runEnd k
-      at-runEnd = unfold kindAllowed in rw (lt-leb k 5 h) (sym (and-false (leb 3 k)))
-
-      go : (a : ℕ) → (a ≡ 0 → ⊥) → false ≡ kindAllowed (askedOf a) k
-      go zero z = absurd (z refl)
-      go (suc zero) z = at-key
-      go (suc (suc n)) z = at-runEnd
-
-  pub allowed-3 : k ≤ 5 → asked ≡ 1 → leb 2 k ≡ kindAllowed (askedOf asked) k
+  pub allowed-2 : asked ≡ 1 → (leb 2 k && leb k 9) ≡ kindAllowed (askedOf asked) k
   unfolding kindAllowed
-  allowed-3 h e = rw (e, le-leb k 5 h) (sym (and-true (leb 2 k)))
+  allowed-2 e = rw e
 
-  pub allowed-4 : (asked ≡ 0 → ⊥) → k ≤ 5 → (asked ≡ 1 → ⊥) → leb 3 k ≡ kindAllowed (askedOf asked) k
-  allowed-4 z h d = go asked z d
+  pub allowed-3 : (asked ≡ 0 → ⊥) → (asked ≡ 1 → ⊥) → (leb 3 k && leb k 5) ≡ kindAllowed (askedOf asked) k
+  allowed-3 z d = go asked z d
     where
-      at-runEnd : leb 3 k ≡ kindAllowed runEnd k
-      at-runEnd = unfold kindAllowed in rw (le-leb k 5 h) (sym (and-true (leb 3 k)))
+      at-runEnd : (leb 3 k && leb k 5) ≡ kindAllowed runEnd k
+      at-runEnd = unfold kindAllowed in refl
 
-      go : (a : ℕ) → (a ≡ 0 → ⊥) → (a ≡ 1 → ⊥) → leb 3 k ≡ kindAllowed (askedOf a) k
+      go : (a : ℕ) → (a ≡ 0 → ⊥) → (a ≡ 1 → ⊥) → (leb 3 k && leb k 5) ≡ kindAllowed (askedOf a) k
       go zero z d = absurd (z refl)
       go (suc zero) z d = absurd (d refl)
       go (suc (suc n)) z d = at-runEnd

@@ -17,10 +17,11 @@ use Rattle.row_table.specs.declared.Verdict.the-variants.{Yes, Row, Refu
 pub data Asked : Type 0 where
   anything key runEnd : Asked
 
--- A dictionary key is Int8, Int16, Int32 or Int64; run ends are Int16, Int32 or Int64.
+-- A dictionary key is any of the eight integer types, Int8 to Int64 and UInt8 to UInt64; run ends are Int16, Int32 or
+-- Int64.
 unfoldable pub kindAllowed : Asked → ℕ → Bool
 kindAllowed anything k = true
-kindAllowed key k = leb 2 k && leb k 5
+kindAllowed key k = leb 2 k && leb k 9
 kindAllowed runEnd k = leb 3 k && leb k 5
 
 -- What is asked of a shape's first child; nothing is asked of the later ones.

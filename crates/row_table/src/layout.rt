@@ -1,5 +1,7 @@
-// The layout verdict: a dictionary key is Int8 to Int64, run ends are Int16 to Int64.
+// The layout verdict: a dictionary key is any of the eight integer types, run ends are Int16, Int32 or Int64.
 ghost use mathlib.Core.Path.{_≡_};
+ghost use mathlib.Core.Bool.{_&&_};
+ghost use lib.Dec.{leb};
 ghost use Rattle.tokenizer.specs.Answer.{done};
 ghost use Rattle.datatype.specs.Kind.{shapeOf};
 ghost use Rattle.row_table.specs.Equal.{wholeRows};
@@ -13,8 +15,19 @@ use datatype::kind::INT8;
 use datatype::kind::INT16;
 use datatype::kind::INT64;
 use datatype::kind::RUN_END_ENCODED;
+use datatype::kind::UINT64;
 use datatype::rows::KIND;
 use datatype::rows::ROW_WORDS;
+
+// Whether a kind lies between two others, in the order of `DataType`, or is one of them.
+fn between(least: u32, kind: u32, most: u32) -> bool
+    ensures { λ r. ⌜ r ≡ (leb least kind && leb kind most) ⌝ }
+{
+    if kind < least {
+        return false;
+    }
+    kind <= most
+}
 
 // Whether a row that is asked something (0 anything, 1 a dictionary key, 2 run ends) may have a kind.
 fn kind_allowed(asked: u32, kind: u32) -> bool
@@ -23,13 +36,10 @@ fn kind_allowed(asked: u32, kind: u32) -> bool
     if asked == 0 {
         return true;
     }
-    if INT64 < kind {
-        return false;
-    }
     if asked == 1 {
-        return INT8 <= kind;
+        return between(INT8, kind, UINT64);
     }
-    INT16 <= kind
+    between(INT16, kind, INT64)
 }
 
 // What is asked of the first child of a row of a kind.

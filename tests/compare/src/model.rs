@@ -25,6 +25,7 @@ pub mod kind {
     pub const INT8: u32 = 2;
     pub const INT16: u32 = 3;
     pub const INT64: u32 = 5;
+    pub const UINT64: u32 = 9;
     pub const TIMESTAMP: u32 = 13;
     pub const TIME32: u32 = 16;
     pub const TIME64: u32 = 17;
@@ -1011,13 +1012,13 @@ pub fn verdict(text: &[u8], list: &[u8], words: &[u32]) -> Result<Option<usize>,
     let root = sound_tree(text, list, words).ok_or(NOT_SOUND)?;
     let mut broken: Option<usize> = None;
     root.each(&mut |node| {
-        let least = match node.row.kind {
-            DICTIONARY => INT8,
-            RUN_END_ENCODED => INT16,
+        let allowed = match node.row.kind {
+            DICTIONARY => INT8..=UINT64,
+            RUN_END_ENCODED => INT16..=INT64,
             _ => return,
         };
         let first = &node.children[0];
-        if !(least..=INT64).contains(&first.row.kind) {
+        if !allowed.contains(&first.row.kind) {
             broken = Some(broken.map_or(first.at, |row| row.min(first.at)));
         }
     });

@@ -377,7 +377,7 @@ fn judge(data_type: &DataType, next: &mut usize, broken: &mut Vec<usize>) {
                 .for_each(|(_, field)| judge(field.data_type(), next, broken));
         }
         DataType::Dictionary(key, value) => {
-            if !key.is_signed_integer() {
+            if !key.is_dictionary_key_type() {
                 broken.push(*next);
             }
             judge(key, next, broken);

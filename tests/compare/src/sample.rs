@@ -5,7 +5,7 @@ use crate::check::Check;
 use crate::generate::trees::{self, Letters, Tree};
 use crate::generate::{Random, Visit, bytes, damage, limits, places, sequences, texts};
 use crate::known;
-use crate::model::{self, Limits, MOST_BYTES, MOST_ROWS, NAME_LIST, Row, WORDS, refusal};
+use crate::model::{self, KINDS, Limits, MOST_BYTES, MOST_ROWS, NAME_LIST, Row, WORDS, refusal};
 use crate::subject;
 use std::collections::BTreeMap;
 use std::process::ExitCode;
@@ -218,13 +218,23 @@ impl Kept {
     }
 }
 
-/// Writes tables with the model's answers: sound trees with each word set to values around its bounds, and trees with a
-/// clause of soundness broken.
+/// Writes tables with the model's answers: a dictionary and run ends with a first child of every kind, sound trees with
+/// each word set to values around its bounds, and trees with a clause of soundness broken.
 pub fn tables(file: &str, seed: u64) -> Result<ExitCode, String> {
     let mut random = Random::new(seed);
     let mut kept = File::default();
     let (mut changed, mut broken) = (0, 0);
     let mut all = Tally::default();
+    for text in [
+        "Dictionary(Int8, Utf8)",
+        "RunEndEncoded(non-null Int16, Utf8)",
+    ] {
+        let tree = read(text);
+        let (record, tally) = table_record(&tree, &tree, &first_kinds());
+        if kept.offer(record) {
+            all.add(tally);
+        }
+    }
     for _ in 0..60 {
         let tree = trees::sound(&mut random, Letters::Any, 5);
         let Some(other) = trees::packed(&tree) else {
@@ -277,6 +287,21 @@ impl Tally {
 type Change = (usize, u32);
 
 const UNCHANGED: Change = (u32::MAX as usize, 0);
+
+/// The tree of a text.
+fn read(text: &str) -> Tree {
+    let rows = model::read(text.as_bytes(), Limits::lent(MOST_ROWS)).expect("the text is a type");
+    Tree {
+        text: text.as_bytes().to_vec(),
+        list: NAME_LIST.to_vec(),
+        words: model::to_words(&rows),
+    }
+}
+
+/// Every kind, and the number behind them, for the root's first child: the layout verdict judges it.
+fn first_kinds() -> Vec<Change> {
+    (0..=KINDS.len() as u32).map(|kind| (WORDS, kind)).collect()
+}
 
 /// Nothing changed, and each word set to values around its bounds, or rather to half of them.
 fn around_bounds(random: &mut Random, tree: &Tree) -> Vec<Change> {

@@ -54,9 +54,18 @@ fn verdicts() {
     };
     assert_eq!(verdict("Dictionary(Utf8, Int32)"), Some(1));
     assert_eq!(verdict("Dictionary(Int8, Dictionary(Utf8, Int8))"), Some(3));
-    assert_eq!(verdict("Dictionary(UInt8, Utf8)"), Some(1));
+    assert_eq!(verdict("Dictionary(Int8, Utf8)"), None);
+    assert_eq!(verdict("Dictionary(UInt8, Utf8)"), None);
+    assert_eq!(verdict("Dictionary(UInt64, Utf8)"), None);
+    assert_eq!(verdict("Dictionary(Float16, Utf8)"), Some(1));
+    assert_eq!(verdict("Dictionary(Boolean, Utf8)"), Some(1));
+    assert_eq!(
+        verdict("Dictionary(UInt8, Dictionary(Utf8, Int8))"),
+        Some(3)
+    );
     assert_eq!(verdict("Dictionary(Dictionary(Utf8, Int8), Int8)"), Some(1));
     assert_eq!(verdict("RunEndEncoded(non-null Int8, Utf8)"), Some(1));
+    assert_eq!(verdict("RunEndEncoded(non-null UInt16, Utf8)"), Some(1));
     assert_eq!(verdict("RunEndEncoded(non-null Int16, Utf8)"), None);
 }
 
