@@ -9,10 +9,11 @@
  * - what a call writes is no part of what it reads, and nothing else uses it during the call.
  * Everything else is checked: any bytes may be lent as a text, any words as rows.
  *
- * A tree is three slices: a text, the name list and the rows. The rows of a tree are the rows filled, 11 words each:
- * words behind them make the tree not sound. Names and zones are parts of the text, so it is kept as long as the rows.
+ * A tree is three slices: a text, the name list and the rows. The rows of a tree are the rows filled,
+ * ARROW_TYPES_ROW_WORDS words each: words behind them make the tree not sound. Names and zones are parts of the text,
+ * so it is kept as long as the rows.
  *
- * Numbers and words here are those of the scope, document 01.
+ * Numbers and words here are those of the scope, document 01, and of document 02, which gave the rows their parents.
  */
 #ifndef ARROW_TYPES_H
 #define ARROW_TYPES_H
@@ -25,9 +26,9 @@ extern "C" {
 #endif
 
 /* Words to a row. */
-#define ARROW_TYPES_ROW_WORDS 11
+#define ARROW_TYPES_ROW_WORDS 12
 
-/* The most rows of a tree: 11,264 words are enough for every text. */
+/* The most rows of a tree: ARROW_TYPES_MAX_ROWS * ARROW_TYPES_ROW_WORDS words are enough for every text. */
 #define ARROW_TYPES_MAX_ROWS 1024
 
 /* The most bytes of a text, read or printed. */
@@ -76,7 +77,8 @@ enum arrow_types_word {
     ARROW_TYPES_WORD_NAME_START = 7,
     ARROW_TYPES_WORD_NAME_LENGTH = 8,
     ARROW_TYPES_WORD_ZONE_START = 9, /* of a Timestamp's zone, in the text */
-    ARROW_TYPES_WORD_ZONE_LENGTH = 10 /* 0 if it has none */
+    ARROW_TYPES_WORD_ZONE_LENGTH = 10, /* 0 if it has none */
+    ARROW_TYPES_WORD_PARENT = 11     /* the parent's row number, from 0; 0 for the root */
 };
 
 /* The kinds, in word 0. */
@@ -127,7 +129,7 @@ enum arrow_types_kind {
 /*
  * Reads a text into lent rows.
  *
- * 0: the first 11 * *count words are the rows, and the words behind them are as they were.
+ * 0: the first ARROW_TYPES_ROW_WORDS * *count words are the rows, and the words behind them are as they were.
  * 1 to 16: the text is refused; *count is 0, and all rows_length words are 0.
  *
  * Fewer rows than 1,024 may be lent; where they run out the text is refused with 4. Words that make no whole row are
@@ -166,7 +168,8 @@ uint32_t arrow_types_depth(const uint8_t *text, size_t text_length,
 
 /*
  * Whether two trees are equal: 1 or 0. Words 0 to 5, the bytes of the names and the bytes of the zones count, row by
- * row; where they stand does not. Soundness is not asked.
+ * row; where they stand does not, and parents are not looked at, since the other words fix them in a sound tree.
+ * Soundness is not asked.
  */
 uint32_t arrow_types_equal(const uint8_t *text, size_t text_length,
                            const uint8_t *names, size_t names_length,
@@ -199,6 +202,16 @@ uint32_t arrow_types_name(const uint8_t *text, size_t text_length,
                           const uint8_t *names, size_t names_length,
                           uint32_t home, uint32_t start, uint32_t size,
                           size_t *name_start, size_t *name_length);
+
+/*
+ * Sets the parents of rows, word 11, of as many as the words hold, ARROW_TYPES_MAX_ROWS at the most: each to the row
+ * that it stands under, which is the last row before it whose subtree holds it by word 1, and to 0 where none does. All
+ * other words are as they were. Soundness is not asked.
+ *
+ * It is for rows that a caller puts together, and for rows that were stored when a row had eleven words, which are not
+ * sound now: copy the eleven words of each row to the start of twelve, and call this.
+ */
+void arrow_types_set_parents(uint32_t *rows, size_t rows_length);
 
 #ifdef __cplusplus
 }

@@ -64,20 +64,45 @@ static void reading(void)
 {
     fill(a.rows, 7);
     CHECK(read_text(&a, "List(Timestamp(ms, \"CET\"))") == 0);
-    CHECK(a.words == 22);
-    static const uint32_t expected[22] = {27, 2, 0, 0, 0, 0, 0, 0, 0, 0, 0, 13, 1, 1, 0, 1, 0, 2, 0, 4, 20, 3};
+    static const uint32_t expected[2 * ARROW_TYPES_ROW_WORDS] = {
+        27, 2, 0, 0, 0, 0, 0, 0, 0, 0, 0, 0, 13, 1, 1, 0, 1, 0, 2, 0, 4, 20, 3, 0};
+    CHECK(a.words == 2 * ARROW_TYPES_ROW_WORDS);
     CHECK(memcmp(a.rows, expected, sizeof expected) == 0);
-    CHECK(all(a.rows + 22, WORDS - 22, 7));
+    CHECK(all(a.rows + a.words, WORDS - a.words, 7));
 
     CHECK(read_text(&a, "Time32(us)") == ARROW_TYPES_WRONG_TIME_UNIT);
     CHECK(a.words == 0);
     CHECK(all(a.rows, WORDS, 0));
 
     size_t count = 99;
-    CHECK(arrow_types_read((const uint8_t *)"Int8", 4, a.rows, 10, &count) == ARROW_TYPES_TOO_MANY_ROWS);
+    CHECK(arrow_types_read((const uint8_t *)"Int8", 4, a.rows, ARROW_TYPES_ROW_WORDS - 1, &count)
+          == ARROW_TYPES_TOO_MANY_ROWS);
+    CHECK(arrow_types_read((const uint8_t *)"Int8", 4, a.rows, ARROW_TYPES_ROW_WORDS, &count) == 0);
+    CHECK(count == 1);
     CHECK(arrow_types_read((const uint8_t *)"", 0, a.rows, WORDS, &count) == ARROW_TYPES_TEXT_ENDS);
     CHECK(arrow_types_read((const uint8_t *)"\xff", 1, a.rows, WORDS, &count) == ARROW_TYPES_NOT_UTF8);
     CHECK(arrow_types_read((const uint8_t *)"Int8", 4, a.rows, 0, &count) == ARROW_TYPES_TOO_MANY_ROWS);
+    CHECK(count == 0);
+}
+
+/* What a Struct of so many leaves gives in a buffer that held 1,024 rows of eleven words. */
+static uint32_t read_leaves(unsigned leaves, size_t *count)
+{
+    enum { WORDS_OF_ELEVEN = 11 * ARROW_TYPES_MAX_ROWS };
+    static char text[ARROW_TYPES_MAX_TEXT];
+    size_t length = (size_t)sprintf(text, "Struct(");
+    for (unsigned i = 0; i < leaves; i++)
+        length += (size_t)sprintf(text + length, "\"a\":Int8,");
+    length += (size_t)sprintf(text + length, ")");
+    return arrow_types_read((const uint8_t *)text, length, a.rows, WORDS_OF_ELEVEN, count);
+}
+
+static void lending(void)
+{
+    size_t count = 99;
+    CHECK(read_leaves(937, &count) == 0);
+    CHECK(count == 938);
+    CHECK(read_leaves(938, &count) == ARROW_TYPES_TOO_MANY_ROWS);
     CHECK(count == 0);
 }
 
@@ -153,13 +178,79 @@ static void naming(void)
     CHECK(is_name(1, 1, 0, 0, 0, 0));
 }
 
+/* Whether the rows of a tree have these parents. */
+static int has_parents(const struct tree *tree, const uint32_t *parents, size_t count)
+{
+    if (tree->words != count * ARROW_TYPES_ROW_WORDS)
+        return 0;
+    for (size_t i = 0; i < count; i++)
+        if (tree->rows[i * ARROW_TYPES_ROW_WORDS + ARROW_TYPES_WORD_PARENT] != parents[i])
+            return 0;
+    return 1;
+}
+
+static void parents(void)
+{
+    static const uint32_t of_struct[] = {0, 0, 1, 0};
+    static const uint32_t of_dictionary[] = {0, 0, 1, 1, 0};
+    CHECK(read_text(&a, "Dictionary(Dictionary(Int8, Utf8), Int8)") == 0);
+    CHECK(has_parents(&a, of_dictionary, 5));
+    CHECK(read_text(&a, "Struct(\"a\": List(Int8), \"b\": Int8)") == 0);
+    CHECK(has_parents(&a, of_struct, 4));
+
+    /* A wrong parent: the tree is not sound, and equal to the one with the right parents. */
+    uint8_t out[40];
+    size_t length = 99;
+    b = a;
+    b.rows[ARROW_TYPES_WORD_PARENT] = 1;
+    CHECK(arrow_types_is_sound(TREE(&b)) == 0);
+    CHECK(arrow_types_print(TREE(&b), out, sizeof out, &length) == ARROW_TYPES_NOT_SOUND);
+    CHECK(arrow_types_equal(TREE(&a), TREE(&b)) == 1);
+    arrow_types_set_parents(b.rows, b.words);
+    CHECK(memcmp(a.rows, b.rows, sizeof a.rows) == 0);
+    CHECK(arrow_types_is_sound(TREE(&b)) == 1);
+}
+
+/* Rows of eleven words, as they were stored before rows had parents, and how they get them. */
+static void eleven_words(void)
+{
+    enum { ELEVEN = 11, ROWS = 4 };
+    static uint32_t stored[ELEVEN * ROWS];
+    CHECK(read_text(&a, "Struct(\"a\": List(Int8), \"b\": Int8)") == 0);
+    for (size_t i = 0; i < ROWS; i++)
+        memcpy(stored + ELEVEN * i, a.rows + ARROW_TYPES_ROW_WORDS * i, ELEVEN * sizeof *stored);
+
+    b = a;
+    memcpy(b.rows, stored, sizeof stored);
+    b.words = ELEVEN * ROWS;
+    CHECK(arrow_types_is_sound(TREE(&b)) == 0);
+
+    fill(b.rows, 7);
+    b.words = ARROW_TYPES_ROW_WORDS * ROWS;
+    for (size_t i = 0; i < ROWS; i++)
+        memcpy(b.rows + ARROW_TYPES_ROW_WORDS * i, stored + ELEVEN * i, ELEVEN * sizeof *stored);
+    arrow_types_set_parents(b.rows, b.words);
+    CHECK(arrow_types_is_sound(TREE(&b)) == 1);
+    CHECK(memcmp(a.rows, b.rows, b.words * sizeof *b.rows) == 0);
+    CHECK(all(b.rows + b.words, WORDS - b.words, 7));
+
+    /* No whole row, and no words at all: nothing changes. */
+    fill(b.rows, 7);
+    arrow_types_set_parents(b.rows, ELEVEN);
+    arrow_types_set_parents(b.rows, 0);
+    CHECK(all(b.rows, WORDS, 7));
+}
+
 int main(void)
 {
     reading();
+    lending();
     printing();
     judging();
     comparing();
     naming();
+    parents();
+    eleven_words();
     printf("%u checks, %u failed\n", checks, failures);
     return failures != 0;
 }

@@ -54,11 +54,24 @@ impl DataType {
     /// ```
     /// use arrow_types::{DataType, Error};
     ///
-    /// let words = [16, 1, 0, 0, 1, 0, 0, 0, 0, 0, 0];
+    /// let words = [16, 1, 0, 0, 1, 0, 0, 0, 0, 0, 0, 0];
     /// assert_eq!(DataType::from_parts("", words)?.to_string(), "Time32(ms)");
     ///
-    /// let words = [16, 1, 0, 0, 3, 0, 0, 0, 0, 0, 0];
+    /// let words = [16, 1, 0, 0, 3, 0, 0, 0, 0, 0, 0, 0];
     /// assert_eq!(DataType::from_parts("", words), Err(Error::NotSound));
+    /// # Ok::<(), Error>(())
+    /// ```
+    ///
+    /// Rows that were stored when a row had eleven words, without its parent's number, are refused so too: a tree that
+    /// was sound then is never taken for one of twelve words a row. [`widen_rows`](crate::widen_rows) makes twelve words
+    /// of eleven.
+    ///
+    /// ```
+    /// use arrow_types::{DataType, Error, widen_rows};
+    ///
+    /// let stored = [16, 1, 0, 0, 1, 0, 0, 0, 0, 0, 0];
+    /// assert_eq!(DataType::from_parts("", stored), Err(Error::NotSound));
+    /// assert_eq!(DataType::from_parts("", widen_rows(&stored))?.to_string(), "Time32(ms)");
     /// # Ok::<(), Error>(())
     /// ```
     pub fn from_parts(
@@ -87,7 +100,8 @@ impl DataType {
         &self.text
     }
 
-    /// The row words, 11 for each row, as document 01's row table has them.
+    /// The row words, [`ROW_WORDS`] for each row: those of document 01's row table, and the parent's number of document
+    /// 02.
     pub fn rows(&self) -> &[u32] {
         &self.rows
     }

@@ -73,6 +73,8 @@ unsafe extern "C" {
         row: *mut usize,
     ) -> u32;
 
+    fn arrow_types_set_parents(rows: *mut u32, rows_length: usize);
+
     fn arrow_types_name(
         text: *const u8,
         text_length: usize,
@@ -204,6 +206,12 @@ pub fn verdict(tree: Tree) -> Result<Option<usize>, Error> {
         )
     };
     answer(status, (yes == 0).then_some(row))
+}
+
+/// Sets the parents of rows.
+pub fn set_parents(rows: &mut [u32]) {
+    // SAFETY: the pointer is that of a slice, with its length, that outlives the call and is borrowed mutably.
+    unsafe { arrow_types_set_parents(rows.as_mut_ptr(), rows.len()) }
 }
 
 /// A field's name, a part of the text or of the name list: empty where its words do not fit.

@@ -3,7 +3,7 @@
 use crate::{DataType, IntervalUnit, Kind, ROW_WORDS, TimeUnit, UnionMode, ffi};
 use std::fmt;
 
-/// Where the words of a row stand: document 01's row table.
+/// Where the words of a row stand: document 01's row table, and the parent of document 02.
 mod word {
     pub const KIND: usize = 0;
     pub const ROWS: usize = 1;
@@ -16,6 +16,7 @@ mod word {
     pub const NAME_LENGTH: usize = 8;
     pub const ZONE_START: usize = 9;
     pub const ZONE_LENGTH: usize = 10;
+    pub const PARENT: usize = 11;
 }
 
 /// One row of a type, borrowed from it: a field with its name, or a bare type, which has none (the root, and key and
@@ -149,12 +150,21 @@ impl<'a> Field<'a> {
         self.word(word::NUMBER) as usize
     }
 
-    /// What contains the field; none for the root.
+    /// What contains the field, as its row says; none for the root.
+    ///
+    /// ```
+    /// use arrow_types::DataType;
+    ///
+    /// let row: DataType = r#"Struct("tags": List(Utf8), "id": Int32)"#.parse()?;
+    /// let tag = row.field("tags").unwrap().children().next().unwrap();
+    /// let path: Vec<_> = std::iter::successors(Some(tag), |field| field.parent()).map(|field| field.row()).collect();
+    /// assert_eq!(path, [2, 1, 0]);
+    /// assert!(row.root().parent().is_none());
+    /// # Ok::<(), arrow_types::Error>(())
+    /// ```
     pub fn parent(self) -> Option<Field<'a>> {
-        let mut rows = (0..self.row)
-            .rev()
-            .map(|row| Field::new(self.data_type, row));
-        rows.find(|field| field.end() > self.row)
+        let parent = self.word(word::PARENT) as usize;
+        (self.row > 0).then(|| Field::new(self.data_type, parent))
     }
 
     /// The row behind all that the field contains.

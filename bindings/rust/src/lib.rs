@@ -19,8 +19,9 @@
 //! # Ok::<(), Error>(())
 //! ```
 //!
-//! A text is read into 1,024 rows that each thread keeps, 45,056 bytes, and the rows filled are copied out of them; so
-//! a [`DataType`] has two allocations, its text and its rows. Printing works likewise with 16,384 bytes.
+//! A text is read into [`MAX_ROWS`] rows of [`ROW_WORDS`] words that each thread keeps, 49,152 bytes, and the rows
+//! filled are copied out of them; so a [`DataType`] has two allocations, its text and its rows. Printing works likewise
+//! with 16,384 bytes.
 
 #![deny(missing_docs, unsafe_code)]
 
@@ -30,14 +31,16 @@ mod error;
 mod ffi;
 mod field;
 mod kind;
+mod rows;
 
 pub use data_type::{DataType, Verdict};
 pub use error::Error;
 pub use field::{Children, Field};
 pub use kind::{IntervalUnit, Kind, TimeUnit, UnionMode};
+pub use rows::{set_parents, widen_rows};
 
 /// Words to a row.
-pub const ROW_WORDS: usize = 11;
+pub const ROW_WORDS: usize = 12;
 
 /// The most rows that a type has.
 pub const MAX_ROWS: usize = 1_024;

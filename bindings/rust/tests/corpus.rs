@@ -129,8 +129,8 @@ fn texts() {
         counts[Text::of(&mut sample).check()] += 1;
     }
     sample.end();
-    assert_eq!((counts[0], counts[17]), (1_204, 185));
-    assert_eq!(counts[1..=16].iter().sum::<usize>(), 2_542);
+    assert_eq!((counts[0], counts[17]), (1_202, 194));
+    assert_eq!(counts[1..=16].iter().sum::<usize>(), 2_539);
     assert!(counts[1..=16].iter().all(|count| *count > 0));
 }
 
@@ -169,11 +169,11 @@ fn tables() {
     }
     sample.end();
     let expected = Counts {
-        sound: 837,
-        not_sound: 5_478,
-        left_out: 6,
+        sound: 878,
+        not_sound: 5_757,
+        left_out: 8,
         equal: 62,
-        not_equal: 775,
+        not_equal: 816,
     };
     assert_eq!(counts, expected);
 }
@@ -317,6 +317,6 @@ fn prints() {
         counts[Print::of(&mut sample).check()] += 1;
     }
     sample.end();
-    assert_eq!(counts[..3], [1_613, 8, 313]);
-    assert_eq!(counts[17..], [427, 201, 2]);
+    assert_eq!(counts[..3], [1_625, 9, 314]);
+    assert_eq!(counts[17..], [434, 201, 2]);
 }

@@ -77,4 +77,6 @@ fn limits() {
         assert!(HEADER.contains(&line), "{line}");
     }
     assert!(HEADER.contains("#define ARROW_TYPES_NAMES \"itemrun_endsvalues\"\n"));
+    let last = format!("ARROW_TYPES_WORD_PARENT = {} ", ROW_WORDS - 1);
+    assert!(HEADER.contains(&last), "{last}");
 }

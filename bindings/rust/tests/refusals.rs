@@ -1,6 +1,6 @@
 //! Each refusal, as a caller meets it.
 
-use arrow_types::{DataType, Error};
+use arrow_types::{DataType, Error, ROW_WORDS};
 use std::fmt::Write;
 
 fn refusal(text: impl AsRef<[u8]>) -> u32 {
@@ -62,11 +62,11 @@ fn a_refused_text_leaves_nothing_behind() {
     let int: DataType = "Int32".parse().unwrap();
     assert_eq!(refusal("Struct(\"a\": Int8"), 5);
     assert_eq!("Int32".parse::<DataType>().unwrap(), int);
-    assert_eq!(int.rows(), [4, 1, 0, 0, 0, 0, 0, 0, 0, 0, 0]);
+    assert_eq!(int.rows(), [4, 1, 0, 0, 0, 0, 0, 0, 0, 0, 0, 0]);
 }
 
 /// A Timestamp with the zone CET, in the text `CET`.
-const ZONED: [u32; 11] = [13, 1, 0, 0, 0, 0, 0, 0, 0, 0, 3];
+const ZONED: [u32; ROW_WORDS] = [13, 1, 0, 0, 0, 0, 0, 0, 0, 0, 3, 0];
 
 #[test]
 fn of_parts_that_are_not_sound() {
@@ -78,10 +78,19 @@ fn of_parts_that_are_not_sound() {
     not_sound(b"CE", &ZONED);
     not_sound(b"CE\xff", &ZONED);
     not_sound(b"CET", &[]);
-    not_sound(b"CET", &ZONED[..10]);
+    not_sound(b"CET", &ZONED[..ROW_WORDS - 1]);
     not_sound(b"CET", &[ZONED.as_slice(), &[0]].concat());
     not_sound(&[b' '; 16_385], &ZONED);
-    for (word, value) in [(0, 41), (1, 2), (2, 1), (3, 1), (4, 4), (5, 1), (6, 1)] {
+    for (word, value) in [
+        (0, 41),
+        (1, 2),
+        (2, 1),
+        (3, 1),
+        (4, 4),
+        (5, 1),
+        (6, 1),
+        (11, 1),
+    ] {
         let mut rows = ZONED;
         rows[word] = value;
         not_sound(b"CET", &rows);

@@ -1,8 +1,9 @@
-// The functions that services call from Rust or C: on numbers and slices, each with a status, 0 or document 01's number.
+// The functions that services call from Rust or C: on numbers and slices, most with a status, 0 or document 01's number.
 ghost use mathlib.Core.Path.{_≡_};
 ghost use lib.ListN.{length};
 ghost use Rattle.arrow_types.specs.Status.{statusOf, valueOf, flag, yesOf, rowOf, ifNamed};
 ghost use Rattle.datatype.specs.Tree.{nameOf};
+ghost use Rattle.row_table.specs.Parents.{withParents};
 ghost use Rattle.row_table.specs.Sound.{isSound, depthOf};
 ghost use Rattle.row_table.specs.Equal.{equalTrees};
 ghost use Rattle.row_table.specs.Layout.{verdictOf};
@@ -55,6 +56,14 @@ pub extern "C" fn arrow_types_print<'a>(
             n
         }
     }
+}
+
+// Sets the parent, word 11, of each row that a table holds, up to 1,024: for rows that were built or stored without it.
+#[no_mangle]
+pub extern "C" fn arrow_types_set_parents(rows: &mut [u32])
+    ensures { λ _. ⌜ now (rows .exit) ≡ withParents (now (rows .entry)) ⌝ }
+{
+    row_table::set_parents(rows);
 }
 
 // Where a field's name stands, by words 6, 7 and 8 of its row: the home, 1 the text or 2 the name list, with start and

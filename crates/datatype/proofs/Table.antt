@@ -57,6 +57,7 @@ pub row-words : (ws : List ℕ) → rowWords ≤ length ws → wordsOf (rowOf ws
 unfolding wordsOf rowOf
 row-words ws h =
     rw (
+      ← drop-cons ws 11 0 (omega arith),
       ← drop-cons ws 10 0 (omega arith),
       ← drop-cons ws 9 0 (omega arith),
       ← drop-cons ws 8 0 (omega arith),

@@ -1,4 +1,4 @@
--- The row table: eleven words a row, parent first (document 01, 'The row table').
+-- The row table: twelve words a row, parent first (document 01, 'The row table').
 use mathlib.Core.Bool.{Bool, true, false, _&&_}
 use mathlib.Core.List.{List, [], _∷_, _++_}
 use mathlib.Core.Option.{Option, none, some}
@@ -10,12 +10,12 @@ use Rattle.datatype.specs.Tree.{Forest, ∅, node, count, Row, Label, la
 
 -- How many words a row has.
 abbrev pub rowWords : ℕ
-rowWords = 11
+rowWords = 12
 
 -- The words of a row whose subtree has so many rows, itself included.
 unfoldable pub wordsOf : Row → ℕ → List ℕ
 wordsOf r rows =
-    r .kind ∷ rows ∷ r .role ∷ r .id ∷ r .param ∷ r .scale ∷ r .home ∷ r .start ∷ r .size ∷ r .zoneStart ∷ r .zoneSize ∷ []
+    r .kind ∷ rows ∷ r .role ∷ r .id ∷ r .param ∷ r .scale ∷ r .home ∷ r .start ∷ r .size ∷ r .zoneStart ∷ r .zoneSize ∷ r .parent ∷ []
 
 -- The row that a list of words begins with.
 unfoldable pub rowOf : List ℕ → Row
@@ -31,6 +31,7 @@ rowOf ws =
       size = getD ws 8 0;
       zoneStart = getD ws 9 0;
       zoneSize = getD ws 10 0;
+      parent = getD ws 11 0;
     }
 
 -- The rows in the subtree of the row that a list of words begins with: its word 1.
@@ -75,3 +76,11 @@ treeOf text names table = viewLabels text names (viewOf table)
 -- How many rows a lent buffer of so many words holds: whole rows, and 1,024 at the most.
 unfoldable pub rowsLent : ℕ → ℕ
 rowsLent words = min (words / rowWords) 1024
+
+-- Word 1 of row i of a table: the rows in its subtree.
+abbrev pub sizeAt : List ℕ → ℕ → ℕ
+sizeAt table i = getD table (rowWords * i + 1) 0
+
+-- Word 11 of row i: its parent.
+abbrev pub parentWordAt : List ℕ → ℕ → ℕ
+parentWordAt table i = getD table (rowWords * i + 11) 0

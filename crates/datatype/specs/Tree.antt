@@ -52,6 +52,8 @@ pub record Row : Type 0 where
   -- words 9 and 10: where the zone starts in the text, and its length
   pub zoneStart : ℕ
   pub zoneSize : ℕ
+  -- word 11: the parent's row number, 0 for the root
+  pub parent : ℕ
 
 -- What a row says: words 0 and 2 to 5, the bytes of its name, and the bytes of its zone.
 pub record Label : Type 0 where

@@ -1,7 +1,9 @@
-// The words of a row table: eleven a row.
+// The words of a row table: twelve a row.
+ghost use mathlib.Core.Path.{_≡_};
+ghost use Rattle.datatype.specs.Table.{rowsLent};
 
 // How many words a row has, and which is which.
-pub const ROW_WORDS: usize = 11;
+pub const ROW_WORDS: usize = 12;
 
 pub const KIND: usize = 0;
 
@@ -25,9 +27,22 @@ pub const ZONE_START: usize = 9;
 
 pub const ZONE_SIZE: usize = 10;
 
+pub const PARENT: usize = 11;
+
 // The limits of a sound tree: bytes of its text, rows, levels.
 pub const MAX_TEXT: usize = 16384;
 
 pub const MAX_ROWS: usize = 1024;
 
 pub const MAX_LEVELS: usize = 64;
+
+// How many rows so many words hold: whole rows, and 1,024 at the most.
+pub fn rows_lent(words: usize) -> usize
+    ensures { λ r. ⌜ r ≡ rowsLent words ⌝ }
+{
+    let whole = words / ROW_WORDS;
+    if whole < MAX_ROWS {
+        return whole;
+    }
+    MAX_ROWS
+}

@@ -12,9 +12,9 @@ use Rattle.tokenizer.specs.Text.{same, bytes, all, if_then_else_}
 use Rattle.tokenizer.proofs.Basics.{and-l, and-r, both, is-true, of-true, all-take, all-drop}
 use Rattle.datatype.specs.Kind.{Shape, runEnds, shapeOf}
 use Rattle.datatype.specs.Tree.{Forest, ∅, node, count, roots, depth, Row, Label, part, nameOf, zoneOf, labelOf, labels}
-use Rattle.datatype.specs.Table.{rowWords, treeOf}
+use Rattle.datatype.specs.Table.{rowWords, treeOf, sizeAt}
 use Rattle.row_table.specs.Sound.{isSound}
-use Rattle.row_table.specs.Run.{sizeAt, rowAt, forestAt, Nests}
+use Rattle.row_table.specs.Run.{rowAt, forestAt, Nests}
 use Rattle.datatype.proofs.Tests.{iff-eq}
 use Rattle.row_table.proofs.ChildLaws.{child-turn}
 use Rattle.row_table.proofs.Runs.{Turn, turn, forest-none}
@@ -264,16 +264,16 @@ module _ (text names table : List ℕ) (sound : T (isSound text names table)) wh
   tree : SoundTree text names table
   tree = sound-tree text names table sound
 
-  all-rows : length table / 11 - 0 ≡ suc (count (tree .kids))
+  all-rows : length table / rowWords - 0 ≡ suc (count (tree .kids))
   all-rows = let c = sound-count text names table tree in omega arith
 
-  all-labels : treeOf text names table ≡ labels text names (forestAt table 0 (length table / 11 - 0))
+  all-labels : treeOf text names table ≡ labels text names (forestAt table 0 (length table / rowWords - 0))
   all-labels = sound-labels text names table tree ∙ ap (labels text names) (sym (ap (λ (n : ℕ). forestAt table 0 n) all-rows ∙ sound-forest text names table tree))
 
   pub tree-ascii : (r : Bool) → r ≡ isAscii text → r ≡ true → true ≡ quotedAscii (treeOf text names table)
   tree-ascii r e f =
       let n : T (isAscii names) = rw (tree .listed) tt in
-      sym (ap quotedAscii all-labels ∙ quoted-ascii text names (of-true _ (sym e ∙ f)) n (forestAt table 0 (length table / 11 - 0)))
+      sym (ap quotedAscii all-labels ∙ quoted-ascii text names (of-true _ (sym e ∙ f)) n (forestAt table 0 (length table / rowWords - 0)))
 
-  pub tree-is : (r : Bool) → r ≡ quotedAscii (labels text names (forestAt table 0 (length table / 11 - 0))) → r ≡ quotedAscii (treeOf text names table)
+  pub tree-is : (r : Bool) → r ≡ quotedAscii (labels text names (forestAt table 0 (length table / rowWords - 0))) → r ≡ quotedAscii (treeOf text names table)
   tree-is r e = e ∙ ap quotedAscii (sym all-labels)

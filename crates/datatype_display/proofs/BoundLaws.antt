@@ -12,11 +12,10 @@ use borrow.Author.Tests.{lt-ltb, le-ltb, le-leb, lt-leb, eq-eqb, ne-eqb}
 use Rattle.tokenizer.specs.Text.{isPrintable}
 use Rattle.tokenizer.proofs.Listed.{NoneOf}
 use Rattle.datatype.specs.Kind.{has, kinds}
-use Rattle.datatype.specs.Table.{rowWords}
+use Rattle.datatype.specs.Table.{rowWords, sizeAt}
 use Rattle.datatype.proofs.Tests.{allBelow, below-at}
 use Rattle.datatype.proofs.ShapeLaws.{else-value}
 use Rattle.row_table.specs.Equal.{firstRows, wholeRows}
-use Rattle.row_table.specs.Run.{sizeAt}
 use Rattle.row_table.proofs.EqualLaws.{row-word}
 use Rattle.datatype_display.specs.Bound.{byteWeight, kindBounds, kindBound, idBound, rowBound, boundAt, rowsBound, treeBound}
 
@@ -84,23 +83,23 @@ module _ (table : List ℕ) (i kind role size zone own : ℕ) (a : kind ≡ getD
 
 -- what the loop holds: the rows added up and the rest are the whole
 pub record Adds (table : List ℕ) (n total i : ℕ) : Type 0 where
-  pub rows : n ≡ length table / 11
+  pub rows : n ≡ length table / rowWords
   pub upto : i ≤ n
   pub few : total ≤ i * 137438953472
   pub so : treeBound table ≡ total + rowsBound (firstRows (n - i) (drop (rowWords * i) table))
 
 module _ (table : List ℕ) (n : ℕ) where
-  pub adds-start : n ≡ length table / 11 → Adds table n 0 0
+  pub adds-start : n ≡ length table / rowWords → Adds table n 0 0
   unfolding treeBound wholeRows
   adds-start e =
-      let z : n - 0 ≡ length table / 11 = omega arith in
-      record { rows = e; upto = omega arith; few = omega arith; so = let p : 0 + rowsBound (firstRows (length table / 11) table) ≡ rowsBound (firstRows (length table / 11) table) = omega arith in rw z (sym p) }
+      let z : n - 0 ≡ length table / rowWords = omega arith in
+      record { rows = e; upto = omega arith; few = omega arith; so = let p : 0 + rowsBound (firstRows (length table / rowWords) table) ≡ rowsBound (firstRows (length table / rowWords) table) = omega arith in rw z (sym p) }
 
   module _ (total i : ℕ) (a : Adds table n total i) where
     pub adds-room : i < n → rowWords * (i + 1) ≤ length table
     adds-room h = let e = a .rows in omega arith
 
-    pub adds-sum : length table ≤ 11264 → i < n → total ≤ 1024 * 137438953472
+    pub adds-sum : length table ≤ rowWords * 1024 → i < n → total ≤ 1024 * 137438953472
     adds-sum h l = let e = a .rows in let f = a .few in omega arith
 
     pub adds-end : n ≤ i → total ≡ treeBound table

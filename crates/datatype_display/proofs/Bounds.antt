@@ -18,7 +18,7 @@ use Rattle.tokenizer.specs.Words.{words}
 use Rattle.tokenizer.proofs.Basics.{and-l, and-r, both, is-true, of-true}
 use Rattle.datatype.specs.Kind.{Shape, leaf, timestamp, time, interval, fixed, list, fixedList, struct, union, dictionary, decimal, mapping, runEnds, kinds, shapeOf}
 use Rattle.datatype.specs.Tree.{Forest, ∅, node, count, roots, Row, Label, part, nameOf, zoneOf, labelOf, labels}
-use Rattle.datatype.specs.Table.{wordsOf, tableOf, treeOf}
+use Rattle.datatype.specs.Table.{wordsOf, tableOf, treeOf, rowWords}
 use Rattle.datatype.proofs.Table.{table-view}
 use Rattle.datatype.proofs.Tests.{allBelow, below-at}
 use Rattle.row_table.specs.Equal.{wholeRows}
@@ -429,7 +429,7 @@ module _ (text names table : List ℕ) (sound : T (isSound text names table)) (a
       omega arith
 
 -- the words of a sound tree
-pub sound-words : (text names table : List ℕ) → T (isSound text names table) → length table ≤ 11264
+pub sound-words : (text names table : List ℕ) → T (isSound text names table) → length table ≤ rowWords * 1024
 sound-words text names table sound =
     let t = sound-tree text names table sound in
     let c = sound-count text names table t in

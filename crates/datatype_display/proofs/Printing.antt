@@ -9,8 +9,8 @@ use lib.Dec.{T, eqb}
 use borrow.Author.Tests.{eq-eqb, ne-eqb}
 use Rattle.datatype.specs.Kind.{Shape, leaf, shapeOf}
 use Rattle.datatype.specs.Tree.{Forest, ∅, node, count, roots, depth, Row, Label, labelOf, labels}
-use Rattle.datatype.specs.Table.{rowWords, treeOf}
-use Rattle.row_table.specs.Run.{sizeAt, rowAt, forestAt, Nests}
+use Rattle.datatype.specs.Table.{rowWords, treeOf, sizeAt}
+use Rattle.row_table.specs.Run.{rowAt, forestAt, Nests}
 use Rattle.row_table.specs.Sound.{bare, isSound}
 use Rattle.row_table.proofs.Runs.{Turn, turn, forest-none}
 use Rattle.row_table.proofs.SoundTree.{SoundTree, sound-tree, sound-count, sound-nests, sound-forest, sound-labels}

@@ -11,8 +11,8 @@ use Rattle.tokenizer.specs.Text.{bytes, all, if_then_else_}
 use Rattle.tokenizer.specs.Keys.{packed}
 use Rattle.datatype.specs.Kind.{Shape, leaf, timestamp, time, interval, fixed, list, fixedList, struct, union, dictionary, decimal, mapping, runEnds, kinds, shapeOf}
 use Rattle.datatype.specs.Tree.{Forest, ∅, node, roots, depth, Label, labelOf, labels}
-use Rattle.datatype.specs.Table.{rowWords}
-use Rattle.row_table.specs.Run.{rowAt, sizeAt, forestAt, Nests}
+use Rattle.datatype.specs.Table.{rowWords, sizeAt}
+use Rattle.row_table.specs.Run.{rowAt, forestAt, Nests}
 use Rattle.datatype_display.specs.Display.{kindWord, digits, unitText, intervalText, modeText, sortedText, scaleText, hex, quoted, listNameText, zoneText, Shown}
 use Rattle.datatype_display.specs.Print.{quotesNames, isAscii, namesAscii}
 use Rattle.datatype_display.specs.declared.shape.Shape.{Shape as CodeShape}

@@ -105,7 +105,7 @@ fn row_bound(rows: &[u32], i: usize) -> usize
 
 // The bound on the printed length of a sound tree.
 fn tree_bound(rows: &[u32]) -> usize
-    requires { ⌜ length (now rows) ≤ 11264 ⌝ }
+    requires { ⌜ length (now rows) ≤ rowWords * 1024 ⌝ }
     ensures { λ r. ⌜ r ≡ treeBound (now (rows .entry)) ⌝ }
 {
     let n = rows.len() / ROW_WORDS;

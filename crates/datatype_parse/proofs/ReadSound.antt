@@ -1,7 +1,7 @@
 -- A tree that was read is sound, so a caller need not check again what it has just read.
 --   read-sound   the tree of an accepted text, with 1,024 rows or fewer lent
 --   lent-sound   the rows that the public reader leaves in the lent words
-use mathlib.Core.Path.{_≡_, refl, ap, subst}
+use mathlib.Core.Path.{_≡_, refl, ap, subst, _∙_}
 use mathlib.Core.List.{List}
 use Prim.Native.Nat.{ℕ, zero, suc, _+_, _*_, _-_, _^_, _≤_, _<_}
 use native.Mathlib.Omega.{arith}
@@ -26,6 +26,9 @@ use Rattle.datatype_parse.proofs.SoundRows.{idsAllow, Asked, ids, Fits,
 use Rattle.datatype_parse.proofs.SoundLeaves.{Whole, closed, leaf-sound, timestamp-sound, time-sound, interval-sound, fixed-sound, decimal-sound}
 use Rattle.datatype_parse.proofs.SoundFields.{Run, RunEnds, Entries, items-sound, list-field-sound, fixed-field-sound, struct-item-sound, union-item-sound, run-ends-sound, entries-sound}
 use Rattle.datatype_parse.proofs.MoreRows.{filled-rows}
+use Rattle.row_table.specs.Parents.{parented}
+use Rattle.row_table.proofs.ParentTree.{count-parented}
+use Rattle.row_table.proofs.Parented.{parented-tree}
 
 module _ (text : List ℕ) (good : T (isUtf8 text)) where
   -- ---- types with children: types one level down are sound, so what is made of them is
@@ -140,20 +143,20 @@ module _ (text : List ℕ) (good : T (isUtf8 text)) where
 pub record Read (text : List ℕ) (rows : ℕ) (f : Forest Row) : Type 0 where
   pub root : Row
   pub kids : Forest Row
-  pub is : f ≡ node root kids ∅
+  pub is : f ≡ parented (node root kids ∅)
   pub short : length text ≤ 16384
   pub utf8 : T (isUtf8 text)
   pub fits : Fits text bare 64 rows (node root kids ∅)
 
 -- the same of the type that the text begins with
-abbrev Begun : List ℕ → ℕ → Tree → Type 0
-Begun text rows t = Read text rows (single t)
+abbrev pub Begun : List ℕ → ℕ → Tree → Type 0
+Begun text rows t = Read text rows (parented (single t))
 
 begun : (text : List ℕ) (rows : ℕ) → length text ≤ 16384 → T (isUtf8 text) → (o : Out Tree) → Holds (Typed text bare 64 rows) o → Holds (Begun text rows) o
 begun text rows short good (refused x) w = tt
 begun text rows short good (done t) w = record { root = t .row; kids = t .kids; is = refl; short = short; utf8 = good; fits = w }
 
-first-read : (text : List ℕ) (rows : ℕ) → Holds (Begun text rows) (firstType text rows)
+pub first-read : (text : List ℕ) (rows : ℕ) → Holds (Begun text rows) (firstType text rows)
 unfolding firstType
 first-read text rows =
     holds-when (Begun text rows) (leb (length text) 16384) _ (refuse 1)
@@ -171,18 +174,7 @@ read-tree text rows f few r =
     let c = r .fits .few in
     let run = r .fits .run tt in
     let d = run .flat in
-    record {
-      root = r .root;
-      kids = r .kids;
-      view = rw (r .is) (view-table (node (r .root) (r .kids) ∅));
-      short = r .short;
-      utf8 = r .utf8;
-      listed = refl;
-      rows = omega arith;
-      levels = omega arith;
-      places = run .places;
-      fits = run .fits;
-    }
+    rw (r .is) (parented-tree text (r .root) (r .kids) (r .short) (r .utf8) (omega arith) (omega arith) (run .places) (run .fits))
 
 -- A tree that was read is sound.
 pub read-sound : (text : List ℕ) (rows : ℕ) (f : Forest Row) → parse text rows ≡ done f → rows ≤ 1024 → T (isSound text nameList (tableOf f))
@@ -202,7 +194,7 @@ module _ (text before : List ℕ) (n : ℕ) where
   filled-sound (refused x) r e = absurd (let z : _≡_ {A = ℕ} 0 1 = cc in omega arith)
   filled-sound (done f) r e =
       let c : count f ≡ n = cc in
-      let k : count f ≡ suc (count (r .kids)) + 0 = ap count (r .is) in
+      let k : count f ≡ suc (count (r .kids)) + 0 = ap count (r .is) ∙ count-parented 0 0 (node (r .root) (r .kids) ∅) in
       let w = r .fits .few in
       record {
         some-rows = omega arith;

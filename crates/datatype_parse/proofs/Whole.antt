@@ -1,9 +1,9 @@
 -- A whole text: the end of it, and each return of the public reader as a law.
 use mathlib.Core.Path.{_≡_, sym, ap, _∙_}
 use mathlib.Core.Bool.{Bool, true, false, not, _&&_}
-use mathlib.Core.List.{List, _∷_}
+use mathlib.Core.List.{List, _∷_, _++_}
 use mathlib.Core.Option.{Option, none, some}
-use Prim.Native.Nat.{ℕ, zero, suc, _+_, _≤_, _<_}
+use Prim.Native.Nat.{ℕ, zero, suc, _+_, _≤_, _<_, min}
 use native.Mathlib.Omega.{arith}
 use lib.ListN.{length, getD, drop, replicate}
 use lib.Dec.{T, eqb}
@@ -18,8 +18,13 @@ use Rattle.tokenizer.specs.declared.TokenKind.the-variants.{DoubleQuotedString,
 use Rattle.tokenizer.proofs.Basics.{is-false}
 use Rattle.tokenizer.proofs.Marks as Marks
 use Rattle.tokenizer.proofs.Tokens.{token-end}
-use Rattle.datatype.specs.Tree.{Forest, count, Row}
-use Rattle.datatype.specs.Table.{rowsLent}
+use Rattle.datatype.specs.Tree.{Forest, ∅, node, count, Row}
+use Rattle.datatype.specs.Table.{tableOf, rowsLent}
+use Rattle.datatype.proofs.Table.{length-table}
+use Rattle.row_table.specs.Parents.{parented, parentsSet}
+use Rattle.row_table.proofs.ParentTree.{count-parented, first-parents-lent}
+use Rattle.parser.proofs.Holds.{Holds}
+use Rattle.datatype_parse.proofs.ReadSound.{Begun, first-read}
 use Rattle.parser.specs.Parse.{Tree, single, rowsIn, stands, firstType, readOf, rowsOf}
 use Rattle.parser.specs.declared.Read.{Read}
 use Rattle.parser.specs.declared.Read.the-variants as R
@@ -65,10 +70,24 @@ module _ (text : List ℕ) (at p : ℕ) (e : p ≡ afterSpaces text at) where
 
 -- ---- what the public reader answers and leaves
 
+lent-few : (before : List ℕ) → rowsLent (length before) ≤ 1024
+unfolding rowsLent
+lent-few before = omega arith
+
+begun-few : (text : List ℕ) (rows : ℕ) → rows ≤ 1024 → Holds (λ (t : Tree). count (single t) ≤ 1024) (firstType text rows)
+begun-few text rows l = go (firstType text rows) (first-read text rows)
+  where
+    go : (o : Out Tree) → Holds (Begun text rows) o → Holds (λ (t : Tree). count (single t) ≤ 1024) o
+    go (refused x) h = tt
+    go (done t) h =
+        let c : count (parented (single t)) ≡ count (parented (node (h .root) (h .kids) ∅)) = ap count (h .is) in
+        let f = h .fits .few in
+        omega (arith, count-parented 0 0 (single t), count-parented 0 0 (node (h .root) (h .kids) ∅))
+
 module _ (text before after : List ℕ) (r : Read) where
   -- a tree, from the type that the text begins with
   abbrev ended : Out Tree → Out (Forest Row)
-  ended o = o >>= (λ t. if textOver text (t .next) then done (single t) else refuse 16)
+  ended o = o >>= (λ t. if textOver text (t .next) then done (parented (single t)) else refuse 16)
 
   abbrev Ends : Parsed → Out Tree → Type 0
   Ends a o = (parsedMeans a ≡ rowCount (ended o)) × (after ≡ filled before (ended o))
@@ -79,15 +98,23 @@ module _ (text before after : List ℕ) (r : Read) where
   refused-ends (done t) x e w h = absurd (let z : _≡_ {A = ℕ} 0 1 = cc in omega arith)
 
   module _ (n k : ℕ) (h : r ≡ R.Tree n k) (over : Bool) (l : over ≡ textOver text n) where
-    over-ends : (o : Out Tree) → r ≡ readOf o → after ≡ rowsOf before o → over ≡ true → Ends (Rows k) o
+    over-ends : (o : Out Tree) (mid : List ℕ) → Holds (λ (t : Tree). count (single t) ≤ 1024) o → r ≡ readOf o → mid ≡ rowsOf before o
+        → after ≡ parentsSet mid (min k (rowsLent (length mid))) → over ≡ true → Ends (Rows k) o
     unfolding readOf rowsOf parsedMeans
-    over-ends (refused y) e w b = absurd (let z : _≡_ {A = ℕ} 0 1 = cc in omega arith)
-    over-ends (done t) e w b =
+    over-ends (refused y) mid few e m w b = absurd (let z : _≡_ {A = ℕ} 0 1 = cc in omega arith)
+    over-ends (done t) mid few e m w b =
         let z : t .next ≡ n = cc in
         let c : k ≡ rowsIn t = cc in
         let d : k ≡ count (single t) = omega arith in
         let o : textOver text (t .next) ≡ true = ap (textOver text) z ∙ sym l ∙ b in
-        (rw o (ap (λ (i : ℕ). done i) d), rw o w)
+        let rest : List ℕ = drop (length (tableOf (single t))) before in
+        let long : length (tableOf (parented (single t))) ≡ length (tableOf (single t)) = omega (arith, length-table (single t), length-table (parented (single t)), count-parented 0 0 (single t)) in
+        let set : after ≡ tableOf (parented (single t)) ++ drop (length (tableOf (parented (single t)))) before =
+        w ∙ ap (λ (l : List ℕ). parentsSet l (min k (rowsLent (length l)))) m
+        ∙ ap (λ (i : ℕ). parentsSet (tableOf (single t) ++ rest) (min i (rowsLent (length (tableOf (single t) ++ rest))))) d
+        ∙ first-parents-lent (single t) rest few
+        ∙ ap (λ (i : ℕ). tableOf (parented (single t)) ++ drop i before) (sym long) in
+        (rw o (ap (λ (i : ℕ). done i) (d ∙ sym (count-parented 0 0 (single t)))), rw o set)
 
     more-ends : (o : Out Tree) → r ≡ readOf o → after ≡ replicate (length before) 0 → over ≡ false → Ends (Refused 16) o
     unfolding readOf parsedMeans
@@ -100,6 +127,9 @@ module _ (text before after : List ℕ) (r : Read) where
   abbrev first : Out Tree
   first = firstType text (rowsLent (length before))
 
+  few : Holds (λ (t : Tree). count (single t) ≤ 1024) first
+  few = begun-few text (rowsLent (length before)) (lent-few before)
+
   abbrev Meant : Parsed → Type 0
   Meant a = (parsedMeans a ≡ parseAnswer text before) × (after ≡ parseRows text before)
 
@@ -109,9 +139,9 @@ module _ (text before after : List ℕ) (r : Read) where
     read-refused x w h = refused-ends first x e w h
 
     module _ (n k : ℕ) (h : r ≡ R.Tree n k) (over : Bool) (l : over ≡ textOver text n) where
-      pub read-done : after ≡ rowsOf before first → over ≡ true → Meant (Rows k)
+      pub read-done : (mid : List ℕ) → mid ≡ rowsOf before first → after ≡ parentsSet mid (min k (rowsLent (length mid))) → over ≡ true → Meant (Rows k)
       unfolding parse parseAnswer parseRows
-      read-done w b = over-ends n k h over l first e w b
+      read-done mid m w b = over-ends n k h over l first mid few e m w b
 
       pub trailing : after ≡ replicate (length before) 0 → over ≡ false → Meant (Refused 16)
       unfolding parse parseAnswer parseRows

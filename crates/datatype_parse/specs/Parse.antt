@@ -9,6 +9,7 @@ use Rattle.tokenizer.specs.Answer.{Out, refused, done, refuse, _>>=_}
 use Rattle.tokenizer.specs.Token.{tokenAt, valueOf, noToken}
 use Rattle.datatype.specs.Tree.{Forest, count, Row}
 use Rattle.datatype.specs.Table.{tableOf, rowsLent}
+use Rattle.row_table.specs.Parents.{parented}
 use Rattle.parser.specs.Parse.{Tree, single, stands, firstType}
 use Rattle.datatype_parse.specs.declared.Parsed.{Parsed}
 use Rattle.datatype_parse.specs.declared.Parsed.the-variants.{Rows, Refused}
@@ -21,7 +22,7 @@ textOver text at = stands text noToken at && eqb (valueOf ((tokenAt text at) .ki
 unfoldable pub parse : List ℕ → ℕ → Out (Forest Row)
 parse text rows = do
   t ← firstType text rows
-  if textOver text (t .next) then done (single t) else refuse 16
+  if textOver text (t .next) then done (parented (single t)) else refuse 16
 
 -- What reading a text into lent words answers: the row count, or the refusal.
 abbrev pub rowCount : Out (Forest Row) → Out ℕ

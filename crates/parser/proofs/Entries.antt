@@ -11,8 +11,8 @@ use borrow.Author.Tests.{eq-eqb, ne-eqb}
 use Rattle.tokenizer.specs.Text.{if_then_else_}
 use Rattle.datatype.specs.Kind.{keyRefusal, entriesRefusal, idsFit}
 use Rattle.datatype.specs.Tree.{Forest, ∅, node, count, roots, Row}
-use Rattle.datatype.specs.Table.{rowWords, tableOf}
-use Rattle.row_table.specs.Run.{sizeAt, rowAt, forestAt, Nests}
+use Rattle.datatype.specs.Table.{rowWords, tableOf, sizeAt}
+use Rattle.row_table.specs.Run.{rowAt, forestAt, Nests}
 use Rattle.row_table.specs.UnionFields.{typeIdsFit}
 use Rattle.datatype.proofs.Table.{length-table}
 use Rattle.row_table.proofs.UnionLaws.{type-ids-fit}

@@ -19,14 +19,6 @@ use Rattle.parser.proofs.Answers.{GotTree}
 
 -- ---- the rows lent
 
-pub lent-whole : (words : ℕ) → words / 11 < 1024 → words / 11 ≡ rowsLent words
-unfolding rowsLent
-lent-whole words h = omega arith
-
-pub lent-most : (words : ℕ) → 1024 ≤ words / 11 → 1024 ≡ rowsLent words
-unfolding rowsLent
-lent-most words h = omega arith
-
 pub lent-room : (text rows : List ℕ) (left : ℕ) → left ≡ rowsLent (length rows) → length text ≤ 16384 → Room text rows 0 left
 unfolding rowsLent
 lent-room text rows left e h = record { short = h; small = omega arith; fits = omega arith }

@@ -11,9 +11,9 @@ use Rattle.datatype.specs.Table.{rowWords, wordsOf, tableOf}
 use Rattle.datatype.proofs.Table.{length-table}
 use Rattle.parser.specs.Parse.{Name, bareRow, fieldRow}
 
--- eleven stores are a run of eleven
+-- twelve stores are a run of twelve
 pub sets-row : (xs : List ℕ) (i k n p s zs zl : ℕ)
-    → set (set (set (set (set (set (set (set (set (set (set xs i k) (i + 1) n) (i + 2) 0) (i + 3) 0) (i + 4) p) (i + 5) s) (i + 6) 0) (i + 7) 0) (i + 8) 0) (i + 9) zs) (i + 10) zl
+    → set (set (set (set (set (set (set (set (set (set (set (set xs i k) (i + 1) n) (i + 2) 0) (i + 3) 0) (i + 4) p) (i + 5) s) (i + 6) 0) (i + 7) 0) (i + 8) 0) (i + 9) zs) (i + 10) zl) (i + 11) 0
     ≡ sets xs i (wordsOf (bareRow k p s zs zl) n)
 unfolding wordsOf
 sets-row xs i k n p s zs zl =
@@ -27,7 +27,8 @@ sets-row xs i k n p s zs zl =
     let e8 : i + 8 ≡ suc (suc (suc (suc (suc (suc (suc (suc i))))))) = omega arith in
     let e9 : i + 9 ≡ suc (suc (suc (suc (suc (suc (suc (suc (suc i)))))))) = omega arith in
     let e10 : i + 10 ≡ suc (suc (suc (suc (suc (suc (suc (suc (suc (suc i))))))))) = omega arith in
-    rw (e1, e2, e3, e4, e5, e6, e7, e8, e9, e10)
+    let e11 : i + 11 ≡ suc (suc (suc (suc (suc (suc (suc (suc (suc (suc (suc i)))))))))) = omega arith in
+    rw (e1, e2, e3, e4, e5, e6, e7, e8, e9, e10, e11)
 
 -- the five stores that make a row a field's are two runs
 pub sets-field : (xs : List ℕ) (i role id home start size : ℕ)
@@ -103,8 +104,8 @@ as-field before mid after row role id n r kids m a =
     a
     ∙ ap (λ (l : List ℕ). sets (sets l (i + 2) (role ∷ id ∷ [])) (i + 6) (n .home ∷ n .start ∷ n .size ∷ [])) (m ∙ ap (λ (l : List ℕ). sets before i l) (table-one r kids))
     ∙ ap (λ (l : List ℕ). sets l (i + 6) (n .home ∷ n .start ∷ n .size ∷ []))
-    (sets-inside before i (r .kind ∷ c ∷ []) (r .role ∷ r .id ∷ []) (role ∷ id ∷ []) (r .param ∷ r .scale ∷ r .home ∷ r .start ∷ r .size ∷ r .zoneStart ∷ r .zoneSize ∷ ws) refl)
-    ∙ sets-inside before i (r .kind ∷ c ∷ role ∷ id ∷ r .param ∷ r .scale ∷ []) (r .home ∷ r .start ∷ r .size ∷ []) (n .home ∷ n .start ∷ n .size ∷ []) (r .zoneStart ∷ r .zoneSize ∷ ws) refl
+    (sets-inside before i (r .kind ∷ c ∷ []) (r .role ∷ r .id ∷ []) (role ∷ id ∷ []) (r .param ∷ r .scale ∷ r .home ∷ r .start ∷ r .size ∷ r .zoneStart ∷ r .zoneSize ∷ r .parent ∷ ws) refl)
+    ∙ sets-inside before i (r .kind ∷ c ∷ role ∷ id ∷ r .param ∷ r .scale ∷ []) (r .home ∷ r .start ∷ r .size ∷ []) (n .home ∷ n .start ∷ n .size ∷ []) (r .zoneStart ∷ r .zoneSize ∷ r .parent ∷ ws) refl
     ∙ ap (λ (l : List ℕ). sets before i l) (sym (table-one (fieldRow role id n r) kids))
 
 -- a word before a run of stores is as it was
@@ -119,7 +120,7 @@ unfolding wordsOf
 rows-said before after row r kids h e =
     let i = rowWords * row in
     let c = suc (count kids) in
-    let ws : List ℕ = r .role ∷ r .id ∷ r .param ∷ r .scale ∷ r .home ∷ r .start ∷ r .size ∷ r .zoneStart ∷ r .zoneSize ∷ tableOf kids in
+    let ws : List ℕ = r .role ∷ r .id ∷ r .param ∷ r .scale ∷ r .home ∷ r .start ∷ r .size ∷ r .zoneStart ∷ r .zoneSize ∷ r .parent ∷ tableOf kids in
     let next : i + 1 ≡ suc i = omega arith in
     let there : suc i < length (set before i (r .kind)) = omega (arith, length-set before i (r .kind)) in
     ap (λ (l : List ℕ). getD l (i + 1) 0) (e ∙ ap (λ (l : List ℕ). sets before i l) (table-one r kids))

@@ -42,12 +42,12 @@ textName t = record { home = 1; start = t .start; size = t .size }
 -- The row of a type that is no field: kind, words 4 and 5, and the zone.
 abbrev pub bareRow : ℕ → ℕ → ℕ → ℕ → ℕ → Row
 bareRow k param scale zoneStart zoneSize =
-    record { kind = k; role = 0; id = 0; param = param; scale = scale; home = 0; start = 0; size = 0; zoneStart = zoneStart; zoneSize = zoneSize }
+    record { kind = k; role = 0; id = 0; param = param; scale = scale; home = 0; start = 0; size = 0; zoneStart = zoneStart; zoneSize = zoneSize; parent = 0 }
 
 -- The same row as a field's.
 abbrev pub fieldRow : ℕ → ℕ → Name → Row → Row
 fieldRow role id n r =
-    record { kind = r .kind; role = role; id = id; param = r .param; scale = r .scale; home = n .home; start = n .start; size = n .size; zoneStart = r .zoneStart; zoneSize = r .zoneSize }
+    record { kind = r .kind; role = role; id = id; param = r .param; scale = r .scale; home = n .home; start = n .start; size = n .size; zoneStart = r .zoneStart; zoneSize = r .zoneSize; parent = r .parent }
 
 -- A type or a field that was read: its row, its children, and the place behind it.
 pub record Tree : Type 0 where

@@ -37,9 +37,8 @@ use datatype::clear_words;
 use datatype::kind::STRUCT;
 use datatype::kind::UNION;
 use datatype::rows::MAX_LEVELS;
-use datatype::rows::MAX_ROWS;
 use datatype::rows::MAX_TEXT;
-use datatype::rows::ROW_WORDS;
+use datatype::rows::rows_lent;
 
 mod leaves;
 mod quick;
@@ -626,17 +625,6 @@ fn parse_next_type(
 }
 
 // ---- the type that a text begins with
-
-// How many rows so many words hold: whole rows, and 1,024 at the most.
-fn rows_lent(words: usize) -> usize
-    ensures { λ r. ⌜ r ≡ rowsLent words ⌝ }
-{
-    let whole = words / ROW_WORDS;
-    if whole < MAX_ROWS {
-        return whole;
-    }
-    MAX_ROWS
-}
 
 // Reads the type that a text begins with into lent rows: the place behind it and how many rows it fills, or the
 // refusal's number. A refusal leaves the rows all zeros.

@@ -12,6 +12,7 @@ use datatype::rows::HOME;
 use datatype::rows::ID;
 use datatype::rows::KIND;
 use datatype::rows::PARAM;
+use datatype::rows::PARENT;
 use datatype::rows::ROLE;
 use datatype::rows::ROW_WORDS;
 use datatype::rows::SCALE;
@@ -47,6 +48,7 @@ pub(crate) fn put_row(
     rows[i + SIZE] = 0;
     rows[i + ZONE_START] = zone_start;
     rows[i + ZONE_SIZE] = zone_size;
+    rows[i + PARENT] = 0;
 }
 
 // Writes what makes a row a field's: role, union id, and where its name stands.

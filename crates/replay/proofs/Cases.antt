@@ -10,6 +10,7 @@ use lib.Dec.{eqb}
 use borrow.Author.Tests.{eq-eqb, ne-eqb}
 use Rattle.tokenizer.specs.Text.{same}
 use Rattle.datatype.specs.Tree.{part}
+use Rattle.datatype.specs.Table.{rowWords}
 use Rattle.datatype_parse.specs.Parse.{parseAnswer, parseRows}
 use Rattle.arrow_types.specs.Status.{statusOf, valueOf}
 use Rattle.replay.specs.Sample.{numberAt, numbersAt, afterNumbers, afterPart, counted}
@@ -49,8 +50,8 @@ drop-replicate (suc n) (suc long) v h =
 
 module _ (sample : List ℕ) (case : ReadCase) (before filled : List ℕ) (v n m : ℕ)
     (f : filled ≡ replicate (length before) v) (r : v ≡ restOf (case .status))
-    (em : m ≡ 11 * case .value) (e : n ≡ min m (length filled)) where
-  as-many : length (take n filled) ≡ min (11 * case .value) (length before)
+    (em : m ≡ rowWords * case .value) (e : n ≡ min m (length filled)) where
+  as-many : length (take n filled) ≡ min (rowWords * case .value) (length before)
   as-many =
       let l : length filled ≡ length before = ap length f ∙ length-replicate (length before) v in
       let t : length (take n filled) ≡ n = sym (front-long n m filled e) in
@@ -64,7 +65,7 @@ module _ (sample : List ℕ) (case : ReadCase) (before filled : List ℕ) (v n m
   unfolding leftWords
   left-made p h =
       let l : length filled ≡ length before = ap length f ∙ length-replicate (length before) v in
-      let k : n ≡ min (11 * case .value) (length before) = front-long n m filled e ∙ as-many in
+      let k : n ≡ min (rowWords * case .value) (length before) = front-long n m filled e ∙ as-many in
       let d : drop n filled ≡ replicate (length before - n) v = ap (drop n) f ∙ drop-replicate n (length before) v (omega arith) in
       rw (h, as-many, d, r, k) refl
 

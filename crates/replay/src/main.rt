@@ -10,6 +10,11 @@ mod stored;
 mod tables;
 mod texts;
 
+// The most words and the most bytes that a case is lent.
+const MOST_WORDS: usize = 13000;
+
+const MOST_BYTES: usize = 20000;
+
 // A number, and the place behind it.
 struct Number {
     value: u32,
@@ -93,22 +98,22 @@ fn load(path: &[u8], sample: &mut [u8]) -> usize
 }
 
 fn replay_texts(sample: &[u8]) {
-    let mut rows = [0u32; 12000];
-    let mut left = [0u32; 12000];
+    let mut rows = [0u32; MOST_WORDS];
+    let mut left = [0u32; MOST_WORDS];
     let t = texts::read_all(sample, &mut rows, &mut left);
     counts::print(b" texts, ", t, sample.len());
 }
 
 fn replay_tables(sample: &[u8]) {
-    let mut words = [0u32; 12000];
-    let mut others = [0u32; 12000];
+    let mut words = [0u32; MOST_WORDS];
+    let mut others = [0u32; MOST_WORDS];
     let t = tables::all(sample, &mut words, &mut others);
     counts::print(b" tables, ", t, sample.len());
 }
 
 fn replay_prints(sample: &[u8]) {
-    let mut words = [0u32; 12000];
-    let mut out = [0u8; 20000];
+    let mut words = [0u32; MOST_WORDS];
+    let mut out = [0u8; MOST_BYTES];
     let t = prints::print_all(sample, &mut words, &mut out);
     counts::print(b" prints, ", t, sample.len());
 }

@@ -11,6 +11,12 @@ use crate::stored::least;
 use crate::stored::number_at;
 use crate::stored::part_at;
 use crate::stored::words_at;
+use datatype::rows::HOME;
+use datatype::rows::ROW_WORDS;
+use datatype::rows::SIZE;
+use datatype::rows::START;
+use datatype::rows::ZONE_SIZE;
+use datatype::rows::ZONE_START;
 use row_table::Depth;
 use row_table::Verdict;
 
@@ -140,13 +146,15 @@ fn row_alike<'a>(
     name: &[u8],
     zone: &[u8],
 ) -> bool {
-    let row = place as usize / 11 * 11;
-    let home = word(words, row + 6);
-    let a = datatype::name(text, list, home, word(words, row + 7), word(words, row + 8));
+    let row = place as usize / ROW_WORDS * ROW_WORDS;
+    let home = word(words, row + HOME);
+    let start = word(words, row + START);
+    let a = datatype::name(text, list, home, start, word(words, row + SIZE));
     if !datatype::equal_bytes(a, name) {
         return false;
     }
-    let b = datatype::zone(text, word(words, row + 9), word(words, row + 10));
+    let zone_start = word(words, row + ZONE_START);
+    let b = datatype::zone(text, zone_start, word(words, row + ZONE_SIZE));
     datatype::equal_bytes(b, zone)
 }
 

@@ -13,6 +13,7 @@ use crate::stored::least;
 use crate::stored::number_at;
 use crate::stored::part_at;
 use crate::stored::words_at;
+use datatype::rows::ROW_WORDS;
 
 // What stands before the rows' words of a case.
 fn case_at(sample: &[u8], at: usize) -> ReadCase
@@ -48,7 +49,7 @@ fn left_words(sample: &[u8], case: ReadCase, left: &mut [u32]) -> usize
     ensures words { λ r. ⌜ now (left .exit) ≡ leftWords (now (sample .entry)) case (length (now (left .entry))) ⌝ }
 {
     fill(left, rest(case.status));
-    let n = least(11 * (case.value as usize), left.len());
+    let n = least(ROW_WORDS * (case.value as usize), left.len());
     words_at(sample, case.next, &mut left[..n])
 }
 

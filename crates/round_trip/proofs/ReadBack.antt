@@ -12,6 +12,8 @@ use Rattle.tokenizer.specs.declared.TokenKind.the-variants.{Refused}
 use Rattle.datatype.specs.Kind.{Shape, leaf, timestamp, time, interval, fixed, list, fixedList, struct, union, dictionary, decimal, mapping, runEnds, shapeOf}
 use Rattle.datatype.specs.Tree.{Forest, ∅, node, count, depth, Row, Label, nameList, labels}
 use Rattle.row_table.specs.Sound.{Place, bare}
+use Rattle.row_table.specs.Parents.{parented}
+use Rattle.row_table.proofs.ParentFixed.{labels-parented}
 use Rattle.row_table.proofs.SoundTree.{rulesAt}
 use Rattle.parser.specs.Parse.{Tree, single, shapeAt, typeWith, typeAt}
 use Rattle.parser.proofs.FirstType.{first-type}
@@ -94,9 +96,9 @@ whole : (l : Label) (kids : Forest Label) (rows : ℕ) → bareLabel l ≡ l
 unfolding parse labels
 whole l kids rows b r =
     record {
-      back = single (r .got);
+      back = parented (single (r .got));
       reads = λ short utf8. rw (first-type (display (node l kids ∅)) rows short utf8, r .reads, over (display (node l kids ∅)) (r .got .next) (r .after));
-      says = λ j. node ((r .row ∙ b) j) (r .below j) ∅;
+      says = labels-parented (display (node l kids ∅)) nameList (single (r .got)) ∙ (λ j. node ((r .row ∙ b) j) (r .below j) ∅);
     }
 
 pub whole-read : (l : Label) (kids : Forest Label) (rows : ℕ) → PlainRows bare (node l kids ∅) → suc (depth kids) ≤ 64 → suc (count kids) ≤ rows

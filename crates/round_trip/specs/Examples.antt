@@ -8,6 +8,7 @@ use lib.Dec.{eqb}
 use Rattle.tokenizer.specs.Text.{bytes, same}
 use Rattle.tokenizer.specs.Answer.{Out, refused, done}
 use Rattle.datatype.specs.Tree.{Forest, Row, count, nameList, labels}
+use Rattle.row_table.specs.Parents.{parentColumn}
 use Rattle.datatype_parse.specs.Computed as parser
 use Rattle.datatype_parse.specs.Parse.{parse}
 use Rattle.datatype_display.specs.Computed as printer
@@ -98,3 +99,16 @@ further =
 pub further-texts : allMeet further ≡ true
 unfolding parser.computed printer.computed
 further-texts = refl
+
+-- The parents of the rows that a text becomes.
+abbrev pub parentsRead : Out (Forest Row) → List ℕ
+parentsRead (refused r) = []
+parentsRead (done f) = parentColumn f
+
+pub struct-parents : parentsRead (parse (bytes "Struct(\"a\": List(Int8), \"b\": Int8)") 1024) ≡ 0 ∷ 0 ∷ 1 ∷ 0 ∷ []
+unfolding parser.computed
+struct-parents = refl
+
+pub dictionary-parents : parentsRead (parse (bytes "Dictionary(Dictionary(Int8, Utf8), Int8)") 1024) ≡ 0 ∷ 0 ∷ 1 ∷ 1 ∷ 0 ∷ []
+unfolding parser.computed
+dictionary-parents = refl

@@ -11,9 +11,9 @@ use Rattle.tokenizer.specs.Text.{if_then_else_}
 use Rattle.tokenizer.proofs.Basics.{and-r, is-true, of-true}
 use Rattle.datatype.specs.Kind.{Shape, leaf, timestamp, time, interval, fixed, list, fixedList, struct, union, dictionary, decimal, mapping, runEnds, kinds, shapeOf, keyRefusal, entriesRefusal, idsFit}
 use Rattle.datatype.specs.Tree.{Forest, ∅, node, count, roots, Row}
-use Rattle.datatype.specs.Table.{rowWords}
+use Rattle.datatype.specs.Table.{rowWords, sizeAt}
 use Rattle.row_table.specs.Sound.{noChild, oneChild, twoChildren, arityFits, rulesOf}
-use Rattle.row_table.specs.Run.{sizeAt, rowAt, forestAt, Nests}
+use Rattle.row_table.specs.Run.{rowAt, forestAt, Nests}
 use Rattle.row_table.specs.Check.{isDecimal, isList, entriesOk, firstNonNull, overKids, childrenFit}
 use Rattle.datatype.proofs.Tests.{iff-eq, allBelow, below-at, sameBool, same-bool}
 use Rattle.datatype.proofs.KindLaws.{past-kinds}

@@ -88,38 +88,38 @@ module _ (text names text′ names′ : List ℕ) where
 
     -- what is left behind i rows
     abbrev left : ℕ → Bool
-    left i = equalRows text names text′ names′ (firstRows (length table / 11 - i) (drop (rowWords * i) table)) (firstRows (length table / 11 - i) (drop (rowWords * i) table′))
+    left i = equalRows text names text′ names′ (firstRows (length table / rowWords - i) (drop (rowWords * i) table)) (firstRows (length table / rowWords - i) (drop (rowWords * i) table′))
 
-    pub trees-long : (length table / 11 ≡ length table′ / 11 → ⊥) → false ≡ trees
+    pub trees-long : (length table / rowWords ≡ length table′ / rowWords → ⊥) → false ≡ trees
     unfolding equalTrees wholeRows
     trees-long d =
         false-of (equalRows text names text′ names′ (firstRows (length table / rowWords) table) (firstRows (length table′ / rowWords) table′))
         (λ t. d (sym (length-first (length table / rowWords) table) ∙ equal-long (firstRows (length table / rowWords) table) (firstRows (length table′ / rowWords) table′) t ∙ length-first (length table′ / rowWords) table′))
 
-    pub trees-start : length table / 11 ≡ length table′ / 11 → trees ≡ left 0
+    pub trees-start : length table / rowWords ≡ length table′ / rowWords → trees ≡ left 0
     unfolding equalTrees wholeRows
     trees-start e =
-        let z : length table / 11 - 0 ≡ length table / 11 = omega arith in
+        let z : length table / rowWords - 0 ≡ length table / rowWords = omega arith in
         rw (z, ← e)
 
     -- the next row and what is left behind it
-    left-step : (i : ℕ) → i < length table / 11
+    left-step : (i : ℕ) → i < length table / rowWords
         → left i ≡ (equalRow text names text′ names′ (take rowWords (drop (rowWords * i) table)) (take rowWords (drop (rowWords * i) table′)) && left (i + 1))
     unfolding equalRows
     left-step i h =
-        let e : length table / 11 - i ≡ suc (length table / 11 - (i + 1)) = omega arith in
+        let e : length table / rowWords - i ≡ suc (length table / rowWords - (i + 1)) = omega arith in
         let n : rowWords * (i + 1) ≡ rowWords * i + rowWords = omega arith in
         rw (e, n, ← drop-drop rowWords (rowWords * i) table, ← drop-drop rowWords (rowWords * i) table′)
 
     module _ (i : ℕ) (so : trees ≡ left i) where
-      pub trees-differ : i < length table / 11 → equalRow text names text′ names′ (take rowWords (drop (rowWords * i) table)) (take rowWords (drop (rowWords * i) table′)) ≡ false → false ≡ trees
+      pub trees-differ : i < length table / rowWords → equalRow text names text′ names′ (take rowWords (drop (rowWords * i) table)) (take rowWords (drop (rowWords * i) table′)) ≡ false → false ≡ trees
       trees-differ h e = sym (so ∙ left-step i h ∙ ap (λ (t : Bool). t && left (i + 1)) e)
 
-      pub trees-go : i < length table / 11 → equalRow text names text′ names′ (take rowWords (drop (rowWords * i) table)) (take rowWords (drop (rowWords * i) table′)) ≡ true → trees ≡ left (i + 1)
+      pub trees-go : i < length table / rowWords → equalRow text names text′ names′ (take rowWords (drop (rowWords * i) table)) (take rowWords (drop (rowWords * i) table′)) ≡ true → trees ≡ left (i + 1)
       trees-go h e = so ∙ left-step i h ∙ ap (λ (t : Bool). t && left (i + 1)) e
 
-      pub trees-end : length table / 11 ≤ i → true ≡ trees
+      pub trees-end : length table / rowWords ≤ i → true ≡ trees
       unfolding equalRows
       trees-end h =
-          let e : length table / 11 - i ≡ 0 = omega arith in
+          let e : length table / rowWords - i ≡ 0 = omega arith in
           sym (so ∙ rw e)

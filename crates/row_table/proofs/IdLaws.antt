@@ -12,8 +12,8 @@ use Rattle.tokenizer.specs.Text.{if_then_else_}
 use Rattle.tokenizer.proofs.Basics.{and-l, and-r, of-true}
 use Rattle.datatype.specs.Kind.{has, idsFit}
 use Rattle.datatype.specs.Tree.{roots}
-use Rattle.datatype.specs.Table.{rowWords}
-use Rattle.row_table.specs.Run.{sizeAt, rowAt, forestAt, Nests}
+use Rattle.datatype.specs.Table.{rowWords, sizeAt}
+use Rattle.row_table.specs.Run.{rowAt, forestAt, Nests}
 use Rattle.row_table.specs.Ids.{bit, isKept, keepId, freshIds}
 use Rattle.datatype.proofs.Tests.{iff-eq, allBelow, below-at}
 use Rattle.row_table.proofs.Runs.{Turn, turn, forest-none}

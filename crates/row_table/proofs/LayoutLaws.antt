@@ -102,25 +102,25 @@ module _ (table : List ℕ) where
 
   -- the rows from row i on
   abbrev left : ℕ → List (List ℕ)
-  left i = firstRows (length table / 11 - i) (drop (rowWords * i) table)
+  left i = firstRows (length table / rowWords - i) (drop (rowWords * i) table)
 
   pub scan-start : whole ≡ scan (askedOf 0) 0 (left 0)
   unfolding wholeRows
-  scan-start = let z : length table / 11 - 0 ≡ length table / 11 = omega arith in rw z
+  scan-start = let z : length table / rowWords - 0 ≡ length table / rowWords = omega arith in rw z
 
   module _ (a i : ℕ) (so : whole ≡ scan (askedOf a) i (left i)) where
-    pub scan-end : length table / 11 ≤ i → verdictMeans Yes ≡ done whole
+    pub scan-end : length table / rowWords ≤ i → verdictMeans Yes ≡ done whole
     unfolding verdictMeans scan
     scan-end h =
-        let e : length table / 11 - i ≡ 0 = omega arith in
+        let e : length table / rowWords - i ≡ 0 = omega arith in
         let z : whole ≡ none = so ∙ rw e in
         ap done (sym z)
 
-    module _ (h : i < length table / 11) (k : ℕ) (ek : k ≡ getD table (rowWords * i + 0) 0) where
+    module _ (h : i < length table / rowWords) (k : ℕ) (ek : k ≡ getD table (rowWords * i + 0) 0) where
       scan-step : scan (askedOf a) i (left i) ≡ (if kindAllowed (askedOf a) k then scan (askedOfFirst (shapeOf k)) (suc i) (left (i + 1)) else some i)
       unfolding scan
       scan-step =
-          let e : length table / 11 - i ≡ suc (length table / 11 - (i + 1)) = omega arith in
+          let e : length table / rowWords - i ≡ suc (length table / rowWords - (i + 1)) = omega arith in
           let n : rowWords * (i + 1) ≡ rowWords * i + rowWords = omega arith in
           let w : getD (take rowWords (drop (rowWords * i) table)) 0 0 ≡ k = row-word table i 0 (omega arith) ∙ sym ek in
           rw (e, n, ← drop-drop rowWords (rowWords * i) table, w)

@@ -7,10 +7,10 @@ use native.Mathlib.Omega.{arith}
 use lib.ListN.{length}
 use Rattle.tokenizer.proofs.Basics.{of-true}
 use Rattle.datatype.specs.Tree.{Forest, ∅, node, count, depth, Row, labels}
-use Rattle.datatype.specs.Table.{treeOf}
+use Rattle.datatype.specs.Table.{treeOf, rowWords, sizeAt}
 use Rattle.row_table.specs.Sound.{isSound, depthOf, depthMeans}
 use Rattle.row_table.specs.declared.Depth.the-variants.{Levels, Refused}
-use Rattle.row_table.specs.Run.{sizeAt, forestAt, Nests}
+use Rattle.row_table.specs.Run.{forestAt, Nests}
 use Rattle.row_table.proofs.Runs.{Turn, turn, forest-none}
 use Rattle.row_table.proofs.SoundTree.{SoundTree, sound-tree, sound-count, sound-nests, sound-forest, sound-labels}
 
@@ -85,16 +85,16 @@ module _ (text names table : List ℕ) where
     tree : SoundTree text names table
     tree = sound-tree text names table (of-true _ e)
 
-    all-rows : length table / 11 - 0 ≡ suc (count (tree .kids))
+    all-rows : length table / rowWords - 0 ≡ suc (count (tree .kids))
     all-rows = let c = sound-count text names table tree in omega arith
 
-    pub depth-call : Nests table 0 (length table / 11 - 0) × (0 ≤ length table / 11) × (depth (forestAt table 0 (length table / 11 - 0)) ≤ 64)
+    pub depth-call : Nests table 0 (length table / rowWords - 0) × (0 ≤ length table / rowWords) × (depth (forestAt table 0 (length table / rowWords - 0)) ≤ 64)
     depth-call =
         let l = tree .levels in
         let d : depth (forestAt table 0 (suc (count (tree .kids)))) ≤ 64 = rw (sound-forest text names table tree) (omega arith) in
         (rw all-rows (sound-nests text names table tree), omega arith, rw all-rows d)
 
-    pub depth-is : (r : ℕ) → r ≡ depth (forestAt table 0 (length table / 11 - 0)) → depthMeans (Levels r) ≡ depthOf text names table
+    pub depth-is : (r : ℕ) → r ≡ depth (forestAt table 0 (length table / rowWords - 0)) → depthMeans (Levels r) ≡ depthOf text names table
     unfolding depthMeans depthOf
     depth-is r q =
         let d : depth (treeOf text names table) ≡ r =

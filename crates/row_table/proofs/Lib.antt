@@ -1,4 +1,9 @@
 pub mod Runs
+pub mod ParentClimb
+pub mod ParentSet
+pub mod ParentTree
+pub mod ParentFit
+pub mod ParentFixed
 pub mod SoundTree
 pub mod Boundary
 pub mod Clauses
@@ -12,6 +17,7 @@ pub mod EqualLaws
 pub mod RowList
 pub mod LayoutLaws
 pub mod Equivalence
+pub mod Parented
 pub mod Kindred
 pub mod Walks
 pub mod UnionLaws

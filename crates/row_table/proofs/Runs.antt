@@ -18,8 +18,8 @@ use borrow.Author.Tests.{le-leb}
 use Rattle.tokenizer.specs.Text.{if_then_else_}
 use Rattle.tokenizer.proofs.Basics.{and-l, and-r, of-true}
 use Rattle.datatype.specs.Tree.{Forest, ∅, node, count, Row}
-use Rattle.datatype.specs.Table.{rowWords, rowOf, subtreeOf, tableOf, join, viewWith, viewOf}
-use Rattle.row_table.specs.Run.{sizeAt, rowAt, runAt, isRun, runOr, forestAt, Nests}
+use Rattle.datatype.specs.Table.{rowWords, rowOf, subtreeOf, tableOf, join, viewWith, viewOf, sizeAt}
+use Rattle.row_table.specs.Run.{rowAt, runAt, isRun, runOr, forestAt, Nests}
 use Rattle.datatype.proofs.Table.{length-table, view-table, table-view, view-enough}
 
 -- ---- parts of parts of lists
@@ -96,6 +96,7 @@ module _ (table : List ℕ) (i n : ℕ) (room : rowWords * (i + n) ≤ length ta
         words-at 8 (omega arith),
         words-at 9 (omega arith),
         words-at 10 (omega arith),
+        words-at 11 (omega arith),
       )
 
   below-is : (s : ℕ) → 1 ≤ s → s ≤ n → viewOf (take (rowWords * (s - 1)) (drop rowWords (words table i n))) ≡ runAt table (i + 1) (s - 1)

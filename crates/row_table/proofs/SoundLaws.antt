@@ -13,13 +13,15 @@ use Rattle.tokenizer.specs.Utf8.{isUtf8}
 use Rattle.tokenizer.proofs.Basics.{of-true}
 use Rattle.datatype.specs.Kind.{kinds, shapeOf}
 use Rattle.datatype.specs.Tree.{Forest, ∅, node, count, depth, Row, nameList, labels}
-use Rattle.datatype.specs.Table.{rowWords, wordsOf, tableOf, join, viewOf}
+use Rattle.datatype.specs.Table.{rowWords, wordsOf, tableOf, join, viewOf, sizeAt}
 use Rattle.row_table.specs.Sound.{Place, bare, idFits, rulesOf, rowsFit, placed, isSound}
-use Rattle.row_table.specs.Run.{sizeAt, rowAt, runAt, isRun, runOr, forestAt, Nests}
+use Rattle.row_table.specs.Run.{rowAt, runAt, isRun, runOr, forestAt, Nests}
 use Rattle.row_table.specs.Check.{placeOf, belowOf, numbersFit, nameOk, zoneOk, ownFits, childrenFit, runFits}
 use Rattle.datatype.proofs.Table.{table-view}
 use Rattle.datatype.proofs.Same.{same-eq}
 use Rattle.datatype.proofs.Tests.{iff-eq, false-of}
+use Rattle.row_table.specs.Climb.{parentsFit}
+use Rattle.row_table.proofs.ParentFit.{view-fits as parents-view}
 use Rattle.row_table.proofs.Runs.{run-step, run-none, no-rows, forest-none, run-all, run-is, view-rows}
 use Rattle.row_table.proofs.SoundTree.{SoundTree, sound-tree, tree-sound, sound-count}
 use Rattle.row_table.proofs.Clauses.{own-of, Run, run-of, of-run, run-in, run-out}
@@ -245,7 +247,7 @@ one-tree (node r k (node q i j)) n c l e = absurd (omega arith)
 
 module _ (text names table : List ℕ) where
   abbrev rows : ℕ
-  rows = length table / 11
+  rows = length table / rowWords
 
   abbrev sound : Bool
   sound = isSound text names table
@@ -265,7 +267,7 @@ module _ (text names table : List ℕ) where
   pub sound-many : 1024 < rows → false ≡ sound
   sound-many e = no (λ s. let u = sound-count text names table s in let v = s .rows in omega arith)
 
-  pub sound-left : (length table ≡ 11 * rows → ⊥) → false ≡ sound
+  pub sound-left : (length table ≡ rowWords * rows → ⊥) → false ≡ sound
   sound-left e = no (λ s. let u = sound-count text names table s in omega arith)
 
   -- the root's subtree
@@ -279,7 +281,10 @@ module _ (text names table : List ℕ) where
   pub sound-utf8 : isUtf8 text ≡ false → false ≡ sound
   sound-utf8 e = no (λ s. clash (isUtf8 text) e (s .utf8))
 
-  module _ (short : length text ≤ 16384) (listed : same names nameList ≡ true) (some-rows : rows ≡ 0 → ⊥) (few : rows ≤ 1024) (whole : length table ≡ 11 * rows) (n : ℕ) (is : n ≡ sizeAt table 0) (root : n ≡ rows) (good : isUtf8 text ≡ true) where
+  pub sound-parents : parentsFit table ≡ false → false ≡ sound
+  sound-parents e = no (λ s. clash (parentsFit table) e (rw (parents-view table (node (s .root) (s .kids) ∅) (s .view)) (s .parents)))
+
+  module _ (short : length text ≤ 16384) (listed : same names nameList ≡ true) (some-rows : rows ≡ 0 → ⊥) (few : rows ≤ 1024) (whole : length table ≡ rowWords * rows) (n : ℕ) (is : n ≡ sizeAt table 0) (root : n ≡ rows) (good : isUtf8 text ≡ true) (parents : parentsFit table ≡ true) where
     names-are : names ≡ nameList
     names-are = same-eq names nameList (of-true _ listed)
 
@@ -301,6 +306,7 @@ module _ (text names table : List ℕ) where
               levels = omega arith;
               places = w .places;
               fits = rw names-are (w .fits);
+              parents = of-true _ (sym (parents-view table (node r k ∅) v) ∙ parents);
             }
 
         go : (r : Row) × (k : Forest Row) × (f ≡ node r k ∅) → SoundTree text names table

@@ -17,6 +17,7 @@ use Rattle.datatype.specs.Kind.{kinds, shapeOf}
 use Rattle.datatype.specs.Tree.{Forest, ∅, node, count, roots, depth, Row, Label, nameList, labels}
 use Rattle.datatype.specs.Table.{rowWords, viewOf, treeOf}
 use Rattle.row_table.specs.Sound.{Rules, Place, bare, arityFits, roleFits, idFits, nameFits, rulesOf, zoneFits, shapeFits, rowFits, rowsFit, placed, viewSound, isSound}
+use Rattle.row_table.specs.Parents.{parentsRight}
 use Rattle.row_table.specs.Run.{forestAt, Nests}
 use Rattle.datatype.proofs.Same.{same-eq, eq-same}
 use Rattle.row_table.proofs.Runs.{view-rows, nests-all, forest-all}
@@ -156,6 +157,7 @@ pub record SoundTree (text names table : List ℕ) : Type 0 where
   pub levels : suc (depth kids) ≤ 64
   pub places : T (placed text (node root kids ∅))
   pub fits : T (rowsFit bare (labels text names (node root kids ∅)))
+  pub parents : T (parentsRight 0 0 (node root kids ∅))
 
 -- one root
 one-root : (f : Forest Row) → T (eqb (length (roots f)) 1) → (r : Row) × (k : Forest Row) × (f ≡ node r k ∅)
@@ -172,6 +174,7 @@ record Tree (text names : List ℕ) (o : Option (Forest Row)) : Type 0 where
   levels : suc (depth kids) ≤ 64
   places : T (placed text (node root kids ∅))
   fits : T (rowsFit bare (labels text names (node root kids ∅)))
+  parents : T (parentsRight 0 0 (node root kids ∅))
 
 view-one : (text names : List ℕ) (r : Row) (k : Forest Row) → T (viewSound text names (some (node r k ∅))) → Tree text names (some (node r k ∅))
 unfolding viewSound
@@ -182,7 +185,9 @@ view-one text names r k t =
     let c : Bool = leb (depth f) 64 in
     let d : Bool = placed text f in
     let e : Bool = rowsFit bare (labels text names f) in
-    let t4 : T (a && b && c && d) = and-l (a && b && c && d) e t in
+    let g : Bool = parentsRight 0 0 f in
+    let t5 : T (a && b && c && d && e) = and-l (a && b && c && d && e) g t in
+    let t4 : T (a && b && c && d) = and-l (a && b && c && d) e t5 in
     let t3 : T (a && b && c) = and-l (a && b && c) d t4 in
     let few = leb→le (count f) 1024 (and-r a b (and-l (a && b) c t3)) in
     let flat = leb→le (depth f) 64 (and-r (a && b) c t3) in
@@ -193,16 +198,17 @@ view-one text names r k t =
       rows = omega arith;
       levels = omega arith;
       places = and-r (a && b && c) d t4;
-      fits = and-r (a && b && c && d) e t;
+      fits = and-r (a && b && c && d) e t5;
+      parents = and-r (a && b && c && d && e) g t;
     }
 
 view-tree : (text names : List ℕ) (o : Option (Forest Row)) → T (viewSound text names o) → Tree text names o
 unfolding viewSound
 view-tree text names none t = absurd t
-view-tree text names (some f) t = go (one-root f (first (eqb (length (roots f)) 1) (leb (count f) 1024) (leb (depth f) 64) (placed text f) (rowsFit bare (labels text names f)) t))
+view-tree text names (some f) t = go (one-root f (first (eqb (length (roots f)) 1) (leb (count f) 1024) (leb (depth f) 64) (placed text f) (rowsFit bare (labels text names f)) (parentsRight 0 0 f) t))
   where
-    first : (a b c d e : Bool) → T (a && b && c && d && e) → T a
-    first a b c d e t = search split depth 6
+    first : (a b c d e g : Bool) → T (a && b && c && d && e && g) → T a
+    first a b c d e g t = search split depth 7
 
     go : (r : Row) × (k : Forest Row) × (f ≡ node r k ∅) → Tree text names (some f)
     go w = subst (λ (g : Forest Row). Tree text names (some g)) (sym (w .2)) (view-one text names (w .0) (w .1) (subst (λ (g : Forest Row). T (viewSound text names (some g))) (w .2) t))
@@ -227,6 +233,7 @@ sound-tree text names table t = go (four (leb (length text) 16384) (isUtf8 text)
           levels = w .levels;
           places = w .places;
           fits = w .fits;
+          parents = w .parents;
         }
 
     go : T (leb (length text) 16384) × T (isUtf8 text) × T (same names nameList) × T (viewSound text names (viewOf table)) → SoundTree text names table
@@ -234,14 +241,15 @@ sound-tree text names table t = go (four (leb (length text) 16384) (isUtf8 text)
 
 -- the other way round
 tree-view : (text names : List ℕ) (r : Row) (k : Forest Row) → suc (count k) ≤ 1024 → suc (depth k) ≤ 64 → T (placed text (node r k ∅))
-    → T (rowsFit bare (labels text names (node r k ∅))) → T (viewSound text names (some (node r k ∅)))
+    → T (rowsFit bare (labels text names (node r k ∅))) → T (parentsRight 0 0 (node r k ∅)) → T (viewSound text names (some (node r k ∅)))
 unfolding viewSound
-tree-view text names r k p q d e =
+tree-view text names r k p q d e g =
     let f : Forest Row = node r k ∅ in
     let b : Bool = leb (count f) 1024 in
     let c : Bool = leb (depth f) 64 in
-    both (true && b && c && placed text f) (rowsFit bare (labels text names f))
-    (both (true && b && c) (placed text f) (both (true && b) c (le→leb (count f) 1024 (omega arith)) (le→leb (depth f) 64 (omega arith))) d) e
+    both (true && b && c && placed text f && rowsFit bare (labels text names f)) (parentsRight 0 0 f)
+    (both (true && b && c && placed text f) (rowsFit bare (labels text names f))
+    (both (true && b && c) (placed text f) (both (true && b) c (le→leb (count f) 1024 (omega arith)) (le→leb (depth f) 64 (omega arith))) d) e) g
 
 pub tree-sound : (text names table : List ℕ) → SoundTree text names table → T (isSound text names table)
 unfolding isSound
@@ -250,7 +258,7 @@ tree-sound text names table s =
     let c : Bool = same names nameList in
     both (a && isUtf8 text && c) (viewSound text names (viewOf table))
     (both (a && isUtf8 text) c (both a (isUtf8 text) (le→leb (length text) 16384 (s .short)) (s .utf8)) (eq-same names nameList (s .listed)))
-    (rw (s .view) (tree-view text names (s .root) (s .kids) (s .rows) (s .levels) (s .places) (s .fits)))
+    (rw (s .view) (tree-view text names (s .root) (s .kids) (s .rows) (s .levels) (s .places) (s .fits) (s .parents)))
 
 -- ---- the table of a sound tree
 

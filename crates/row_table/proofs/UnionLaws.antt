@@ -12,8 +12,8 @@ use borrow.Author.Tests.{le-leb, lt-leb, lt-ltb, le-ltb}
 use Rattle.tokenizer.specs.Text.{if_then_else_}
 use Rattle.datatype.specs.Kind.{has, idsFit}
 use Rattle.datatype.specs.Tree.{Forest, ∅, node, roots, Row}
-use Rattle.datatype.specs.Table.{rowWords}
-use Rattle.row_table.specs.Run.{sizeAt, rowAt, forestAt, Nests}
+use Rattle.datatype.specs.Table.{rowWords, sizeAt}
+use Rattle.row_table.specs.Run.{rowAt, forestAt, Nests}
 use Rattle.row_table.specs.Ids.{isKept, keepId, freshIds}
 use Rattle.row_table.specs.UnionFields.{siblingIds, allFit, typeIdsFit}
 use Rattle.row_table.proofs.IdLaws.{Keeps, zeros, keeps-none, keeps-more, fresh-ids}
@@ -63,10 +63,10 @@ module _ (table : List ℕ) (first end : ℕ) where
       unfolding siblingIds
       turned = ap (λ (f : ℕ). siblingIds f table at end) one-less ∙ rw (lt-leb end at l)
 
-      pub met-outside : length table / 11 ≤ at → false ≡ typeIdsFit table first end
+      pub met-outside : length table / rowWords ≤ at → false ≡ typeIdsFit table first end
       met-outside h = sym (m .so ∙ rw (turned, lt-leb (rowWords * (at + 1)) (length table) (omega arith)))
 
-      module _ (i : at < length table / 11) where
+      module _ (i : at < length table / rowWords) where
         pub met-row : rowWords * (at + 1) ≤ length table
         met-row = omega arith
 

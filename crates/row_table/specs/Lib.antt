@@ -1,4 +1,6 @@
 pub mod Run
+pub mod Parents
+pub mod Climb
 pub mod Sound
 pub mod Check
 pub mod Ids

@@ -9,10 +9,6 @@ use lib.Dec.{T}
 use Rattle.datatype.specs.Tree.{Forest, ∅, Row}
 use Rattle.datatype.specs.Table.{rowWords, viewOf}
 
--- Word 1 of row i: the rows in its subtree.
-abbrev pub sizeAt : List ℕ → ℕ → ℕ
-sizeAt table i = getD table (rowWords * i + 1) 0
-
 -- Row i of a table, by its words.
 unfoldable pub rowAt : List ℕ → ℕ → Row
 rowAt table i =
@@ -27,6 +23,7 @@ rowAt table i =
       size = getD table (rowWords * i + 8) 0;
       zoneStart = getD table (rowWords * i + 9) 0;
       zoneSize = getD table (rowWords * i + 10) 0;
+      parent = getD table (rowWords * i + 11) 0;
     }
 
 -- The run of trees in the n rows from row i on, if they nest.

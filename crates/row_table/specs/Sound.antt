@@ -11,6 +11,7 @@ use Rattle.tokenizer.specs.Utf8.{isUtf8}
 use Rattle.datatype.specs.Kind.{Shape, leaf, timestamp, time, interval, fixed, list, fixedList, struct, union, dictionary, decimal, mapping, runEnds, kinds, shapeOf, unitFits, decimalFits, entriesRefusal, idsFit}
 use Rattle.datatype.specs.Tree.{Forest, ∅, node, count, roots, depth, Row, Label, nameList, labels}
 use Rattle.datatype.specs.Table.{viewOf, treeOf}
+use Rattle.row_table.specs.Parents.{parentsRight}
 use Rattle.row_table.specs.declared.Depth.{Depth}
 use Rattle.row_table.specs.declared.Depth.the-variants.{Levels, Refused}
 
@@ -165,11 +166,12 @@ placed text (node r kids next) = namePlaced text r && zonePlaced text r && place
 
 -- ---- a sound tree
 
--- Subtrees nest exactly, the root stands over all, 1 to 1,024 rows, at most 64 levels.
+-- Subtrees nest exactly, the root stands over all, 1 to 1,024 rows, at most 64 levels, and each row's parent is the row
+-- that it stands under, the root's 0.
 unfoldable pub viewSound : List ℕ → List ℕ → Option (Forest Row) → Bool
 viewSound text names none = false
 viewSound text names (some f) =
-    eqb (length (roots f)) 1 && leb (count f) 1024 && leb (depth f) 64 && placed text f && rowsFit bare (labels text names f)
+    eqb (length (roots f)) 1 && leb (count f) 1024 && leb (depth f) 64 && placed text f && rowsFit bare (labels text names f) && parentsRight 0 0 f
 
 -- Whether text, name list and row words are a sound tree.
 unfoldable pub isSound : List ℕ → List ℕ → List ℕ → Bool

@@ -8,12 +8,15 @@ mod ids;
 pub mod layout;
 pub mod levels;
 mod names;
+mod parents;
 mod rows;
 mod rules;
 mod sound;
 mod union_fields;
 
 pub use equality::equal_trees;
+pub use parents::set_first_parents;
+pub use parents::set_parents;
 pub use sound::is_sound;
 pub use union_fields::try_new;
 

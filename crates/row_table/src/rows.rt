@@ -2,8 +2,7 @@
 ghost use mathlib.Core.Path.{_≡_};
 ghost use Prim.Native.Nat.{_+_, _*_, _≤_, _<_};
 ghost use lib.ListN.{length, getD};
-ghost use Rattle.datatype.specs.Table.{rowWords};
-ghost use Rattle.row_table.specs.Run.{sizeAt};
+ghost use Rattle.datatype.specs.Table.{rowWords, sizeAt};
 use datatype::rows::ROW_WORDS;
 use datatype::rows::SUBTREE;
 

@@ -13,6 +13,7 @@ use crate::children::is_childless;
 use crate::names::is_name_list;
 use crate::names::name_fits;
 use crate::names::zone_fits;
+use crate::parents::parents_fit;
 use crate::rows::subtree;
 use crate::rows::word;
 use crate::rules::below;
@@ -144,6 +145,9 @@ pub fn is_sound(text: &[u8], names: &[u8], rows: &[u32]) -> bool
         return false;
     }
     if !tokenizer::is_utf8(text) {
+        return false;
+    }
+    if !parents_fit(rows) {
         return false;
     }
     run_fits(text, rows, 0, MAX_LEVELS, 0, n)

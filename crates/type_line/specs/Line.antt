@@ -2,13 +2,13 @@
 use mathlib.Core.Bool.{Bool, _&&_}
 use mathlib.Core.List.{List, [], _∷_, _++_}
 use mathlib.Core.Option.{Option, none, some}
-use Prim.Native.Nat.{ℕ, suc, _+_, min}
+use Prim.Native.Nat.{ℕ, suc, _+_, _*_, min}
 use lib.ListN.{length, drop}
 use lib.Dec.{leb, eqb}
 use Rattle.tokenizer.specs.Text.{bytes, if_then_else_}
 use Rattle.tokenizer.specs.Answer.{Refusal, Out, refused, done}
 use Rattle.datatype.specs.Tree.{Forest, Row, count, depth, nameList}
-use Rattle.datatype.specs.Table.{tableOf}
+use Rattle.datatype.specs.Table.{rowWords, tableOf}
 use Rattle.datatype_parse.specs.Parse.{parse, parseRows}
 use Rattle.datatype_display.specs.Display.{digits}
 use Rattle.datatype_display.specs.Print.{print}
@@ -52,10 +52,14 @@ output input = answers (linesOf input)
 
 -- ---- one line, in lent buffers
 
--- Whether the buffers hold the rows and the answer of every line: 1,024 rows of 11 words; `ok 1024 64 `, a printed text
--- of 16,384 bytes, and a newline.
+-- The words that 1,024 rows take.
+abbrev pub lineWords : ℕ
+lineWords = rowWords * 1024
+
+-- Whether the buffers hold the rows and the answer of every line: 1,024 rows; `ok 1024 64 `, a printed text of 16,384
+-- bytes, and a newline.
 abbrev pub roomFor : List ℕ → List ℕ → Bool
-roomFor rows out = leb 11264 (length rows) && leb 16396 (length out)
+roomFor rows out = leb lineWords (length rows) && leb 16396 (length out)
 
 -- What is answered: how many bytes are printed for the line; nothing where there is no room.
 unfoldable pub lineAnswered : List ℕ → List ℕ → List ℕ → Option ℕ

@@ -5,11 +5,12 @@ ghost use Rattle.type_line.specs.Line.{lineEnd, lineAnswered, lineRows, 
 mod tree;
 mod write;
 
+use datatype::rows::MAX_ROWS;
 use datatype::rows::ROW_WORDS;
 use datatype_parse::Parsed;
 
 // The words that 1,024 rows take.
-pub const LINE_WORDS: usize = 11264;
+pub const LINE_WORDS: usize = ROW_WORDS * MAX_ROWS;
 
 // The bytes that the longest answer takes: `ok 1024 64 `, a printed text of 16,384 bytes, and a newline.
 pub const ANSWER_BYTES: usize = 16396;

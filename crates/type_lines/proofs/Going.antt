@@ -12,7 +12,7 @@ use types.Run.{OneOf}
 use denote.Enum.Declared.{tagOf}
 use borrow.Author.Tests.{le-leb}
 use Rattle.tokenizer.specs.Text.{bytes, if_then_else_}
-use Rattle.type_line.specs.Line.{lineAnswer, linesOf, answers, output, beforeNewline, lineEnd, lineAnswered, lineOut, answeredMeans}
+use Rattle.type_line.specs.Line.{lineAnswer, lineWords, linesOf, answers, output, beforeNewline, lineEnd, lineAnswered, lineOut, answeredMeans}
 use Rattle.type_line.specs.declared.Answered.{Answered}
 use Rattle.type_line.specs.declared.Answered.the-variants.{Bytes, NoRoom}
 use Rattle.type_line.proofs.Answered.{the-type as answered-type}
@@ -117,15 +117,15 @@ no-room-of : (r : Answered) → OneOf (1 ∷ []) (tagOf answered-type r) → r �
 no-room-of (Bytes n) o = absurd (omega arith)
 no-room-of NoRoom o = refl
 
-module _ (line rows out lent part : List ℕ) (wrote : ℕ) (words : 11264 ≤ length rows) (room : wrote + 16396 ≤ length out)
+module _ (line rows out lent part : List ℕ) (wrote : ℕ) (words : lineWords ≤ length rows) (room : wrote + 16396 ≤ length out)
     (isLent : lent ≡ take (length out - wrote) (drop wrote out)) (r : Answered) (a : answeredMeans r ≡ lineAnswered line rows lent) where
   lent-length : length lent ≡ length out - wrote
   lent-length =
       let d = length-drop wrote out in
       ap (λ (l : List ℕ). length l) isLent ∙ length-take-le (length out - wrote) (drop wrote out) (omega arith)
 
-  enough : (A : Type 0) (x y : A) → (if (leb 11264 (length rows) && leb 16396 (length lent)) then x else y) ≡ x
-  enough A x y = let l = lent-length in rw (le-leb 11264 (length rows) words, le-leb 16396 (length lent) (omega arith))
+  enough : (A : Type 0) (x y : A) → (if (leb lineWords (length rows) && leb 16396 (length lent)) then x else y) ≡ x
+  enough A x y = let l = lent-length in rw (le-leb lineWords (length rows) words, le-leb 16396 (length lent) (omega arith))
 
   module _ (o : part ≡ lineOut line rows lent) (k : length part ≡ length lent) where
     answer-size : (n : ℕ) → r ≡ Bytes n → n ≡ length (lineAnswer line)

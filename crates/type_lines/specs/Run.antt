@@ -4,7 +4,7 @@ use mathlib.Core.Bool.{Bool, true, false}
 use mathlib.Core.List.{List, _++_}
 use Prim.Native.Nat.{ℕ, suc, _+_, _-_, _≤_, _<_}
 use lib.ListN.{length, take, drop}
-use Rattle.type_line.specs.Line.{lineAnswer, output, beforeNewline}
+use Rattle.type_line.specs.Line.{lineAnswer, lineWords, output, beforeNewline}
 use Rattle.type_lines.specs.declared.Place.{Place}
 use Rattle.type_lines.specs.declared.Turn.{Turn}
 use Rattle.type_lines.specs.declared.Turn.the-variants.{More, End}
@@ -28,7 +28,7 @@ lineAt from wrote = record { from = from; wrote = wrote; skip = false }
 
 -- They hold the rows and an answer.
 pub record Room (rows out : List ℕ) : Type 0 where
-  pub words : 11264 ≤ length rows
+  pub words : lineWords ≤ length rows
   pub bytes : 16396 ≤ length out
 
 -- A place lies in the input and in the output.

@@ -3,8 +3,10 @@
 ghost use mathlib.Core.Path.{_≡_};
 ghost use Prim.Native.Nat.{_<_};
 ghost use lib.ListN.{length};
+ghost use Rattle.type_line.specs.Line.{lineWords};
 ghost use Rattle.type_lines.specs.Run.{Room, Running, GoesOn, Left};
 use type_line::ANSWER_BYTES;
+use type_line::LINE_WORDS;
 
 mod lines;
 
@@ -23,10 +25,10 @@ enum Turn {
 }
 
 // Room for 1,024 rows.
-fn row_words() -> [u32; 11264]
-    ensures { λ r. ⌜ 11264 ≡ length r ⌝ }
+fn row_words() -> [u32; LINE_WORDS]
+    ensures { λ r. ⌜ lineWords ≡ length r ⌝ }
 {
-    [0; 11264]
+    [0; LINE_WORDS]
 }
 
 // Writes answers to standard output; where that fails, says so.

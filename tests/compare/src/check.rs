@@ -27,6 +27,8 @@ pub struct Check<'s> {
     pub by_rust: usize,
     /// Trees that the port printed beside the Rust.
     pub printed: usize,
+    /// Tables whose parents the port set.
+    pub parented: usize,
     pub counts: Counts,
 }
 
@@ -38,6 +40,7 @@ impl<'s> Check<'s> {
             differences: 0,
             by_rust: 0,
             printed: 0,
+            parented: 0,
             counts: [0; 20],
         }
     }
@@ -272,8 +275,25 @@ impl<'s> Check<'s> {
         }
     }
 
+    /// The port's parents of a table's rows, sound or not, in the place of any others.
+    fn subject_parents(&mut self, tree: &Tree) {
+        let Some(subject) = self.subject else {
+            return;
+        };
+        let mut words = tree.words.clone();
+        let parents = words.iter_mut().skip(WORDS - 1).step_by(WORDS);
+        parents.for_each(|parent| *parent = self.random.below(1 << 32) as u32);
+        let expected = model::with_parents(&words);
+        subject.set_parents(&mut words);
+        self.parented += 1;
+        if words != expected {
+            self.differ_tree(tree, &format!("the port's parents: {words:?}"));
+        }
+    }
+
     /// The port's printer, with 16,384 bytes and with a random part of them.
     fn subject_prints(&mut self, tree: &Tree, printed: &Result<Vec<u8>, u32>) {
+        self.subject_parents(tree);
         let Some(subject) = self.subject else {
             return;
         };
@@ -374,6 +394,7 @@ fn compare_rows(text: &[u8], rows: &[Row], others: &[oracle::Row], homes: bool) 
                 name: model::row_name(text, NAME_LIST, row).to_vec(),
                 home: other.home.filter(|_| homes).map(|_| row.home),
                 zone: model::row_zone(text, row).to_vec(),
+                parent: row.parent,
             };
             let mut other = other.clone();
             other.home = other.home.filter(|_| homes);

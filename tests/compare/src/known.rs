@@ -46,13 +46,30 @@ const TEXTS: &[(&str, Result<usize, u32>)] = &[
     ("Dictionary(Int8, Dictionary(Utf8, Int8))", Ok(5)),
 ];
 
+/// A Struct of so many leaves.
+fn leaves(count: usize) -> String {
+    format!("Struct({})", "\"a\":Int8,".repeat(count))
+}
+
+/// Texts that are lent so many words, with what they give: around one row, and the words that 1,024 rows took when a
+/// row had eleven.
+pub fn lent() -> Vec<(String, usize, Result<usize, u32>)> {
+    let rows_of_eleven = 1_024 * 11;
+    vec![
+        ("Int8".into(), 11, Err(4)),
+        ("Int8".into(), 12, Ok(1)),
+        (leaves(937), rows_of_eleven, Ok(938)),
+        (leaves(938), rows_of_eleven, Err(4)),
+    ]
+}
+
 pub fn known() -> Vec<Known> {
     let mut known: Vec<Known> = TEXTS
         .iter()
         .map(|(text, answer)| (text.to_string(), *answer))
         .collect();
     let lists = |count: usize| "List(".repeat(count);
-    let leaves = |count: usize| "\"a\":Int8,".repeat(count);
+    let fields = |count: usize| "\"a\":Int8,".repeat(count);
     let closed = |count: usize| format!("{}Int8{}", lists(count), ")".repeat(count));
     known.extend([
         (closed(63), Ok(64)),
@@ -62,14 +79,14 @@ pub fn known() -> Vec<Known> {
         (lists(64) + "nullable @", Err(3)),
         (lists(63) + "RunEndEncoded(Int8", Err(13)),
         (lists(63) + "RunEndEncoded(non-null Int8", Err(3)),
-        (format!("Struct({})", leaves(1_023)), Ok(1_024)),
-        (format!("Struct({})", leaves(1_024)), Err(4)),
+        (leaves(1_023), Ok(1_024)),
+        (leaves(1_024), Err(4)),
         (
-            format!("Struct({}\"d\": {}", leaves(960), lists(63)),
+            format!("Struct({}\"d\": {}", fields(960), lists(63)),
             Err(3),
         ),
         (
-            format!("Struct({}\"d\": {}", leaves(961), lists(63)),
+            format!("Struct({}\"d\": {}", fields(961), lists(63)),
             Err(4),
         ),
         (format!("FixedSizeBinary({}7)", "0".repeat(16_000)), Ok(1)),

@@ -306,6 +306,10 @@ fn run(settings: &BTreeMap<String, u64>) -> Result<ExitCode, String> {
         .for_each(|(clause, count)| println!("{count:>9}  {clause}"));
 
     println!("\ntrees printed by port and Rust: {}", report.check.printed);
+    println!(
+        "tables whose parents the port set: {}",
+        report.check.parented
+    );
     let differences = report.check.differences();
     println!("differences: {differences}");
     Ok(if differences == 0 {

@@ -3,7 +3,7 @@
 //! expected answers where the Rust has no say; where it has one, the two are compared.
 
 /// Words to a row.
-pub const WORDS: usize = 11;
+pub const WORDS: usize = 12;
 pub const NAME_LIST: &[u8] = b"itemrun_endsvalues";
 pub const MOST_BYTES: usize = 16_384;
 pub const MOST_ROWS: usize = 1_024;
@@ -89,6 +89,8 @@ pub struct Row {
     pub name_length: u32,
     pub zone_start: u32,
     pub zone_length: u32,
+    /// The parent's row number from 0; 0 for the root too.
+    pub parent: u32,
 }
 
 impl Row {
@@ -97,6 +99,7 @@ impl Row {
         [
             self.kind, self.rows, self.role, self.union_id, self.number, self.scale,
             self.home, self.name_start, self.name_length, self.zone_start, self.zone_length,
+            self.parent,
         ]
     }
 
@@ -113,6 +116,7 @@ impl Row {
             name_length: words[8],
             zone_start: words[9],
             zone_length: words[10],
+            parent: words[11],
         }
     }
 
@@ -319,6 +323,7 @@ pub fn read(text: &[u8], limits: Limits) -> Result<Vec<Row>, u32> {
         text,
         place: 0,
         rows: Vec::new(),
+        open: Vec::new(),
         limits,
     };
     reader.data_type(1, Row::default())?;
@@ -332,6 +337,8 @@ struct Reader<'a> {
     text: &'a str,
     place: usize,
     rows: Vec<Row>,
+    /// The rows whose types are begun and not ended, the root first.
+    open: Vec<usize>,
     limits: Limits,
 }
 
@@ -435,7 +442,9 @@ impl Reader<'_> {
             return Err(NO_ROW);
         }
         let at = self.rows.len();
-        self.rows.push(row);
+        let parent = self.open.last().map_or(0, |up| *up as u32);
+        self.rows.push(Row { parent, ..row });
+        self.open.push(at);
         let Token::Type(kind) = self.take()? else {
             return Err(WRONG_SORT);
         };
@@ -526,6 +535,7 @@ impl Reader<'_> {
             RUN_END_ENCODED => self.run_end_encoded(level)?,
             _ => {}
         }
+        self.open.pop();
         self.rows[at].rows = (self.rows.len() - at) as u32;
         Ok(at)
     }
@@ -669,6 +679,23 @@ pub fn equal(a: (&[u8], &[u8], &[Row]), b: (&[u8], &[u8], &[Row])) -> bool {
     a.eq(b)
 }
 
+/// Any words with the parents of their rows set, whole rows and 1,024 at the most: each is the last row before it whose
+/// subtree holds it, as the rows count themselves, and 0 where none does.
+pub fn with_parents(words: &[u32]) -> Vec<u32> {
+    let mut rows = from_words(words);
+    rows.truncate(MOST_ROWS);
+    let ends: Vec<usize> = (0..)
+        .zip(&rows)
+        .map(|(at, row)| at + row.rows as usize)
+        .collect();
+    for (at, row) in rows.iter_mut().enumerate() {
+        let parent = ends[..at].iter().rposition(|end| *end > at);
+        row.parent = parent.unwrap_or(0) as u32;
+    }
+    let rest = &words[rows.len() * WORDS..];
+    [&to_words(&rows), rest].concat()
+}
+
 /// A row with its children.
 struct Node {
     /// The row's number from 0.
@@ -731,11 +758,12 @@ fn sound_tree(text: &[u8], list: &[u8], words: &[u32]) -> Option<Node> {
     }
     // Subtrees nest exactly, root over all, depth at most 64.
     let root = nest(&rows, 0, MOST_LEVELS)?;
-    // The root is bare.
-    let mut good = bare(&root.row);
+    // The root is bare and has no parent, which is 0.
+    let mut good = bare(&root.row) && root.row.parent == 0;
     root.each(&mut |node| {
         good = good
             && child_count(node)
+            && parent(node)
             && numbers(&node.row)
             && zone(text, &node.row)
             && node
@@ -765,6 +793,13 @@ fn child_count(node: &Node) -> bool {
         STRUCT | UNION => true,
         _ => node.children.is_empty(),
     }
+}
+
+/// Every child names the row that it stands under.
+fn parent(node: &Node) -> bool {
+    node.children
+        .iter()
+        .all(|child| child.row.parent as usize == node.at)
 }
 
 /// Kind, word 4 and word 5.

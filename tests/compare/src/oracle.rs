@@ -24,6 +24,8 @@ pub struct Row {
     /// The name's home, unless both text and name list could have given it.
     pub home: Option<u32>,
     pub zone: Vec<u8>,
+    /// The parent's row number from 0; 0 for the root too.
+    pub parent: u32,
 }
 
 #[derive(Clone, Copy, Debug, PartialEq, Eq)]
@@ -135,13 +137,15 @@ fn number(text: &str, message: &str) -> Option<u32> {
 /// The tree as rows.
 pub fn rows(data_type: &DataType) -> Vec<Row> {
     let mut rows = Vec::new();
-    add(&mut rows, data_type, None, 0, None);
+    add(&mut rows, 0, data_type, None, 0, None);
     rows
 }
 
-/// Adds a type's rows; `default` is the name that its field gets where the text names none.
+/// Adds a type's rows; `parent` is the row that they stand under, `default` the name that its field
+/// gets where the text names none.
 fn add(
     rows: &mut Vec<Row>,
+    parent: usize,
     data_type: &DataType,
     field: Option<&Field>,
     union_id: u32,
@@ -162,6 +166,7 @@ fn add(
             Some(_) => Some(1),
         },
         zone: Vec::new(),
+        parent: parent as u32,
     });
     let item = Some(Field::LIST_FIELD_DEFAULT_NAME);
     match data_type {
@@ -192,14 +197,14 @@ fn add(
         DataType::List(field)
         | DataType::ListView(field)
         | DataType::LargeList(field)
-        | DataType::LargeListView(field) => add(rows, field.data_type(), Some(field), 0, item),
+        | DataType::LargeListView(field) => add(rows, at, field.data_type(), Some(field), 0, item),
         DataType::FixedSizeList(field, length) => {
             rows[at].number = *length as u32;
-            add(rows, field.data_type(), Some(field), 0, item);
+            add(rows, at, field.data_type(), Some(field), 0, item);
         }
         DataType::Struct(fields) => {
             for field in fields {
-                add(rows, field.data_type(), Some(field), 0, None);
+                add(rows, at, field.data_type(), Some(field), 0, None);
             }
         }
         DataType::Union(fields, mode) => {
@@ -208,16 +213,16 @@ fn add(
                 UnionMode::Dense => 1,
             };
             for (id, field) in fields.iter() {
-                add(rows, field.data_type(), Some(field), id as u32, None);
+                add(rows, at, field.data_type(), Some(field), id as u32, None);
             }
         }
         DataType::Dictionary(key, value) => {
-            add(rows, key, None, 0, None);
-            add(rows, value, None, 0, None);
+            add(rows, at, key, None, 0, None);
+            add(rows, at, value, None, 0, None);
         }
         DataType::Map(field, sorted) => {
             rows[at].number = u32::from(*sorted);
-            add(rows, field.data_type(), Some(field), 0, None);
+            add(rows, at, field.data_type(), Some(field), 0, None);
         }
         DataType::RunEndEncoded(run_ends, values) => {
             // Only the short form leaves out names, and it leaves out both.
@@ -229,12 +234,20 @@ fn add(
             ];
             add(
                 rows,
+                at,
                 run_ends.data_type(),
                 Some(run_ends),
                 0,
                 default(names[0]),
             );
-            add(rows, values.data_type(), Some(values), 0, default(names[1]));
+            add(
+                rows,
+                at,
+                values.data_type(),
+                Some(values),
+                0,
+                default(names[1]),
+            );
         }
         _ => {}
     }

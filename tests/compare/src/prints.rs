@@ -1,7 +1,7 @@
 //! The stored sample of the printer, for a replay without Rust: trees with what they print. README.md has the format.
 
 use crate::check::Check;
-use crate::generate::trees::{self, Letters, Tree};
+use crate::generate::trees::{self, Letters, Tree, tree};
 use crate::generate::{Random, texts};
 use crate::model::{
     self, KINDS, Limits, MOST_BYTES, MOST_LEVELS, MOST_ROWS, NAME_LIST, Row, WORDS, kind, refusal,
@@ -44,7 +44,7 @@ pub fn prints(file: &str, seed: u64) -> Result<ExitCode, String> {
     prints.characters()?;
     prints.defaults()?;
     prints.limits()?;
-    prints.damaged(350)?;
+    prints.damaged(400)?;
     if prints.check.differences() > 0 {
         println!("nothing is written while there are differences");
         return Ok(ExitCode::FAILURE);
@@ -267,14 +267,6 @@ fn agreed(tree: &Tree, room: usize) -> Result<Result<Vec<u8>, u32>, String> {
         return Err(format!("model and Rust print {words:?} differently"));
     }
     Ok(rust)
-}
-
-fn tree(text: &[u8], rows: &[Row]) -> Tree {
-    Tree {
-        text: text.to_vec(),
-        list: NAME_LIST.to_vec(),
-        words: model::to_words(rows),
-    }
 }
 
 fn of(kind: u32, rows: u32) -> Row {

@@ -11,14 +11,14 @@ use std::collections::BTreeMap;
 use std::process::ExitCode;
 
 /// A file stays below this: the replay has room for a million bytes.
-const MOST_FILE_BYTES: usize = 900_000;
+const MOST_FILE_BYTES: usize = 950_000;
 
 /// Records longer than this are large; there are to be few of them.
 const LARGE: usize = 3_000;
-const MOST_LARGE_BYTES: usize = 150_000;
+const MOST_LARGE_BYTES: usize = 200_000;
 
 /// The most words that the replay lends.
-const MOST_LENT: usize = 12_000;
+const MOST_LENT: usize = 13_000;
 
 /// Numbers with a space or a line's end behind each, and bytes with their count before them and a line's end behind.
 #[derive(Default)]
@@ -96,13 +96,19 @@ pub fn texts(file: &str, seed: u64) -> Result<ExitCode, String> {
     let mut random = Random::new(seed);
     let mut kept = File::default();
     let mut accepted = 0;
-    for text in chosen(seed) {
-        let read = check.text(&text);
-        let lent = lent(&mut random, &read);
-        let answer = model::read(&text, Limits::lent(lent / WORDS));
-        if kept.offer(text_record(&text, lent, &answer)) {
+    let mut keep = |text: &[u8], lent: usize| {
+        let answer = model::read(text, Limits::lent(lent / WORDS));
+        if kept.offer(text_record(text, lent, &answer)) {
             accepted += usize::from(answer.is_ok());
         }
+    };
+    for (text, lent, _) in known::lent() {
+        let _ = check.text(text.as_bytes());
+        keep(text.as_bytes(), lent);
+    }
+    for text in chosen(seed) {
+        let read = check.text(&text);
+        keep(&text, lent(&mut random, &read));
     }
     if check.differences() > 0 {
         println!("nothing is written while there are differences");
@@ -116,10 +122,10 @@ pub fn texts(file: &str, seed: u64) -> Result<ExitCode, String> {
 
 /// How many words the replay lends: mostly those of 1,024 rows, else more, or about as many as the rows take.
 fn lent(random: &mut Random, read: &Result<Vec<Row>, u32>) -> usize {
-    let taken = read.as_ref().map_or(22, |rows| rows.len() * WORDS);
+    let taken = read.as_ref().map_or(2 * WORDS, |rows| rows.len() * WORDS);
     match random.below(8) {
         0 => random
-            .between(taken.saturating_sub(12), taken + 12)
+            .between(taken.saturating_sub(WORDS + 1), taken + WORDS + 1)
             .min(MOST_LENT),
         1 => random.between(MOST_ROWS * WORDS + 1, MOST_LENT),
         _ => MOST_ROWS * WORDS,
@@ -334,7 +340,8 @@ fn around_bounds(random: &mut Random, tree: &Tree) -> Vec<Change> {
             6 => &[0, 1, 2, 3],
             7 => &[0, 4, 12, 18, bytes, bytes + 1, u32::MAX],
             8 => &[0, 1, 4, 6, 8, 18, bytes, bytes + 1, u32::MAX],
-            _ => &[0, 1, bytes, bytes + 1, u32::MAX],
+            9 | 10 => &[0, 1, bytes, bytes + 1, u32::MAX],
+            _ => &[0, 1, (at / WORDS) as u32, rows - 1, rows, u32::MAX],
         };
         let mut values = bounds.to_vec();
         values.extend([word.wrapping_sub(1), word.wrapping_add(1)]);

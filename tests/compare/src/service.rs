@@ -106,5 +106,6 @@ fn seen(field: Field, row: &Row) -> Row {
         name: field.name().unwrap_or("").into(),
         home: row.home,
         zone: field.zone().unwrap_or("").into(),
+        parent: field.parent().map_or(0, |parent| parent.row() as u32),
     }
 }

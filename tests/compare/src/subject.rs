@@ -8,6 +8,9 @@ pub trait Subject {
 
     /// Fills `out` and answers the printed length or the refusal's number.
     fn print(&self, text: &[u8], list: &[u8], rows: &[u32], out: &mut [u8]) -> Result<usize, u32>;
+
+    /// Sets the parents of rows.
+    fn set_parents(&self, rows: &mut [u32]);
 }
 
 #[cfg(not(feature = "subject"))]
@@ -45,6 +48,8 @@ unsafe extern "C" {
         out_length: usize,
         length: *mut usize,
     ) -> u32;
+
+    fn arrow_types_set_parents(rows: *mut u32, rows_length: usize);
 }
 
 #[cfg(feature = "subject")]
@@ -80,6 +85,10 @@ impl Subject for Linked {
             )
         };
         answer(status, length)
+    }
+
+    fn set_parents(&self, rows: &mut [u32]) {
+        unsafe { arrow_types_set_parents(rows.as_mut_ptr(), rows.len()) }
     }
 }
 

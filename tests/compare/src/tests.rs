@@ -5,8 +5,8 @@ use crate::check::{self, Check};
 use crate::generate::trees::{self, Letters};
 use crate::generate::{Random, damage, texts};
 use crate::known;
-use crate::model::{self, Limits, MOST_ROWS, NAME_LIST, WORDS};
-use crate::subject::Subject;
+use crate::model::{self, Limits, MOST_BYTES, MOST_ROWS, NAME_LIST, WORDS};
+use crate::subject::{self, Subject};
 
 #[test]
 fn names_that_fit_and_names_that_do_not() {
@@ -46,6 +46,127 @@ fn rooms_smaller_than_1024_rows() {
     assert_eq!(read(&"\"".repeat(3), 2_000), Err(7));
 }
 
+/// Word 11 of a row, its parent.
+const PARENT: usize = 11;
+
+/// The words of a text's rows.
+fn words(text: &str) -> Vec<u32> {
+    model::to_words(&model::read(text.as_bytes(), Limits::lent(MOST_ROWS)).unwrap())
+}
+
+#[test]
+fn words_lent() {
+    for (text, lent, expected) in known::lent() {
+        let read = model::read(text.as_bytes(), Limits::lent(lent / WORDS));
+        assert_eq!(read.map(|rows| rows.len()), expected);
+        if let Some(port) = subject::linked() {
+            assert_eq!(port.read(text.as_bytes(), &mut vec![7; lent]), expected);
+        }
+    }
+}
+
+#[test]
+fn parents() {
+    let texts: [(&str, &[u32]); 3] = [
+        ("Struct(\"a\": List(Int8), \"b\": Int8)", &[0, 0, 1, 0]),
+        ("Dictionary(Dictionary(Int8, Utf8), Int8)", &[0, 0, 1, 1, 0]),
+        ("Int8", &[0]),
+    ];
+    for (text, expected) in texts {
+        let words = words(text);
+        let parents = |words: &[u32]| {
+            let rows = words.chunks_exact(WORDS);
+            rows.map(|row| row[PARENT]).collect::<Vec<_>>()
+        };
+        assert_eq!(parents(&words), expected);
+        assert!(model::sound(text.as_bytes(), NAME_LIST, &words));
+        if let Some(port) = subject::linked() {
+            let mut lent = vec![7; words.len()];
+            assert_eq!(port.read(text.as_bytes(), &mut lent), Ok(expected.len()));
+            assert_eq!(lent, words);
+        }
+    }
+}
+
+#[test]
+fn parents_set() {
+    // Words 1 of three rows, and the parents that they give.
+    for (sizes, expected) in [
+        ([3, 1, 1], [0, 0, 0]),
+        ([3, 2, 1], [0, 0, 1]),
+        ([1, 2, 1], [0, 0, 1]),
+        ([1, 1, 1], [0, 0, 0]),
+        ([0, 0, 0], [0, 0, 0]),
+        ([2, 9, 0], [0, 0, 1]),
+        ([u32::MAX, u32::MAX, 0], [0, 0, 1]),
+    ] {
+        let rows = sizes.map(|rows| model::Row {
+            rows,
+            parent: 9,
+            ..Default::default()
+        });
+        let words = [model::to_words(&rows), vec![5; PARENT]].concat();
+        let set = model::with_parents(&words);
+        let parents = model::from_words(&set).into_iter().map(|row| row.parent);
+        assert_eq!(parents.collect::<Vec<_>>(), expected);
+        assert_eq!(set[3 * WORDS..], words[3 * WORDS..]);
+        if let Some(port) = subject::linked() {
+            let mut lent = words;
+            port.set_parents(&mut lent);
+            assert_eq!(lent, set);
+        }
+    }
+}
+
+#[test]
+fn wrong_parents_are_not_sound() {
+    let text = "Struct(\"a\": List(Int8), \"b\": Int8)";
+    let right = words(text);
+    for row in 0..4 {
+        for parent in (0..5).chain([u32::MAX]) {
+            let mut changed = right.clone();
+            changed[row * WORDS + PARENT] = parent;
+            let sound = changed == right;
+            assert_eq!(model::sound(text.as_bytes(), NAME_LIST, &changed), sound);
+            if let Some(port) = subject::linked() {
+                let out = &mut vec![7; MOST_BYTES];
+                let printed = port.print(text.as_bytes(), NAME_LIST, &changed, out);
+                assert_eq!(printed, if sound { Ok(text.len()) } else { Err(17) });
+            }
+        }
+    }
+}
+
+#[test]
+fn equality_is_blind_to_parents() {
+    let text = "Struct(\"a\": List(Int8), \"b\": Int8)".as_bytes();
+    let rows = model::read(text, Limits::lent(MOST_ROWS)).unwrap();
+    let mut changed = rows.clone();
+    changed[0].parent = 1;
+    changed[3].parent = u32::MAX;
+    let tree = (text, NAME_LIST, rows.as_slice());
+    assert!(model::equal(tree, (text, NAME_LIST, &changed)));
+    changed[3].union_id = 1;
+    assert!(!model::equal(tree, (text, NAME_LIST, &changed)));
+}
+
+#[test]
+fn rows_of_eleven_words_are_not_sound() {
+    let text = "List(Int8)";
+    let eleven: Vec<u32> = words(text)
+        .chunks(WORDS)
+        .flat_map(|row| &row[..PARENT])
+        .copied()
+        .collect();
+    assert_eq!(eleven.len(), 22);
+    assert!(!model::sound(text.as_bytes(), NAME_LIST, &eleven));
+    if let Some(port) = subject::linked() {
+        let out = &mut vec![7; MOST_BYTES];
+        let printed = port.print(text.as_bytes(), NAME_LIST, &eleven, out);
+        assert_eq!(printed, Err(17));
+    }
+}
+
 #[test]
 fn verdicts() {
     let verdict = |text: &str| {
@@ -80,6 +201,10 @@ enum Fault {
     AnotherNumber,
     PartOfARowCounted,
     NameElsewhere,
+    ParentsUnset,
+    ParentsUnasked,
+    ParentsPastTheRows,
+    ParentsOfSoundTrees,
     SmallRoomForRows,
     OutputBehindTheText,
     OutputOfARefusal,
@@ -114,6 +239,10 @@ impl Subject for Port {
                     // The second row's name, one byte further on.
                     rows[WORDS + 7] += 1;
                 }
+                if self.0 == Fault::ParentsUnset {
+                    let parents = rows[..filled].iter_mut().skip(PARENT).step_by(WORDS);
+                    parents.for_each(|parent| *parent = 0);
+                }
             }
             Err(_) if self.0 == Fault::RefusedRowsKept => {}
             Err(_) => rows.fill(0),
@@ -130,7 +259,11 @@ impl Subject for Port {
             Fault::OneByteOfRoomMissing => out.len().saturating_sub(1),
             _ => out.len(),
         };
-        match model::print(text, list, rows, room) {
+        let mut rows = rows.to_vec();
+        if self.0 == Fault::ParentsUnasked && rows.len() % WORDS == 0 {
+            rows = trees::tree(text, &model::from_words(&rows)).words;
+        }
+        match model::print(text, list, &rows, room) {
             Ok(mut printed) => {
                 if self.0 == Fault::PlainMicroseconds {
                     let plain = String::from_utf8_lossy(&printed).replace("(µs", "(us");
@@ -150,6 +283,18 @@ impl Subject for Port {
                 Err(number)
             }
         }
+    }
+
+    fn set_parents(&self, rows: &mut [u32]) {
+        let mut set = model::with_parents(rows);
+        match self.0 {
+            Fault::ParentsPastTheRows if rows.len() > MOST_ROWS * WORDS => {
+                set[MOST_ROWS * WORDS + PARENT] = 0;
+            }
+            Fault::ParentsOfSoundTrees if rows.len() >= WORDS && rows[1] == 0 => return,
+            _ => {}
+        }
+        rows.copy_from_slice(&set);
     }
 }
 
@@ -193,6 +338,10 @@ fn ports_with_faults_are_caught() {
         Fault::AnotherNumber,
         Fault::PartOfARowCounted,
         Fault::NameElsewhere,
+        Fault::ParentsUnset,
+        Fault::ParentsUnasked,
+        Fault::ParentsPastTheRows,
+        Fault::ParentsOfSoundTrees,
         Fault::SmallRoomForRows,
         Fault::OutputBehindTheText,
         Fault::OutputOfARefusal,

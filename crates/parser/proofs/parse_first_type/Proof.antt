@@ -13,7 +13,7 @@ use Rattle.parser.proofs.parse_first_type.Reads as reads
 use Rattle.parser.proofs.parse_first_type.Lts as lts
 use Rattle.datatype.proofs.clear_words.Reads as clear-words-reads
 use Rattle.parser.proofs.parse_next_type.Reads as parse-next-type-reads
-use Rattle.parser.proofs.rows_lent.Reads as rows-lent-reads
+use Rattle.datatype.proofs.rows.rows_lent.Reads as rows-lent-reads
 use Rattle.tokenizer.proofs.is_utf8.Reads as is-utf8-reads
 
 clear-words-requires : tie.Need-clear-words-requires

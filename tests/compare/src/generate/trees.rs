@@ -16,6 +16,20 @@ pub struct Tree {
     pub words: Vec<u32>,
 }
 
+/// A tree of these rows, whose parents are set here.
+pub fn tree(text: &[u8], rows: &[Row]) -> Tree {
+    let parents = parents(rows);
+    let parented = rows.iter().zip(parents).map(|(row, parent)| Row {
+        parent: parent.unwrap_or(0) as u32,
+        ..*row
+    });
+    Tree {
+        text: text.to_vec(),
+        list: NAME_LIST.to_vec(),
+        words: to_words(&parented.collect::<Vec<_>>()),
+    }
+}
+
 /// What the text, and so the names and zones, are made of.
 #[derive(Clone, Copy, PartialEq, Eq)]
 pub enum Letters {
@@ -80,12 +94,7 @@ pub fn sound(random: &mut Random, letters: Letters, rows: usize) -> Tree {
         levels: MOST_LEVELS,
     };
     grower.grow(1, Row::default());
-    let words = to_words(&grower.rows);
-    Tree {
-        text: text.into_bytes(),
-        list: NAME_LIST.to_vec(),
-        words,
-    }
+    tree(text.as_bytes(), &grower.rows)
 }
 
 struct Grower<'a> {
@@ -326,11 +335,7 @@ pub fn of_length(random: &mut Random, length: usize) -> Tree {
         field(long - 12_000, 1),
     ];
     let rows = [&head, rows.as_slice()].concat();
-    let mut tree = Tree {
-        text,
-        list: NAME_LIST.to_vec(),
-        words: to_words(&rows),
-    };
+    let mut tree = tree(&text, &rows);
     // Each letter more in those two names is a byte more.
     let short = oracle::data_type(&tree.text, &tree.list, &tree.words);
     let missing = length.saturating_sub(short.to_string().len()) as u32;
@@ -365,11 +370,7 @@ pub fn of_levels(random: &mut Random, levels: usize) -> Tree {
             }
         })
         .collect();
-    Tree {
-        text: Vec::new(),
-        list: NAME_LIST.to_vec(),
-        words: to_words(&rows),
-    }
+    tree(&[], &rows)
 }
 
 /// A Struct or a tree of Structs with this many rows.
@@ -398,11 +399,7 @@ pub fn of_rows(random: &mut Random, count: usize) -> Tree {
         // Within a Struct of `inner` rows only leaves and smaller Structs that end with it.
         inner -= 1;
     }
-    Tree {
-        text: Vec::new(),
-        list: NAME_LIST.to_vec(),
-        words: to_words(&rows),
-    }
+    tree(&[], &rows)
 }
 
 /// Changes a few words to others, wild or near; often the tree is sound no more.
@@ -446,7 +443,7 @@ pub fn changed(random: &mut Random, tree: &Tree) -> Tree {
     match random.below(30) {
         0 => tree.words.truncate(random.below(tree.words.len())),
         1 => {
-            let more = random.between(1, 22);
+            let more = random.between(1, 2 * WORDS);
             let row = tree.words[..more.min(tree.words.len())].to_vec();
             tree.words.extend(row);
         }
@@ -487,7 +484,7 @@ pub fn broken(random: &mut Random, tree: &Tree) -> Option<(&'static str, Tree)> 
     let big = [3, 4, 1 << 16, u32::MAX][random.below(4)];
     let set =
         |tree: &mut Tree, row: usize, word: usize, to: u32| tree.words[row * WORDS + word] = to;
-    let clause = match random.below(42) {
+    let clause = match random.below(47) {
         0 => {
             tree.words
                 .truncate(tree.words.len() - random.between(1, WORDS - 1));
@@ -772,6 +769,7 @@ pub fn broken(random: &mut Random, tree: &Tree) -> Option<(&'static str, Tree)> 
                 tree.words[end..].copy_from_slice(
                     &Row {
                         rows: 1,
+                        parent: at as u32,
                         ..Row::default()
                     }
                     .to_words(),
@@ -808,6 +806,36 @@ pub fn broken(random: &mut Random, tree: &Tree) -> Option<(&'static str, Tree)> 
                 cut_last(&mut tree, end(at + 2));
             }
             "Map's entries of two"
+        }
+        41 => {
+            let up = [1, rows.len() as u32, u32::MAX][random.below(3)];
+            set(&mut tree, 0, 11, up);
+            "the root's parent 0"
+        }
+        42 => {
+            let at = find(random, &|at| parents[at].is_some())?;
+            let sibling = find(random, &|other| {
+                other != at && parents[other] == parents[at]
+            })?;
+            set(&mut tree, at, 11, sibling as u32);
+            "the parent no sibling"
+        }
+        43 => {
+            let at = find(random, &|at| at > 0 && parents[at] != Some(at - 1))?;
+            set(&mut tree, at, 11, at as u32 - 1);
+            "the parent not the row before"
+        }
+        44 => {
+            let above = |at: usize| parents[parents[at]?];
+            let at = find(random, &|at| above(at).is_some())?;
+            set(&mut tree, at, 11, above(at)? as u32);
+            "the parent not the parent's parent"
+        }
+        45 => {
+            let at = find(random, &|at| parents[at].is_some())?;
+            let up = [at, rows.len(), u32::MAX as usize][random.below(3)];
+            set(&mut tree, at, 11, up as u32);
+            "the parent a row before"
         }
         _ => {
             tree = of_rows(random, MOST_ROWS + 1);
@@ -857,6 +885,7 @@ fn add_last(tree: &mut Tree, up: usize) {
         role: 1,
         home: 2,
         name_length: 4,
+        parent: up as u32,
         ..Row::default()
     };
     tree.words.extend(child.to_words());

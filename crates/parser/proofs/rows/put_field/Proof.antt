@@ -7,6 +7,7 @@ use Rattle.parser.proofs.rows.put_field.Statement.{statement}
 use Rattle.parser.proofs.rows.put_field.Tie as tie
 use Rattle.parser.proofs.rows.put_field.Reads as reads
 use Rattle.parser.proofs.rows.put_field.Lts as lts
+use Rattle.datatype.specs.Table.{rowWords}
 
 mul-i : tie.Need-mul-i
 mul-i c = search needs
@@ -60,7 +61,7 @@ same-length : tie.Need-same-length
 same-length c = simp length-set
 
 returns : tie.Need-returns
-returns c = sets-field (c .args .rows .now) (11 * c .args .row) _ _ _ _ _
+returns c = sets-field (c .args .rows .now) (rowWords * c .args .row) _ _ _ _ _
 
 pub put-field-spec : {M : Type 1} → statement M
 put-field-spec =

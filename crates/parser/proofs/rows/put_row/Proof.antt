@@ -7,6 +7,7 @@ use Rattle.parser.proofs.rows.put_row.Statement.{statement}
 use Rattle.parser.proofs.rows.put_row.Tie as tie
 use Rattle.parser.proofs.rows.put_row.Reads as reads
 use Rattle.parser.proofs.rows.put_row.Lts as lts
+use Rattle.datatype.specs.Table.{rowWords}
 
 mul-i : tie.Need-mul-i
 mul-i c = search needs
@@ -107,11 +108,20 @@ mul-rows-11 c = search needs
 slice-write-rows-11 : tie.Need-slice-write-rows-11
 slice-write-rows-11 c = simp length-set (omega arith)
 
+add-rows-11 : tie.Need-add-rows-11
+add-rows-11 c = search needs
+
+mul-rows-12 : tie.Need-mul-rows-12
+mul-rows-12 c = search needs
+
+slice-write-rows-12 : tie.Need-slice-write-rows-12
+slice-write-rows-12 c = simp length-set (omega arith)
+
 same-length : tie.Need-same-length
 same-length c = simp length-set
 
 returns : tie.Need-returns
-returns c = sets-row (c .args .rows .now) (11 * c .args .row) _ _ _ _ _ _
+returns c = sets-row (c .args .rows .now) (rowWords * c .args .row) _ _ _ _ _ _
 
 pub put-row-spec : {M : Type 1} → statement M
 put-row-spec =
@@ -150,5 +160,8 @@ put-row-spec =
     add-rows-10
     mul-rows-11
     slice-write-rows-11
+    add-rows-11
+    mul-rows-12
+    slice-write-rows-12
     same-length
     returns)

@@ -6,6 +6,7 @@ use Rattle.parser.proofs.rows.word.Statement.{statement}
 use Rattle.parser.proofs.rows.word.Tie as tie
 use Rattle.parser.proofs.rows.word.Reads as reads
 use Rattle.parser.proofs.rows.word.Lts as lts
+use Rattle.datatype.specs.Table.{rowWords}
 
 mul-result : tie.Need-mul-result
 mul-result c = search needs
@@ -20,10 +21,10 @@ shared-slice-read-result : tie.Need-shared-slice-read-result
 shared-slice-read-result c = search needs
 
 cast-result : tie.Need-cast-result
-cast-result c = omega (arith, c .shared-slice-known .given (11 * c .before .args .row + c .before .args .k))
+cast-result c = omega (arith, c .shared-slice-known .given (rowWords * c .before .args .row + c .before .args .k))
 
 returns : tie.Need-returns
-returns c = (refl, omega (arith, c .shared-slice-known .given (11 * c .before .args .row + c .before .args .k)))
+returns c = (refl, omega (arith, c .shared-slice-known .given (rowWords * c .before .args .row + c .before .args .k)))
 
 pub word-spec : {M : Type 1} → statement M
 word-spec =

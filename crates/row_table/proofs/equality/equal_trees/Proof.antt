@@ -5,11 +5,12 @@ use lib.ListN.{length, drop}
 use Rattle.row_table.specs.Equal.{firstRows, equalRows, equalTrees}
 use Rattle.row_table.proofs.EqualLaws.{trees-long, trees-start, trees-differ, trees-go, trees-end}
 use borrow.Author.Needs.{needs}
+use Rattle.datatype.specs.Table.{rowWords}
 use Rattle.row_table.proofs.equality.equal_trees.Statement.{statement}
 use Rattle.row_table.proofs.equality.equal_trees.Tie as tie
 
 abbrev Inv-loop : tie.InvT-loop
-Inv-loop text names rows text2 names2 rows2 n i₀ i = equalTrees text names text2 names2 rows rows2 ≡ equalRows text names text2 names2 (firstRows (length rows / 11 - i) (drop (11 * i) rows)) (firstRows (length rows / 11 - i) (drop (11 * i) rows2))
+Inv-loop text names rows text2 names2 rows2 n i₀ i = equalTrees text names text2 names2 rows rows2 ≡ equalRows text names text2 names2 (firstRows (length rows / rowWords - i) (drop (rowWords * i) rows)) (firstRows (length rows / rowWords - i) (drop (rowWords * i) rows2))
 
 abbrev μ-loop : tie.MeasureT-loop
 μ-loop text names rows text2 names2 rows2 n i₀ i = n - i

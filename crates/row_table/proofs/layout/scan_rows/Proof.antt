@@ -7,11 +7,12 @@ use Rattle.row_table.specs.Layout.{anything}
 use Rattle.row_table.specs.Scan.{askedOf, scan}
 use Rattle.row_table.proofs.LayoutLaws.{scan-start, scan-end, scan-breaks, scan-go}
 use borrow.Author.Needs.{needs}
+use Rattle.datatype.specs.Table.{rowWords}
 use Rattle.row_table.proofs.layout.scan_rows.Statement.{statement}
 use Rattle.row_table.proofs.layout.scan_rows.Tie as tie
 
 abbrev Inv-loop : tie.InvT-loop
-Inv-loop rows n asked₀ i₀ asked i = scan anything 0 (wholeRows rows) ≡ scan (askedOf asked) i (firstRows (length rows / 11 - i) (drop (11 * i) rows))
+Inv-loop rows n asked₀ i₀ asked i = scan anything 0 (wholeRows rows) ≡ scan (askedOf asked) i (firstRows (length rows / rowWords - i) (drop (rowWords * i) rows))
 
 abbrev μ-loop : tie.MeasureT-loop
 μ-loop rows n asked₀ i₀ asked i = n - i
