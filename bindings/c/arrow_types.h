@@ -133,10 +133,18 @@ enum arrow_types_kind {
  * 1 to 16: the text is refused; *count is 0, and all rows_length words are 0.
  *
  * Fewer rows than 1,024 may be lent; where they run out the text is refused with 4. Words that make no whole row are
- * not used.
+ * not used. arrow_types_rows_to_lend says how many are enough.
  */
 uint32_t arrow_types_read(const uint8_t *text, size_t text_length,
                           uint32_t *rows, size_t rows_length, size_t *count);
+
+/*
+ * How many rows to lend for a text of so many bytes: (text_length + 1) / 5, and 1,024 at the most.
+ *
+ * A text that is read with 1,024 rows is read with these too, and fills the same rows. One that is refused with 1,024
+ * is refused with these too, with the same number or with 4: where its own number matters, lend 1,024 rows once more.
+ */
+size_t arrow_types_rows_to_lend(size_t text_length);
 
 /*
  * Prints a tree into a lent buffer.

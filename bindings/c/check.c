@@ -97,9 +97,39 @@ static uint32_t read_leaves(unsigned leaves, size_t *count)
     return arrow_types_read((const uint8_t *)text, length, a.rows, WORDS_OF_ELEVEN, count);
 }
 
-static void lending(void)
+/* Whether a text is read with rows_to_lend rows, so many, as it is with 1,024, and the words behind are as they were. */
+static int lends(const char *text, size_t lent)
 {
     size_t count = 99;
+    size_t words = lent * ARROW_TYPES_ROW_WORDS;
+    uint32_t status = read_text(&a, text);
+    fill(b.rows, 7);
+    return arrow_types_rows_to_lend(a.length) == lent
+        && arrow_types_read(a.text, a.length, b.rows, words, &count) == 0
+        && status == 0 && count * ARROW_TYPES_ROW_WORDS == a.words
+        && memcmp(a.rows, b.rows, a.words * sizeof *a.rows) == 0
+        && all(b.rows + a.words, WORDS - a.words, 7);
+}
+
+static void lending(void)
+{
+    CHECK(lends("Int8", 1));
+    CHECK(lends("Struct()", 1));
+    CHECK(lends("List(List(Int8))", 3));
+    CHECK(lends("Map(\"e\": non-null Struct(\"k\": non-null Utf8, \"v\": Int8), sorted)", 13));
+
+    CHECK(arrow_types_rows_to_lend(0) == 0);
+    CHECK(arrow_types_rows_to_lend(3) == 0);
+    CHECK(arrow_types_rows_to_lend(5118) == 1023);
+    CHECK(arrow_types_rows_to_lend(5119) == ARROW_TYPES_MAX_ROWS);
+    CHECK(arrow_types_rows_to_lend(ARROW_TYPES_MAX_TEXT) == ARROW_TYPES_MAX_ROWS);
+    CHECK(arrow_types_rows_to_lend(SIZE_MAX) == ARROW_TYPES_MAX_ROWS);
+
+    size_t count = 99;
+    CHECK(arrow_types_read((const uint8_t *)"", 0, a.rows, 0, &count) == ARROW_TYPES_TOO_MANY_ROWS);
+    CHECK(count == 0);
+
+    /* A buffer that held 1,024 rows of eleven words. */
     CHECK(read_leaves(937, &count) == 0);
     CHECK(count == 938);
     CHECK(read_leaves(938, &count) == ARROW_TYPES_TOO_MANY_ROWS);

@@ -17,10 +17,21 @@ static int refused(const char *what, uint32_t number)
     return 1;
 }
 
+/* Reads a text into as many rows as its length asks for. One that these do not hold is refused in any case, and all
+ * rows give it its own number. */
+static uint32_t read_text(const uint8_t *text, size_t text_length, size_t *count)
+{
+    size_t lent = arrow_types_rows_to_lend(text_length) * ARROW_TYPES_ROW_WORDS;
+    uint32_t status = arrow_types_read(text, text_length, rows, lent, count);
+    if (status != ARROW_TYPES_TOO_MANY_ROWS)
+        return status;
+    return arrow_types_read(text, text_length, rows, sizeof rows / sizeof rows[0], count);
+}
+
 static int show(const uint8_t *text, size_t text_length)
 {
     size_t count, depth, length;
-    uint32_t status = arrow_types_read(text, text_length, rows, sizeof rows / sizeof rows[0], &count);
+    uint32_t status = read_text(text, text_length, &count);
     if (status != 0)
         return refused("read", status);
 

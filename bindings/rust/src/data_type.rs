@@ -7,7 +7,8 @@ use std::fmt;
 use std::str::FromStr;
 
 thread_local! {
-    /// Rows for every text, lent to each read. They are not cleared between reads: only what is filled is looked at.
+    /// Rows for every text, of which each read is lent as many as its text needs. They are not cleared between reads:
+    /// only what is filled is looked at.
     static ROWS: RefCell<Vec<u32>> = RefCell::new(vec![0; MAX_ROWS * ROW_WORDS]);
 
     /// Room for every text that is printed, lent to each print.
@@ -239,10 +240,15 @@ impl FromStr for DataType {
     }
 }
 
-/// The rows of a text.
+/// The rows of a text. Where those lent by its length run out it is refused in any case, and all rows give it its own
+/// number.
 fn read(text: &[u8]) -> Result<Vec<u32>, Error> {
     ROWS.with_borrow_mut(|rows| {
-        let count = ffi::read(text, rows)?;
+        let lent = ffi::rows_to_lend(text.len()) * ROW_WORDS;
+        let count = match ffi::read(text, &mut rows[..lent]) {
+            Err(Error::TooManyRows) => ffi::read(text, rows)?,
+            answer => answer?,
+        };
         Ok(rows[..count * ROW_WORDS].to_vec())
     })
 }

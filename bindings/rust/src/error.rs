@@ -24,7 +24,7 @@ pub enum Error {
     NotUtf8,
     /// A type would begin at level 65.
     TooDeep,
-    /// A type would begin where 1,024 rows are taken.
+    /// A type would begin where 1,024 rows, or all that [`read`](crate::read) is lent, are taken.
     TooManyRows,
     /// The text ends where a token is needed; also the empty text.
     TextEnds,

@@ -16,6 +16,8 @@ unsafe extern "C" {
         count: *mut usize,
     ) -> u32;
 
+    fn arrow_types_rows_to_lend(text_length: usize) -> usize;
+
     fn arrow_types_print(
         text: *const u8,
         text_length: usize,
@@ -95,7 +97,20 @@ pub struct Tree<'a> {
     pub rows: &'a [u32],
 }
 
-/// Reads a text into lent rows: how many are filled.
+/// Reads a text into lent rows, for a service that keeps its own: how many are filled.
+///
+/// Words that make no whole row are not used, and words behind the rows filled stay as they were. A refused text leaves
+/// all that is lent zeros; where the rows run out it is refused with [`Error::TooManyRows`]. [`rows_to_lend`] says how
+/// many are enough.
+///
+/// ```
+/// use arrow_types::{ROW_WORDS, read, rows_to_lend};
+///
+/// let text = b"List(List(Int8))";
+/// let mut rows = vec![0; rows_to_lend(text.len()) * ROW_WORDS];
+/// assert_eq!(read(text, &mut rows)?, 3);
+/// # Ok::<(), arrow_types::Error>(())
+/// ```
 pub fn read(text: &[u8], rows: &mut [u32]) -> Result<usize, Error> {
     let mut count = 0;
     // SAFETY: the pointers are those of slices and of a local, with the slices' lengths; all outlive the call. What is
@@ -110,6 +125,15 @@ pub fn read(text: &[u8], rows: &mut [u32]) -> Result<usize, Error> {
         )
     };
     answer(status, count)
+}
+
+/// How many rows to lend for a text of so many bytes: a fifth of one more than these, and 1,024 at the most.
+///
+/// A text that is read with 1,024 rows is read with these too, and fills the same rows. One that is refused with 1,024
+/// is refused with these too, with the same error or with [`Error::TooManyRows`].
+pub fn rows_to_lend(bytes: usize) -> usize {
+    // SAFETY: a number is passed and a number is answered.
+    unsafe { arrow_types_rows_to_lend(bytes) }
 }
 
 /// Prints a tree into a lent buffer: how many bytes are filled.

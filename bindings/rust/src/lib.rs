@@ -19,9 +19,9 @@
 //! # Ok::<(), Error>(())
 //! ```
 //!
-//! A text is read into [`MAX_ROWS`] rows of [`ROW_WORDS`] words that each thread keeps, 49,152 bytes, and the rows
-//! filled are copied out of them; so a [`DataType`] has two allocations, its text and its rows. Printing works likewise
-//! with 16,384 bytes.
+//! A text is read into rows that each thread keeps, 49,152 bytes, of which it is lent as many as its length asks for
+//! ([`rows_to_lend`]), and the rows filled are copied out of them; so a [`DataType`] has two allocations, its text and
+//! its rows. Printing works likewise with 16,384 bytes.
 
 #![deny(missing_docs, unsafe_code)]
 
@@ -35,6 +35,7 @@ mod rows;
 
 pub use data_type::{DataType, Verdict};
 pub use error::Error;
+pub use ffi::{read, rows_to_lend};
 pub use field::{Children, Field};
 pub use kind::{IntervalUnit, Kind, TimeUnit, UnionMode};
 pub use rows::{set_parents, widen_rows};

@@ -1,10 +1,10 @@
 //! The stored samples of crates/replay/data, given to this crate. Their answers came from arrow-schema 60.1.0 and from a
 //! second writing of the scope; tests/compare/README.md says how they were made, and has the format.
 //!
-//! This crate lends 1,024 rows and 16,384 bytes to every call and has one name list, so cases that lend less or have
-//! another list are held to what they imply, or left out; the counts say of how many.
+//! A type's text is read with all the rows that it needs and printed with 16,384 bytes, and there is one name list, so
+//! cases that lend less or have another list are held to what they imply, or left out; the counts say of how many.
 
-use arrow_types::{DataType, Error, Field, MAX_ROWS, ROW_WORDS, Verdict};
+use arrow_types::{DataType, Error, Field, MAX_ROWS, ROW_WORDS, Verdict, read, rows_to_lend};
 
 const NAME_LIST: &[u8] = b"itemrun_endsvalues";
 
@@ -111,6 +111,7 @@ impl Text {
                 assert_eq!(read.rows(), self.words);
                 assert_eq!(read.text().as_bytes(), self.text);
                 reads_back(&read);
+                self.fits_rows_to_lend();
                 0
             }
             Err(error) => {
@@ -118,6 +119,20 @@ impl Text {
                 error.number() as usize
             }
         }
+    }
+
+    /// The text is read again with a row for every five bytes: the same rows, and the words behind them as they were.
+    fn fits_rows_to_lend(&self) {
+        let lent = rows_to_lend(self.text.len());
+        assert_eq!(lent, ((self.text.len() + 1) / 5).min(MAX_ROWS));
+        let mut rows = vec![7; lent * ROW_WORDS];
+        assert_eq!(
+            read(&self.text, &mut rows).map_err(Error::number),
+            self.answer
+        );
+        let (filled, rest) = rows.split_at(self.words.len());
+        assert_eq!(filled, self.words);
+        assert!(rest.iter().all(|word| *word == 7));
     }
 }
 

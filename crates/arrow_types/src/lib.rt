@@ -1,4 +1,4 @@
-// The functions that services call from Rust or C: on numbers and slices, most with a status, 0 or document 01's number.
+// The functions that services call from Rust or C, on numbers and slices. A status is 0 or document 01's number.
 ghost use mathlib.Core.Path.{_≡_};
 ghost use lib.ListN.{length};
 ghost use Rattle.arrow_types.specs.Status.{statusOf, valueOf, flag, yesOf, rowOf, ifNamed};
@@ -8,6 +8,7 @@ ghost use Rattle.row_table.specs.Sound.{isSound, depthOf};
 ghost use Rattle.row_table.specs.Equal.{equalTrees};
 ghost use Rattle.row_table.specs.Layout.{verdictOf};
 ghost use Rattle.datatype_parse.specs.Parse.{parseAnswer, parseRows};
+ghost use Rattle.datatype_parse.specs.RowsToLend.{rowsToLend};
 ghost use Rattle.datatype_display.specs.Print.{printAnswer, printBytes};
 use datatype_display::Printed;
 use datatype_parse::Parsed;
@@ -31,6 +32,14 @@ pub extern "C" fn arrow_types_read(text: &[u8], rows: &mut [u32], count: &mut us
             n
         }
     }
+}
+
+// How many rows to lend for a text of so many bytes.
+#[no_mangle]
+pub extern "C" fn arrow_types_rows_to_lend(bytes: usize) -> usize
+    ensures { λ r. ⌜ r ≡ rowsToLend bytes ⌝ }
+{
+    datatype_parse::rows_to_lend(bytes)
 }
 
 // Prints a tree into a lent buffer.

@@ -6,3 +6,7 @@ pub mod SoundLeaves
 pub mod SoundFields
 pub mod ReadSound
 pub mod Whole
+pub mod OwnRows
+pub mod Inside
+pub mod FiveBytes
+pub mod RowsToLend

@@ -1,4 +1,5 @@
--- Rows lent beyond those that a text needs change nothing: what is accepted stays accepted, with the same tree.
+-- Rows lent beyond those that a text needs change nothing: what is accepted stays accepted, with the same tree, and what
+-- is refused stays refused with the same number, but for 4.
 use mathlib.Core.Path.{_≡_, refl, sym, ap, _∙_, subst}
 use mathlib.Core.Bool.{Bool, true, false}
 use mathlib.Core.List.{List, _++_}
@@ -6,32 +7,33 @@ use Prim.Native.Nat.{ℕ, zero, suc, _*_, _-_, _≤_}
 use native.Mathlib.Omega.{arith}
 use lib.ListN.{length, take, drop}
 use lib.Seq.{take-append-seam}
-use lib.Dec.{T, leb, eqb}
+use lib.Dec.{leb, eqb}
 use Rattle.tokenizer.specs.Text.{if_then_else_}
 use Rattle.tokenizer.specs.Answer.{Refusal, Out, refused, done, refuse, _>>=_}
 use Rattle.tokenizer.specs.Utf8.{isUtf8}
 use Rattle.tokenizer.specs.Token.{valueOf, doubleQuoted, colon, comma, lparen, rparen, xWord, unionMode, typeWord}
-use Rattle.datatype.specs.Kind.{Shape, leaf, timestamp, time, interval, fixed, list, fixedList, struct, union, dictionary, decimal, mapping, runEnds, shapeOf, idsFit, entriesRefusal}
+use Rattle.datatype.specs.Kind.{Shape, leaf, timestamp, time, interval, fixed, list, fixedList, struct, union, dictionary, decimal, mapping, runEnds, shapeOf}
 use Rattle.datatype.specs.Tree.{Forest, Row, count}
 use Rattle.datatype.specs.Table.{rowWords, tableOf, rowsLent}
 use Rattle.datatype.proofs.Table.{length-table}
 use Rattle.parser.specs.Parse.{Name, Tree, Fields, Item, end, last, more, rowsIn, idOf, need, signedByteAt, lengthAt, afterRole, item, run-ends, values, fieldsFrom, itemsBy, stands, roleAt, fieldAt, defaultField, listField, structItem, unionField, unionItem, namedRunEnds, defaultRunEnds, runEndFields, entriesAt, fixedListField, listAt, fixedSizeListAt, structAt, unionAt, dictionaryAt, mapAt, runEndEncodedAt, shapeAt, typeWith, typeAt, firstType}
 use Rattle.datatype_parse.specs.Parse.{parse, rowCount, parseAnswer, filled, parseRows}
 
--- The second answer is the first one's, where that is no refusal.
+-- The second answer is the first one's, where that is no refusal for lack of rows.
 pub Keeps : {A : Type 0} → Out A → Out A → Type 0
-Keeps (refused r) p = T true
+Keeps (refused r) p = (r .number ≡ 4 → ⊥) → p ≡ refused r
 Keeps (done x) p = p ≡ done x
 
 module _ {A : Type 0} where
   pub keeps-same : (o : Out A) → Keeps o o
   unfolding Keeps
-  keeps-same (refused r) = tt
+  keeps-same (refused r) = λ n. refl
   keeps-same (done x) = refl
 
-  pub keeps-refused : (r : Refusal) (p : Out A) → Keeps (refused r) p
+  -- the rows ran out
+  pub keeps-four : (p : Out A) → Keeps (refuse 4) p
   unfolding Keeps
-  keeps-refused r p = tt
+  keeps-four p = λ n. absurd (n refl)
 
   pub keeps-if : (b : Bool) (o p o′ p′ : Out A) → Keeps o o′ → Keeps p p′ → Keeps (if b then o else p) (if b then o′ else p′)
   keeps-if true o p o′ p′ h k = h
@@ -40,7 +42,7 @@ module _ {A : Type 0} where
 module _ {A B : Type 0} where
   pub keeps-bind : (o p : Out A) (f g : A → Out B) → Keeps o p → ((a : A) → Keeps (f a) (g a)) → Keeps (o >>= f) (p >>= g)
   unfolding Keeps
-  keeps-bind (refused r) p f g h k = tt
+  keeps-bind (refused r) p f g h k = λ n. ap (λ (q : Out A). q >>= g) (h n)
   keeps-bind (done a) p f g h k = subst (λ (q : Out A). Keeps (f a) (q >>= g)) (sym h) (k a)
 
   -- A first step that does not look at the rows.
@@ -67,7 +69,7 @@ turn-up go go′ r s h (more t next) = keeps-bind _ _ _ _ (h next (rowsIn t)) (�
 module _ (item : ℕ → ℕ → Out Item) (up : (at r s : ℕ) → r ≤ s → Keeps (item at r) (item at s)) where
   pub items-up : (m n at r s : ℕ) → m ≤ n → r ≤ s → Keeps (itemsBy item m at r) (itemsBy item n at s)
   unfolding itemsBy
-  items-up zero n at r s h k = keeps-refused _ _
+  items-up zero n at r s h k = keeps-four _
   items-up (suc m) zero at r s h k = absurd (omega arith)
   items-up (suc m) (suc n) at r s h k =
       keeps-bind (item at r) (item at s) (fieldsFrom (itemsBy item m) r) (fieldsFrom (itemsBy item n) s) (up at r s k) (turn-up (itemsBy item m) (itemsBy item n) r s (λ next d. items-up m n next (r - d) (s - d) (omega arith) (omega arith)))
@@ -188,7 +190,7 @@ module _ (text : List ℕ) (type : ℕ → ℕ → Out Tree) (up : (at r s : ℕ
 
   pub with-up : (at r s : ℕ) → r ≤ s → Keeps (typeWith text type at r) (typeWith text type at s)
   unfolding typeWith
-  with-up at zero s h = keeps-refused _ _
+  with-up at zero s h = keeps-four _
   with-up at (suc r) zero h = absurd (omega arith)
   with-up at (suc r) (suc s) h = keeps-then (need text typeWord at) _ _ (λ t. shape-up (shapeOf (valueOf (t .kind))) (valueOf (t .kind)) (t .next) r s (fewer r s h))
 
@@ -196,7 +198,7 @@ module _ (text : List ℕ) (type : ℕ → ℕ → Out Tree) (up : (at r s : ℕ
 
 pub type-up : (text : List ℕ) (level at r s : ℕ) → r ≤ s → Keeps (typeAt text level at r) (typeAt text level at s)
 unfolding typeAt
-type-up text zero at r s h = keeps-refused _ _
+type-up text zero at r s h = keeps-same _
 type-up text (suc level) at r s h = with-up text (λ a k. typeAt text level a k) (type-up text level) at r s h
 
 pub first-up : (text : List ℕ) (r s : ℕ) → r ≤ s → Keeps (firstType text r) (firstType text s)
@@ -213,6 +215,13 @@ more-rows text r s tree h e = kept (parse text r) (parse text s) (parse-up text 
   where
     kept : (o p : Out (Forest Row)) → Keeps o p → o ≡ done tree → p ≡ done tree
     kept o p k q = unfold Keeps in (rw q at k)
+
+-- A text refused with some rows lent for another reason than the lack of rows is refused with more, for the same reason.
+pub same-refusal : (text : List ℕ) (r s : ℕ) (x : Refusal) → r ≤ s → (x .number ≡ 4 → ⊥) → parse text r ≡ refused x → parse text s ≡ refused x
+same-refusal text r s x h n e = kept (parse text r) (parse text s) (parse-up text r s h) e
+  where
+    kept : (o p : Out (Forest Row)) → Keeps o p → o ≡ refused x → p ≡ refused x
+    kept o p k q = unfold Keeps in ((rw q at k) n)
 
 -- ---- the public reader
 
@@ -233,9 +242,13 @@ module _ (before before′ : List ℕ) (n : ℕ) where
       let c : count f ≡ n = cc in
       (ap rowCount k ∙ e, ap (λ (q : Out (Forest Row)). take (rowWords * n) (filled before′ q)) k ∙ filled-rows n before′ f c ∙ sym (filled-rows n before f c))
 
+-- A text fills so many rows of another buffer too, with the same words.
+abbrev pub SameRows : List ℕ → List ℕ → List ℕ → ℕ → Type 0
+SameRows text before before′ n = (parseAnswer text before′ ≡ done n) × (take (rowWords * n) (parseRows text before′) ≡ take (rowWords * n) (parseRows text before))
+
 -- Lending more rows changes nothing of an accepted text: the answer and the rows are the same.
 pub more-lent : (text before before′ : List ℕ) (n : ℕ) → rowsLent (length before) ≤ rowsLent (length before′) → parseAnswer text before ≡ done n
-    → (parseAnswer text before′ ≡ done n) × (take (rowWords * n) (parseRows text before′) ≡ take (rowWords * n) (parseRows text before))
+    → SameRows text before before′ n
 unfolding parseAnswer parseRows
 more-lent text before before′ n h e = agrees before before′ n (parse text (rowsLent (length before))) (parse text (rowsLent (length before′))) (parse-up text (rowsLent (length before)) (rowsLent (length before′)) h) e
 
@@ -245,5 +258,16 @@ most-lent a b h = omega arith
 
 -- So a text accepted with fewer than 1,024 rows lent is accepted with 1,024, with the same rows.
 pub all-lent : (text before before′ : List ℕ) (n : ℕ) → length before′ ≡ rowWords * 1024 → parseAnswer text before ≡ done n
-    → (parseAnswer text before′ ≡ done n) × (take (rowWords * n) (parseRows text before′) ≡ take (rowWords * n) (parseRows text before))
+    → SameRows text before before′ n
 all-lent text before before′ n h e = more-lent text before before′ n (most-lent (length before) (length before′) h) e
+
+-- Lending more rows changes nothing of a refused text, but where the rows ran out.
+pub refused-lent : (text before before′ : List ℕ) (x : Refusal) → rowsLent (length before) ≤ rowsLent (length before′) → (x .number ≡ 4 → ⊥)
+    → parseAnswer text before ≡ refused x → parseAnswer text before′ ≡ refused x
+unfolding parseAnswer
+refused-lent text before before′ x h n e =
+    ap rowCount (same-refusal text (rowsLent (length before)) (rowsLent (length before′)) x h n (no-rows (parse text (rowsLent (length before))) e))
+  where
+    no-rows : (o : Out (Forest Row)) → rowCount o ≡ refused x → o ≡ refused x
+    no-rows (refused r) q = cc
+    no-rows (done f) q = absurd (let z : _≡_ {A = ℕ} 0 1 = cc in omega arith)

@@ -11,7 +11,7 @@ use lib.Seq.{drop-cons, take-add, getD-drop}
 use lib.Dec.{T, leb, ltb, eqb, leb→le, eqb→eq}
 use borrow.Author.Tests.{le-leb, ne-eqb, eqb-true}
 use Rattle.tokenizer.specs.Text.{if_then_else_}
-use Rattle.tokenizer.specs.Answer.{Out, done, refuse}
+use Rattle.tokenizer.specs.Answer.{Out, refused, done, refuse}
 use Rattle.tokenizer.specs.Utf8.{utf8State, isUtf8}
 use Rattle.tokenizer.specs.Words.{words}
 use Rattle.tokenizer.specs.Places.{afterSpaces}
@@ -33,6 +33,26 @@ use Rattle.parser.proofs.Holds.{Holds, holds-bind, holds-then, holds-if}
 pub holds-when : {A : Type 0} (P : A → Type 0) (b : Bool) (x y : Out A) → (T b → Holds P x) → Holds P y → Holds P (if b then x else y)
 holds-when P true x y p q = p tt
 holds-when P false x y p q = q
+
+-- a fact that follows from another
+pub holds-as : {A : Type 0} (Q P : A → Type 0) (o : Out A) → Holds Q o → ((a : A) → Q a → P a) → Holds P o
+holds-as Q P (refused r) q h = tt
+holds-as Q P (done a) q h = h a q
+
+-- ---- bounds
+
+-- a token that is taken has a byte at least, and lies inside the text
+abbrev pub Taken : List ℕ → ℕ → Token → Type 0
+Taken text at t = (at < t .next) × (t .next ≤ length text)
+
+pub need-taken : (text : List ℕ) (sort at : ℕ) → T (leb 1 sort) → Holds (Taken text at) (need text sort at)
+unfolding need
+need-taken text sort at l =
+    let t = tokenAt text at in
+    let b = Marks.bounds text at in
+    let s = leb→le 1 sort l in
+    holds-when (Taken text at) (eqb (sortOf (t .kind)) sort) (done t) (refuse (refusalOf (t .kind)))
+    (λ e. let k = eqb→eq (sortOf (t .kind)) sort e in (b .past (λ z. omega arith), b .inside (λ z. omega arith))) tt
 
 -- ---- values
 
@@ -124,7 +144,7 @@ isQuoted sort = eqb sort doubleQuoted || eqb sort singleQuoted
 
 word-unquoted : (c : ℕ) (w : List ℕ) → T (not (isQuoted (sortOf (wordKind (c ∷ w)))))
 unfolding words
-word-unquoted = Marks.word-holds (λ c k. not (isQuoted (sortOf k))) (λ c negative v h. tt) (λ c. tt) tt
+word-unquoted = Marks.word-holds (λ w k. not (isQuoted (sortOf k))) (λ w negative v h. tt) (λ w. tt) tt
 
 clash : (b : Bool) → T (not b) → T b → ⊥
 clash true n t = n

@@ -35,14 +35,14 @@ use Rattle.datatype_parse.specs.declared.Parsed.the-variants.{Rows, Refu
 -- ---- the end of the text
 
 -- a token that is no end of the text
-abbrev goesOn : ℕ → TokenKind → Bool
-goesOn c k = not (eqb (sortOf k) noToken && eqb (valueOf k) 5)
+abbrev goesOn : TokenKind → Bool
+goesOn k = not (eqb (sortOf k) noToken && eqb (valueOf k) 5)
 
-word-goes-on : (c : ℕ) (w : List ℕ) → T (goesOn c (wordKind (c ∷ w)))
+word-goes-on : (c : ℕ) (w : List ℕ) → T (goesOn (wordKind (c ∷ w)))
 unfolding words
-word-goes-on = Marks.word-holds goesOn (λ c negative v h. tt) (λ c. tt) tt
+word-goes-on = Marks.word-holds (λ w k. goesOn k) (λ w negative v h. tt) (λ w. tt) tt
 
-string-goes-on : (k : TokenKind) (p : ℕ) (o : Option ℕ) → T (goesOn 0 k) → T (goesOn 0 ((stringToken k p o) .kind))
+string-goes-on : (k : TokenKind) (p : ℕ) (o : Option ℕ) → T (goesOn k) → T (goesOn ((stringToken k p o) .kind))
 string-goes-on k p none h = tt
 string-goes-on k p (some zero) h = tt
 string-goes-on k p (some (suc n)) h = h
@@ -56,13 +56,13 @@ module _ (text : List ℕ) (at p : ℕ) (e : p ≡ afterSpaces text at) where
   unfolding textOver stands
   not-over h = sym (is-false (eqb (sortOf ((tokenAt text at) .kind)) noToken && eqb (valueOf ((tokenAt text at) .kind)) 5) (go (rw e at h)))
     where
-      go : afterSpaces text at < length text → T (goesOn 0 ((tokenAt text at) .kind))
+      go : afterSpaces text at < length text → T (goesOn ((tokenAt text at) .kind))
       go l =
           let q = afterSpaces text at in
-          Marks.by-cases text at (λ t. T (goesOn 0 (t .kind)))
+          Marks.by-cases text at (λ t. T (goesOn (t .kind)))
           (record {
             over = λ o. absurd (omega arith);
-            mark = λ m t i f. Marks.marks (λ (x : ℕ). T (goesOn 0 (Marks.markKind x))) tt tt tt tt m t;
+            mark = λ m t i f. Marks.marks (λ (x : ℕ). T (goesOn (Marks.markKind x))) tt tt tt tt m t;
             double = λ i f. string-goes-on DoubleQuotedString q (untilQuote 34 false (drop (q + 1) text)) tt;
             single = λ i f. string-goes-on SingleQuotedString q (untilQuote 39 false (drop (q + 1) text)) tt;
             word = λ i f. rw (Marks.word-first text q i f) (word-goes-on (getD text q 0) (wordOf (drop (suc q) text)));

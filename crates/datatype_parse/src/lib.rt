@@ -1,7 +1,9 @@
 // The type reader: a whole text becomes rows, or is refused.
 ghost use mathlib.Core.Path.{_≡_};
 ghost use Rattle.datatype_parse.specs.Parse.{textOver, parseAnswer, parseRows, parsedMeans};
+ghost use Rattle.datatype_parse.specs.RowsToLend.{rowsToLend};
 use datatype::clear_words;
+use datatype::rows::MAX_ROWS;
 use parser::Read;
 
 // The rows that a text has filled, or the refusal's number.
@@ -36,4 +38,18 @@ pub fn parse_data_type(text: &[u8], rows: &mut [u32]) -> Parsed
             Parsed::Refused(16)
         }
     }
+}
+
+// The fewest bytes that a row of an accepted text takes.
+const ROW_BYTES: usize = 5;
+
+// How many rows to lend for a text of so many bytes: with these it is accepted if it is accepted with more, and fills the
+// same rows.
+pub fn rows_to_lend(bytes: usize) -> usize
+    ensures { λ r. ⌜ r ≡ rowsToLend bytes ⌝ }
+{
+    if bytes / ROW_BYTES < MAX_ROWS {
+        return (bytes + 1) / ROW_BYTES;
+    }
+    MAX_ROWS
 }

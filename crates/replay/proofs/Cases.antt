@@ -12,9 +12,11 @@ use Rattle.tokenizer.specs.Text.{same}
 use Rattle.datatype.specs.Tree.{part}
 use Rattle.datatype.specs.Table.{rowWords}
 use Rattle.datatype_parse.specs.Parse.{parseAnswer, parseRows}
+use Rattle.datatype_parse.specs.RowsToLend.{rowsToLend}
+use Rattle.datatype_parse.proofs.RowsToLend.{most-to-lend}
 use Rattle.arrow_types.specs.Status.{statusOf, valueOf}
 use Rattle.replay.specs.Sample.{numberAt, numbersAt, afterNumbers, afterPart, counted}
-use Rattle.replay.specs.ReadCase.{readCaseAt, restOf, unread, leftWords, afterCase, gives, oneCase, readOne, readMore, readAll}
+use Rattle.replay.specs.ReadCase.{readCaseAt, restOf, unread, wordsLent, leftWords, afterCase, gives, oneCase, readOne, readMore, readAll}
 use Rattle.replay.specs.declared.Number.{Number}
 use Rattle.replay.specs.declared.ReadCase.{ReadCase}
 use Rattle.replay.specs.declared.Tally.{Tally}
@@ -27,6 +29,25 @@ pub case-made :
     → record { lent = lent .value; at = size .next; size = size .value; status = status .value; value = value .value; next = value .next } ≡ readCaseAt sample at
 unfolding readCaseAt
 case-made sample at place lent size status value a b p c d = rw (d, c, p, b, a) refl
+
+-- ---- how many words a case is lent
+
+pub refused-words : (again : Bool) (case : ReadCase) → (case .status ≡ 0 → ⊥) → case .lent ≡ wordsLent again case
+unfolding wordsLent
+refused-words true case h = rw (ne-eqb (case .status) 0 h) refl
+refused-words false case h = refl
+
+pub first-words : (again : Bool) (case : ReadCase) → again ≡ false → case .lent ≡ wordsLent again case
+unfolding wordsLent
+first-words again case h = rw h refl
+
+module _ (case : ReadCase) (rows : ℕ) (e : rows ≡ rowsToLend (case .size)) where
+  pub few-rows : rows ≤ 1024
+  few-rows = let m = most-to-lend (case .size) in omega arith
+
+  pub again-words : (again : Bool) → again ≡ true → case .status ≡ 0 → rowWords * rows ≡ wordsLent again case
+  unfolding wordsLent
+  again-words again h s = rw (h, eq-eqb (case .status) 0 s, e) refl
 
 -- ---- the words that a reader is to leave
 
@@ -99,41 +120,41 @@ module _ (sample : List ℕ) (t : Tally) (case : ReadCase) (text rows left left2
   unfolding oneCase
   one-case next alike r a b c d e = rw (sym a, sym b, sym c, sym d) e
 
-module _ (sample : List ℕ) (t r : Tally) (case : ReadCase) (rows left : List ℕ) (lent most : ℕ)
-    (em : most ≡ min (length rows) (length left)) (el : lent ≡ min (case .lent) most) where
+module _ (sample : List ℕ) (again : Bool) (t r : Tally) (case : ReadCase) (rows left : List ℕ) (words lent most : ℕ)
+    (em : most ≡ min (length rows) (length left)) (ew : words ≡ wordsLent again case) (el : lent ≡ min words most) where
   pub rows-front : lent ≡ length (take lent rows)
   rows-front = sym (length-take-le lent rows (omega arith))
 
   pub left-front : lent ≡ length (take lent left)
   left-front = sym (length-take-le lent left (omega arith))
 
-  pub one-read : case ≡ readCaseAt sample (t .next) → r ≡ oneCase sample t case (length (take lent rows)) (length (take lent left)) → r ≡ readOne sample (min (length rows) (length left)) t
+  pub one-read : case ≡ readCaseAt sample (t .next) → r ≡ oneCase sample t case (length (take lent rows)) (length (take lent left)) → r ≡ readOne sample again (min (length rows) (length left)) t
   unfolding readOne
-  one-read c h = h ∙ rw (sym rows-front, sym left-front, sym c, sym em, el) refl
+  one-read c h = h ∙ rw (sym rows-front, sym left-front, sym c, sym em, sym ew, el) refl
 
 -- the buffers keep their lengths, and the cases that are left complete the tally
-pub record Turn (sample rows₀ left₀ rows left : List ℕ) (n : ℕ) (t : Tally) : Type 0 where
+pub record Turn (sample : List ℕ) (again : Bool) (rows₀ left₀ rows left : List ℕ) (n : ℕ) (t : Tally) : Type 0 where
   pub rows-long : length rows ≡ length rows₀
   pub left-long : length left ≡ length left₀
-  pub rest : readMore sample (min (length rows₀) (length left₀)) n t ≡ readAll sample (min (length rows₀) (length left₀))
+  pub rest : readMore sample again (min (length rows₀) (length left₀)) n t ≡ readAll sample again (min (length rows₀) (length left₀))
 
-module _ (sample rows₀ left₀ : List ℕ) where
-  pub turn-first : (n : Number) → n ≡ numberAt sample 0 → Turn sample rows₀ left₀ rows₀ left₀ (n .value) (record { all = 0; alike = 0; first = 0; next = n .next })
+module _ (sample : List ℕ) (again : Bool) (rows₀ left₀ : List ℕ) where
+  pub turn-first : (n : Number) → n ≡ numberAt sample 0 → Turn sample again rows₀ left₀ rows₀ left₀ (n .value) (record { all = 0; alike = 0; first = 0; next = n .next })
   unfolding readAll
   turn-first n e = record { rows-long = refl; left-long = refl; rest = rw e refl }
 
-  more : (most n : ℕ) (t w : Tally) → 0 < n → readMore sample most n t ≡ w → readMore sample most (n - 1) (readOne sample most t) ≡ w
+  more : (most n : ℕ) (t w : Tally) → 0 < n → readMore sample again most n t ≡ w → readMore sample again most (n - 1) (readOne sample again most t) ≡ w
   unfolding readMore
   more most zero t w h i = absurd (omega arith)
   more most (suc n) t w h i =
       let e : suc n - 1 ≡ n = omega arith in
       rw e i
 
-  module _ (rows left : List ℕ) (n : ℕ) (t : Tally) (i : Turn sample rows₀ left₀ rows left n t) where
+  module _ (rows left : List ℕ) (n : ℕ) (t : Tally) (i : Turn sample again rows₀ left₀ rows left n t) where
     pub turn-next :
         (rows2 left2 : List ℕ) (r : Tally) → 0 < n
-        → r ≡ readOne sample (min (length rows) (length left)) t
-        → length rows2 ≡ length rows → length left2 ≡ length left → Turn sample rows₀ left₀ rows2 left2 (n - 1) r
+        → r ≡ readOne sample again (min (length rows) (length left)) t
+        → length rows2 ≡ length rows → length left2 ≡ length left → Turn sample again rows₀ left₀ rows2 left2 (n - 1) r
     turn-next rows2 left2 r h e a b =
         let m : min (length rows) (length left) ≡ min (length rows₀) (length left₀) = ap (λ (k : ℕ). min k (length left)) (i .rows-long) ∙ ap (min (length rows₀)) (i .left-long) in
         record {
@@ -142,7 +163,7 @@ module _ (sample rows₀ left₀ : List ℕ) where
           rest = rw (e, m) (more _ n t _ h (i .rest));
         }
 
-    pub turn-last : n ≤ 0 → t ≡ readAll sample (min (length rows₀) (length left₀))
+    pub turn-last : n ≤ 0 → t ≡ readAll sample again (min (length rows₀) (length left₀))
     unfolding readMore
     turn-last h =
         let z : n ≡ 0 = omega arith in

@@ -10,6 +10,7 @@ use Rattle.tokenizer.specs.Text.{if_then_else_, same}
 use Rattle.datatype.specs.Tree.{part}
 use Rattle.datatype.specs.Table.{rowWords}
 use Rattle.datatype_parse.specs.Parse.{parseAnswer, parseRows}
+use Rattle.datatype_parse.specs.RowsToLend.{rowsToLend}
 use Rattle.arrow_types.specs.Status.{statusOf, valueOf}
 use Rattle.replay.specs.Sample.{numberAt, numbersAt, afterNumbers, afterPart, counted}
 use Rattle.replay.specs.declared.Number.{Number}
@@ -27,6 +28,10 @@ readCaseAt sample at =
     let status = numberAt sample (afterPart sample (size .next) (size .value)) in
     let value = numberAt sample (status .next) in
     record { lent = lent .value; at = size .next; size = size .value; status = status .value; value = value .value; next = value .next }
+
+-- How many words a case is lent: those stored with it, or, read again where it is accepted, those of its rows to lend.
+unfoldable pub wordsLent : Bool → ReadCase → ℕ
+wordsLent again case = if again && eqb (case .status) 0 then rowWords * rowsToLend (case .size) else case .lent
 
 -- What the words behind the rows are to hold.
 abbrev pub restOf : ℕ → ℕ
@@ -52,17 +57,18 @@ unfoldable pub oneCase : List ℕ → Tally → ReadCase → ℕ → ℕ → Tal
 oneCase sample t case lent left =
     counted t (gives (part sample (case .at) (case .size)) lent (case .status) (case .value) (leftWords sample case left)) (afterCase sample case left)
 
--- The tally with the case that stands behind it, which is lent no more than so many words.
-unfoldable pub readOne : List ℕ → ℕ → Tally → Tally
-readOne sample most t =
+-- The tally with the case that stands behind it, read for the first time or again, which is lent no more than so many
+-- words.
+unfoldable pub readOne : List ℕ → Bool → ℕ → Tally → Tally
+readOne sample again most t =
     let case = readCaseAt sample (t .next) in
-    let lent = min (case .lent) most in
+    let lent = min (wordsLent again case) most in
     oneCase sample t case lent lent
 
-unfoldable pub readMore : List ℕ → ℕ → ℕ → Tally → Tally
-readMore sample most zero t = t
-readMore sample most (suc n) t = readMore sample most n (readOne sample most t)
+unfoldable pub readMore : List ℕ → Bool → ℕ → ℕ → Tally → Tally
+readMore sample again most zero t = t
+readMore sample again most (suc n) t = readMore sample again most n (readOne sample again most t)
 
 -- The tally of a whole sample.
-unfoldable pub readAll : List ℕ → ℕ → Tally
-readAll sample most = readMore sample most ((numberAt sample 0) .value) (record { all = 0; alike = 0; first = 0; next = (numberAt sample 0) .next })
+unfoldable pub readAll : List ℕ → Bool → ℕ → Tally
+readAll sample again most = readMore sample again most ((numberAt sample 0) .value) (record { all = 0; alike = 0; first = 0; next = (numberAt sample 0) .next })

@@ -100,8 +100,14 @@ fn load(path: &[u8], sample: &mut [u8]) -> usize
 fn replay_texts(sample: &[u8]) {
     let mut rows = [0u32; MOST_WORDS];
     let mut left = [0u32; MOST_WORDS];
-    let t = texts::read_all(sample, &mut rows, &mut left);
+    let t = texts::read_all(sample, false, &mut rows, &mut left);
     counts::print(b" texts, ", t, sample.len());
+    let again = texts::read_all(sample, true, &mut rows, &mut left);
+    counts::print(
+        b" texts again, accepted ones with rows to lend, ",
+        again,
+        sample.len(),
+    );
 }
 
 fn replay_tables(sample: &[u8]) {

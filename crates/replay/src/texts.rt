@@ -2,7 +2,7 @@
 ghost use mathlib.Core.Path.{_≡_};
 ghost use Prim.Native.Nat.{min};
 ghost use lib.ListN.{length};
-ghost use Rattle.replay.specs.ReadCase.{readCaseAt, restOf, leftWords, afterCase, oneCase, readOne, readAll};
+ghost use Rattle.replay.specs.ReadCase.{readCaseAt, wordsLent, restOf, leftWords, afterCase, oneCase, readOne, readAll};
 ghost use Rattle.replay.specs.ReadCase.{gives as givesOf};
 use crate::ReadCase;
 use crate::Tally;
@@ -31,6 +31,19 @@ fn case_at(sample: &[u8], at: usize) -> ReadCase
         value: value.value,
         next: value.next,
     }
+}
+
+// How many words a case is lent: those stored with it, or, read again where it is accepted, those of its rows to lend.
+fn words_lent(case: ReadCase, again: bool) -> usize
+    ensures { λ r. ⌜ r ≡ wordsLent again case ⌝ }
+{
+    if case.status != 0 {
+        return case.lent as usize;
+    }
+    if again {
+        return ROW_WORDS * arrow_types::arrow_types_rows_to_lend(case.size as usize);
+    }
+    case.lent as usize
 }
 
 // What the words behind the rows are to hold.
@@ -79,18 +92,18 @@ fn one_case(sample: &[u8], t: Tally, case: ReadCase, rows: &mut [u32], left: &mu
 }
 
 // The tally with the case that stands behind it.
-fn read_one(sample: &[u8], t: Tally, rows: &mut [u32], left: &mut [u32]) -> Tally
-    ensures { λ r. ⌜ r ≡ readOne (now (sample .entry)) (min (length (now (rows .entry))) (length (now (left .entry)))) t ⌝ }
+fn read_one(sample: &[u8], again: bool, t: Tally, rows: &mut [u32], left: &mut [u32]) -> Tally
+    ensures { λ r. ⌜ r ≡ readOne (now (sample .entry)) again (min (length (now (rows .entry))) (length (now (left .entry)))) t ⌝ }
 {
     let case = case_at(sample, t.next);
     let most = least(rows.len(), left.len());
-    let lent = least(case.lent as usize, most);
+    let lent = least(words_lent(case, again), most);
     one_case(sample, t, case, &mut rows[..lent], &mut left[..lent])
 }
 
 // The tally of a whole sample.
-pub(crate) fn read_all(sample: &[u8], rows: &mut [u32], left: &mut [u32]) -> Tally
-    ensures { λ r. ⌜ r ≡ readAll (now (sample .entry)) (min (length (now (rows .entry))) (length (now (left .entry)))) ⌝ }
+pub(crate) fn read_all(sample: &[u8], again: bool, rows: &mut [u32], left: &mut [u32]) -> Tally
+    ensures { λ r. ⌜ r ≡ readAll (now (sample .entry)) again (min (length (now (rows .entry))) (length (now (left .entry)))) ⌝ }
 {
     let n = number_at(sample, 0);
     let mut t = Tally {
@@ -101,7 +114,7 @@ pub(crate) fn read_all(sample: &[u8], rows: &mut [u32], left: &mut [u32]) -> Tal
     };
     let mut cases = n.value;
     while 0 < cases {
-        t = read_one(sample, t, rows, left);
+        t = read_one(sample, again, t, rows, left);
         cases -= 1;
     }
     t

@@ -102,22 +102,22 @@ module _ (text : List ℕ) (at : ℕ) (h : afterSpaces text at < length text) wh
 
 -- ---- what holds of every word's token
 
--- a test passes for the first byte and the token of each word of a list
-abbrev pub allListed : (ℕ → TokenKind → Bool) → List Listed → Bool
+-- a test passes for each word of a list and its token
+abbrev pub allListed : (List ℕ → TokenKind → Bool) → List Listed → Bool
 allListed q [] = true
-allListed q (l ∷ ls) = q (getD (l .word) 0 0) (l .kind) && allListed q ls
+allListed q (l ∷ ls) = q (l .word) (l .kind) && allListed q ls
 
-module _ (q : ℕ → TokenKind → Bool) where
-  find-holds : (w : List ℕ) (ls : List Listed) → T (allListed q ls) → T (q (getD w 0 0) (Refused 8)) → T (q (getD w 0 0) ((find w ls) .kind))
+module _ (q : List ℕ → TokenKind → Bool) where
+  find-holds : (w : List ℕ) (ls : List Listed) → T (allListed q ls) → T (q w (Refused 8)) → T (q w ((find w ls) .kind))
   find-holds w [] t r = r
   find-holds w (l ∷ ls) t r =
-      choice (λ (x : Listed). T (q (getD w 0 0) (x .kind))) (same w (l .word)) l (find w ls)
-      (λ e. subst (λ (v : List ℕ). T (q (getD v 0 0) (l .kind))) (sym (same-path w (l .word) (of-true (same w (l .word)) e)))
-      (and-l (q (getD (l .word) 0 0) (l .kind)) (allListed q ls) t))
-      (λ e. find-holds w ls (and-r (q (getD (l .word) 0 0) (l .kind)) (allListed q ls) t) r)
+      choice (λ (x : Listed). T (q w (x .kind))) (same w (l .word)) l (find w ls)
+      (λ e. subst (λ (v : List ℕ). T (q v (l .kind))) (sym (same-path w (l .word) (of-true (same w (l .word)) e)))
+      (and-l (q (l .word) (l .kind)) (allListed q ls) t))
+      (λ e. find-holds w ls (and-r (q (l .word) (l .kind)) (allListed q ls) t) r)
 
-  module _ (number : (c : ℕ) (negative : Bool) (v : ℕ) → v ≤ 9223372036854775808 → T (q c (Integer negative v)))
-      (none : (c : ℕ) → T (q c (Refused 8))) (listed : T (allListed q words)) where
+  module _ (number : (w : List ℕ) (negative : Bool) (v : ℕ) → v ≤ 9223372036854775808 → T (q w (Integer negative v)))
+      (none : (w : List ℕ) → T (q w (Refused 8))) (listed : T (allListed q words)) where
     most : (negative : Bool) (digits : List ℕ) → isNumber negative digits ≡ true → numberFrom 0 digits ≤ 9223372036854775808
     most negative [] e = absurd (let z : _≡_ {A = ℕ} 0 1 = ap (λ (b : Bool). if b then 1 else 0) e in omega arith)
     most negative (d ∷ ds) e =
@@ -126,20 +126,20 @@ module _ (q : ℕ → TokenKind → Bool) where
         (and-r (all isDigit (d ∷ ds)) (leb (numberFrom 0 (d ∷ ds)) (limit negative)) (of-true (isNumber negative (d ∷ ds)) e)) in
         omega arith
 
-    number-holds : (c : ℕ) (negative : Bool) (digits : List ℕ) → T (q c (numberKind negative digits))
-    number-holds c negative digits =
-        choice (λ (k : TokenKind). T (q c k)) (isNumber negative digits) (Integer negative (numberFrom 0 digits)) (Refused 8)
-        (λ e. number c negative (numberFrom 0 digits) (most negative digits e))
-        (λ e. none c)
+    number-holds : (w : List ℕ) (negative : Bool) (digits : List ℕ) → T (q w (numberKind negative digits))
+    number-holds w negative digits =
+        choice (λ (k : TokenKind). T (q w k)) (isNumber negative digits) (Integer negative (numberFrom 0 digits)) (Refused 8)
+        (λ e. number w negative (numberFrom 0 digits) (most negative digits e))
+        (λ e. none w)
 
-    pub word-holds : (c : ℕ) (w : List ℕ) → T (q c (wordKind (c ∷ w)))
+    pub word-holds : (c : ℕ) (w : List ℕ) → T (q (c ∷ w) (wordKind (c ∷ w)))
     unfolding wordKind
     word-holds c w =
-        choice (λ (k : TokenKind). T (q c k)) (eqb c 45) (numberKind true w) (if isDigit c then numberKind false (c ∷ w) else ((find (c ∷ w) words) .kind))
-        (λ e. number-holds c true w)
-        (λ e. choice (λ (k : TokenKind). T (q c k)) (isDigit c) (numberKind false (c ∷ w)) ((find (c ∷ w) words) .kind)
-        (λ f. number-holds c false (c ∷ w))
-        (λ f. find-holds (c ∷ w) words listed (none c)))
+        choice (λ (k : TokenKind). T (q (c ∷ w) k)) (eqb c 45) (numberKind true w) (if isDigit c then numberKind false (c ∷ w) else ((find (c ∷ w) words) .kind))
+        (λ e. number-holds (c ∷ w) true w)
+        (λ e. choice (λ (k : TokenKind). T (q (c ∷ w) k)) (isDigit c) (numberKind false (c ∷ w)) ((find (c ∷ w) words) .kind)
+        (λ f. number-holds (c ∷ w) false (c ∷ w))
+        (λ f. find-holds (c ∷ w) words listed (none (c ∷ w))))
 
 -- the word at a place begins with the byte there
 pub word-first : (text : List ℕ) (p : ℕ) → p < length text → isSeparator (getD text p 0) ≡ false
@@ -169,7 +169,7 @@ string-starts k c p (some (suc n)) t = t
 
 word-starts : (c : ℕ) (w : List ℕ) → T (starts (sortOf (wordKind (c ∷ w))) c)
 unfolding words
-word-starts = word-holds (λ c k. starts (sortOf k) c) (λ c negative v h. tt) (λ c. tt) tt
+word-starts = word-holds (λ w k. starts (sortOf k) (getD w 0 0)) (λ w negative v h. tt) (λ w. tt) tt
 
 mark-starts : (m : ℕ) → T (isMark m) → T (starts (sortOf (markKind m)) m)
 mark-starts = marks (λ (m : ℕ). T (starts (sortOf (markKind m)) m)) tt tt tt tt
@@ -330,8 +330,8 @@ string-values k p (some (suc n)) t = t
 word-values : (c : ℕ) (w : List ℕ) → T (inRange (sortOf (wordKind (c ∷ w))) (valueOf (wordKind (c ∷ w))))
 unfolding words
 word-values =
-    word-holds (λ c k. inRange (sortOf k) (valueOf k))
-    (λ c negative v h. of-true (leb v 9223372036854775808) (le-leb v 9223372036854775808 h)) (λ c. tt) tt
+    word-holds (λ w k. inRange (sortOf k) (valueOf k))
+    (λ w negative v h. of-true (leb v 9223372036854775808) (le-leb v 9223372036854775808 h)) (λ w. tt) tt
 
 module _ (text : List ℕ) (at : ℕ) where
   pub values : T (inRange (sortOf ((tokenAt text at) .kind)) (valueOf ((tokenAt text at) .kind)))

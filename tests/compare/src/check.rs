@@ -231,8 +231,8 @@ impl<'s> Check<'s> {
         equal
     }
 
-    /// The port's reader: the model's answer with 1,024 rows and with a random part of them, and the
-    /// buffer as document 01 has it.
+    /// The port's reader: the model's answer with 1,024 rows, with a random part of them and with a row for
+    /// every five bytes, and the buffer as document 01 has it.
     fn subject_reads(&mut self, text: &[u8], read: &Result<Vec<Row>, u32>, rust: Option<&Answer>) {
         let Some(subject) = self.subject else {
             return;
@@ -240,8 +240,12 @@ impl<'s> Check<'s> {
         let rows = read.as_ref().map_or(8, Vec::len);
         let few = self.random.below((rows + 2) * WORDS);
         let much = MOST_ROWS * WORDS + self.random.below(3 * WORDS);
-        for words in [MOST_ROWS * WORDS, few, much] {
+        let enough = (text.len() + 1) / 5 * WORDS;
+        for words in [MOST_ROWS * WORDS, few, much, enough] {
             let expected = model::read(text, Limits::lent(words / WORDS));
+            if words == enough && read.is_ok() && expected != *read {
+                self.differ_text(text, "not read alike with a row for every five bytes");
+            }
             let mut buffer = vec![WORD_BEFORE; words];
             let answer = subject.read(text, &mut buffer);
             let (count, filled) = match &expected {

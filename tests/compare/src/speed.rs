@@ -24,13 +24,13 @@ fn read() {
     println!(
         "nanoseconds for one text: the fastest of {ROUNDS} rounds. The port is lent 1,024 rows,"
     );
-    println!("or a row for every five bytes; its buffer is not cleared between texts. A refused");
+    println!("or those that rows_to_lend says; its buffer is not cleared between texts. A refused");
     println!("text clears all that was lent.");
     println!("text                     bytes   rows     Rust     port  times    lent  port  times");
     for (name, text) in texts() {
         let mut all = vec![0; MOST_ROWS * WORDS];
         let answer = Linked.read(text.as_bytes(), &mut all);
-        let lent = ((text.len() + 1) / 5).min(MOST_ROWS);
+        let lent = Linked.rows_to_lend(text.len());
         let mut few = vec![0; lent * WORDS];
         assert_eq!(Linked.read(text.as_bytes(), &mut few), answer);
         let rust = fastest(&text, |text| {

@@ -37,6 +37,8 @@ unsafe extern "C" {
         count: *mut usize,
     ) -> u32;
 
+    fn arrow_types_rows_to_lend(text_length: usize) -> usize;
+
     fn arrow_types_print(
         text: *const u8,
         text_length: usize,
@@ -50,6 +52,14 @@ unsafe extern "C" {
     ) -> u32;
 
     fn arrow_types_set_parents(rows: *mut u32, rows_length: usize);
+}
+
+#[cfg(feature = "subject")]
+impl Linked {
+    /// How many rows to lend for a text of so many bytes.
+    pub fn rows_to_lend(&self, bytes: usize) -> usize {
+        unsafe { arrow_types_rows_to_lend(bytes) }
+    }
 }
 
 #[cfg(feature = "subject")]
