@@ -212,6 +212,16 @@ uint32_t arrow_types_name(const uint8_t *text, size_t text_length,
                           size_t *name_start, size_t *name_length);
 
 /*
+ * Where a row's zone is; start and size are words 9 and 10 of its row.
+ *
+ * 1: in the text, *zone_length bytes from *zone_start.
+ * 0: there is none, as where the words do not fit; *zone_start and *zone_length are 0.
+ */
+uint32_t arrow_types_zone(const uint8_t *text, size_t text_length,
+                          uint32_t start, uint32_t size,
+                          size_t *zone_start, size_t *zone_length);
+
+/*
  * Sets the parents of rows, word 11, of as many as the words hold, ARROW_TYPES_MAX_ROWS at the most: each to the row
  * that it stands under, which is the last row before it whose subtree holds it by word 1, and to 0 where none does. All
  * other words are as they were. Soundness is not asked.

@@ -195,8 +195,22 @@ static int is_name(uint32_t home, uint32_t start, uint32_t size, uint32_t in, si
     return answer == in && name_start == at && name_length == length;
 }
 
+/* A zone's place, or 0, 0 and 0. */
+static int is_zone(uint32_t start, uint32_t size, uint32_t found, size_t at, size_t length)
+{
+    size_t zone_start = 99, zone_length = 99;
+    uint32_t answer = arrow_types_zone((const uint8_t *)"abc", 3, start, size, &zone_start, &zone_length);
+    return answer == found && zone_start == at && zone_length == length;
+}
+
 static void naming(void)
 {
+    CHECK(is_zone(0, 3, 1, 0, 3));
+    CHECK(is_zone(2, 1, 1, 2, 1));
+    CHECK(is_zone(0, 0, 0, 0, 0));
+    CHECK(is_zone(1, 3, 0, 0, 0));
+    CHECK(is_zone(UINT32_MAX, UINT32_MAX, 0, 0, 0));
+
     CHECK(is_name(1, 0, 3, 1, 0, 3));
     CHECK(is_name(1, 1, 1, 1, 1, 1));
     CHECK(is_name(2, 4, 8, 2, 4, 8));

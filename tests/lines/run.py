@@ -159,6 +159,13 @@ class Buffers(unittest.TestCase):
             with self.subTest(shift=shift):
                 self.assertEqual(answers(text), expected)
 
+    def test_skip_over_write(self):
+        # the output is full, and is written, while the rest of a long line is being skipped
+        for before in [9827, 9828, 9829]:
+            with self.subTest(before=before):
+                text = b"\n" * before + b"a" * 100_000 + b"\nInt8"
+                self.assertEqual(answers(text), b"no 5\n" * before + b"no 1\nok 1 1 Int8\n")
+
     def test_pieces(self):
         # what comes in pieces is answered as if it came at once
         lines = list(mixed_lines(300, 9))
@@ -181,6 +188,58 @@ class Buffers(unittest.TestCase):
         child.stdout.close()
         self.assertEqual(child.wait(SECONDS), 0)
         return got[0]
+
+
+class Waiting(unittest.TestCase):
+    """Whoever waits for an answer before it writes the next line gets it, while the input stays open."""
+
+    def start(self, **options):
+        """The program, ended if a test waits in vain."""
+        child = subprocess.Popen([PROGRAM], stdout=subprocess.PIPE, **options)
+        timer = threading.Timer(SECONDS, child.kill)
+        timer.start()
+        for clean_up in [child.wait, child.stdout.close, child.kill, timer.cancel]:
+            self.addCleanup(clean_up)
+        return child
+
+    def ask(self, child, text, answer):
+        child.stdin.write(text)
+        child.stdin.flush()
+        self.assertEqual(child.stdout.readline(), answer)
+
+    def test_pipe(self):
+        child = self.start(stdin=subprocess.PIPE)
+        for line, answer in mixed_lines(2000, 3):
+            self.ask(child, line + b"\n", answer)
+        # each line is a turn of its own; there are to be many
+        for _ in range(25_000):
+            self.ask(child, b"Int8\n", b"ok 1 1 Int8\n")
+        child.stdin.close()
+        self.assertEqual(child.stdout.read(), b"")
+
+    def test_unfinished_line(self):
+        child = self.start(stdin=subprocess.PIPE)
+        self.ask(child, b"Int8\nInt", b"ok 1 1 Int8\n")
+        self.ask(child, b"16\n" + b"a" * 20_000, b"ok 1 1 Int16\n")
+        self.ask(child, b"a" * 100_000, b"no 1\n")
+        self.ask(child, b"a\nInt32\nInt", b"ok 1 1 Int32\n")
+        child.stdin.write(b"64")
+        child.stdin.close()
+        self.assertEqual(child.stdout.read(), b"ok 1 1 Int64\n")
+
+    def test_terminal(self):
+        try:
+            near, far = os.openpty()
+        except OSError as error:
+            self.skipTest(f"no terminal to be had: {error}")
+        child = self.start(stdin=far)
+        os.close(far)
+        self.addCleanup(os.close, near)
+        for line, answer in [(b"Int8\n", b"ok 1 1 Int8\n"), (b"\n", b"no 5\n"), (b"Utf8\n", b"ok 1 1 Utf8\n")]:
+            os.write(near, line)
+            self.assertEqual(child.stdout.readline(), answer)
+        os.write(near, b"\x04")
+        self.assertEqual(child.stdout.read(), b"")
 
 
 class Failures(unittest.TestCase):

@@ -80,6 +80,43 @@ def check_edits():
                 faults.append(f"docs/STATEMENTS.md: {cells[0][2:]} has fewer than two edits")
 
 
+def replacements(edit):
+    """The file, the old and the new text of each replacement of a must-fail edit; a `file:` line holds for those behind
+    it."""
+    file = old = None
+    for line in edit.read_text(encoding="utf8").splitlines():
+        if line.startswith("file: "):
+            file = edit.parents[1] / line.removeprefix("file: ")
+        elif line.startswith("old: "):
+            old = line.removeprefix("old: ")
+        elif line.startswith("new:"):
+            yield file, old, line.removeprefix("new:").removeprefix(" ")
+
+
+def check_edit_texts():
+    """The text that an edit replaces stands once in its file, and every edit replaces some."""
+    for edit in sorted(ROOT.glob("crates/*/must-fail/*.edit")):
+        texts = {}
+        for file, old, new in replacements(edit):
+            text = texts.get(file) or file.read_text(encoding="utf8")
+            if text.count(old) != 1:
+                faults.append(f"{edit.relative_to(ROOT)}: {text.count(old)} times in {file.name}: {old}")
+            texts[file] = text.replace(old, new)
+        if not texts:
+            faults.append(f"{edit.relative_to(ROOT)}: it replaces nothing")
+
+
+def check_listed_functions():
+    """docs/STATEMENTS.md has each public function in its table."""
+    text = (ROOT / "docs/STATEMENTS.md").read_text(encoding="utf8")
+    table = text.split("## Public functions")[1].split("##")[0]
+    listed = set(re.findall(r"\b(\w+)\(", table))
+    for path in sorted(ROOT.glob("crates/*/src/**/*.rt")):
+        for name, _ in public_functions(path.read_text(encoding="utf8")):
+            if name not in listed:
+                faults.append(f"{path.relative_to(ROOT)}: pub fn {name} is not in docs/STATEMENTS.md")
+
+
 def pages():
     """Every page of the repository but those below target folders."""
     paths = [path for path in ROOT.rglob("*.md") if "target" not in path.relative_to(ROOT).parts]
@@ -101,7 +138,16 @@ def check_layout():
 
 
 def main():
-    checks = [check_crates, check_contracts, check_documents, check_edits, check_links, check_layout]
+    checks = [
+        check_crates,
+        check_contracts,
+        check_listed_functions,
+        check_documents,
+        check_edits,
+        check_edit_texts,
+        check_links,
+        check_layout,
+    ]
     failed = 0
     for check in checks:
         before = len(faults)

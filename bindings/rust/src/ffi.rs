@@ -88,6 +88,15 @@ unsafe extern "C" {
         name_start: *mut usize,
         name_length: *mut usize,
     ) -> u32;
+
+    fn arrow_types_zone(
+        text: *const u8,
+        text_length: usize,
+        start: u32,
+        size: u32,
+        zone_start: *mut usize,
+        zone_length: *mut usize,
+    ) -> u32;
 }
 
 /// A tree as the library takes it: its text and its row words. The name list is always the same.
@@ -261,6 +270,24 @@ pub fn name(text: &[u8], home: u32, start: u32, size: u32) -> &[u8] {
         2 => &NAME_LIST.as_bytes()[name_start..name_start + name_length],
         _ => &[],
     }
+}
+
+/// A zone, a part of the text: none where its words are 0 or do not fit.
+pub fn zone(text: &[u8], start: u32, size: u32) -> Option<&[u8]> {
+    let mut zone_start = 0;
+    let mut zone_length = 0;
+    // SAFETY: as in `is_sound`; the locals `zone_start` and `zone_length` are written.
+    let found = unsafe {
+        arrow_types_zone(
+            text.as_ptr(),
+            text.len(),
+            start,
+            size,
+            &mut zone_start,
+            &mut zone_length,
+        )
+    };
+    (found == 1).then(|| &text[zone_start..zone_start + zone_length])
 }
 
 /// A status is 0 or the number of a refusal, which comes with no value.

@@ -82,10 +82,12 @@ impl<'a> Field<'a> {
 
     /// A Timestamp's zone, borrowed; none if it has none. It is never empty.
     pub fn zone(self) -> Option<&'a str> {
-        let start = self.word(word::ZONE_START) as usize;
-        let length = self.word(word::ZONE_LENGTH) as usize;
-        let zone = &self.data_type.text()[start..start + length];
-        (!zone.is_empty()).then_some(zone)
+        let zone = ffi::zone(
+            self.data_type.text().as_bytes(),
+            self.word(word::ZONE_START),
+            self.word(word::ZONE_LENGTH),
+        )?;
+        Some(std::str::from_utf8(zone).expect("the zones of a sound tree are UTF-8"))
     }
 
     /// Whether the field may be null; none for a bare type.

@@ -2,11 +2,19 @@
 //! second writing of the scope; tests/compare/README.md says how they were made, and has the format.
 //!
 //! A type's text is read with all the rows that it needs and printed with 16,384 bytes, and there is one name list, so
-//! cases that lend less or have another list are held to what they imply, or left out; the counts say of how many.
+//! cases that lend less or have another list are held to what they imply, or left out; the counts say of how many. The
+//! last case of each sample is wrong on purpose.
+
+use std::panic::{AssertUnwindSafe, catch_unwind};
 
 use arrow_types::{DataType, Error, Field, MAX_ROWS, ROW_WORDS, Verdict, read, rows_to_lend};
 
 const NAME_LIST: &[u8] = b"itemrun_endsvalues";
+
+/// A check of a case that is wrong on purpose fails.
+fn fails<T>(check: impl FnOnce() -> T) {
+    assert!(catch_unwind(AssertUnwindSafe(check)).is_err());
+}
 
 /// What is left of a sample.
 struct Sample(std::vec::IntoIter<u8>);
@@ -140,9 +148,11 @@ impl Text {
 fn texts() {
     let mut sample = Sample::open("texts");
     let mut counts = [0; 18];
-    for _ in 0..sample.number() {
+    for _ in 1..sample.number() {
         counts[Text::of(&mut sample).check()] += 1;
     }
+    let wrong = Text::of(&mut sample);
+    fails(|| wrong.check());
     sample.end();
     assert_eq!((counts[0], counts[17]), (1_202, 194));
     assert_eq!(counts[1..=16].iter().sum::<usize>(), 2_539);
@@ -170,18 +180,10 @@ fn reads_back(read: &DataType) {
 fn tables() {
     let mut sample = Sample::open("tables");
     let mut counts = Counts::default();
-    for _ in 0..sample.number() {
-        let (table, other) = (sample.table(), sample.table());
-        for _ in 0..sample.number() {
-            let (word, value) = (sample.number(), sample.number());
-            let mut table = table.clone();
-            if let Some(changed) = table.words.get_mut(word) {
-                *changed = value as u32;
-            }
-            let answers = Answers::of(&mut sample);
-            answers.check(&table, &other, word / ROW_WORDS, &mut counts);
-        }
+    for _ in 1..sample.number() {
+        group(&mut sample, &mut counts);
     }
+    fails(|| group(&mut sample, &mut Counts::default()));
     sample.end();
     let expected = Counts {
         sound: 878,
@@ -191,6 +193,20 @@ fn tables() {
         not_equal: 816,
     };
     assert_eq!(counts, expected);
+}
+
+/// A table, another that it is compared with, and changes of the first with the answers of each.
+fn group(sample: &mut Sample, counts: &mut Counts) {
+    let (table, other) = (sample.table(), sample.table());
+    for _ in 0..sample.number() {
+        let (word, value) = (sample.number(), sample.number());
+        let mut table = table.clone();
+        if let Some(changed) = table.words.get_mut(word) {
+            *changed = value as u32;
+        }
+        let answers = Answers::of(sample);
+        answers.check(&table, &other, word / ROW_WORDS, counts);
+    }
 }
 
 #[derive(Debug, Default, PartialEq)]
@@ -328,9 +344,11 @@ impl Print {
 fn prints() {
     let mut sample = Sample::open("prints");
     let mut counts = [0; 20];
-    for _ in 0..sample.number() {
+    for _ in 1..sample.number() {
         counts[Print::of(&mut sample).check()] += 1;
     }
+    let wrong = Print::of(&mut sample);
+    fails(|| wrong.check());
     sample.end();
     assert_eq!(counts[..3], [1_625, 9, 314]);
     assert_eq!(counts[17..], [434, 201, 2]);

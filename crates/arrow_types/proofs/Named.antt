@@ -1,4 +1,4 @@
--- Where a name stands: home, start and count hand back the same bytes.
+-- Where a name or a zone stands: home, start and count hand back the same bytes.
 use mathlib.Core.Path.{_≡_, refl, sym, ap, _∙_}
 use mathlib.Core.Bool.{Bool, true, false}
 use mathlib.Core.List.{List, [], _∷_}
@@ -9,7 +9,7 @@ use lib.Dec.{leb}
 use lib.Seq.{length-take-le}
 use borrow.Author.Tests.{leb-true}
 use Rattle.tokenizer.specs.Text.{if_then_else_}
-use Rattle.datatype.specs.Tree.{part, nameOf}
+use Rattle.datatype.specs.Tree.{part, nameOf, zoneOf}
 use Rattle.arrow_types.specs.Status.{ifNamed}
 
 part-size : (s : List ℕ) (start size : ℕ) → (length (part s start size) ≡ 0 → ⊥) → length (part s start size) ≡ size
@@ -41,6 +41,35 @@ some-named (c ∷ s) n z = refl
 empty : (s : List ℕ) → length s ≡ 0 → [] ≡ s
 empty [] e = refl
 empty (c ∷ s) e = absurd (omega (arith, e))
+
+part-none : (s : List ℕ) → part s 0 0 ≡ []
+part-none s = by-fit (leb 0 (length s))
+  where
+    by-fit : (b : Bool) → (if b then take 0 (drop 0 s) else []) ≡ []
+    by-fit true = refl
+    by-fit false = refl
+
+-- a zone is a part of the text
+module _ (text : List ℕ) (start size : ℕ) (found : List ℕ) (e : found ≡ zoneOf text start size) where
+  abbrev Zoned : ℕ → ℕ → ℕ → Type 0
+  Zoned r from count =
+      (r ≡ ifNamed (zoneOf text start size) 1)
+      × ((from ≡ ifNamed (zoneOf text start size) start) × ((count ≡ length (zoneOf text start size)) × (zoneOf text from count ≡ zoneOf text start size)))
+
+  pub not-zoned : length found ≡ 0 → Zoned 0 0 (length found)
+  unfolding zoneOf
+  not-zoned z =
+      let s = zoneOf text start size in
+      let n : length s ≡ 0 = ap length (sym e) ∙ z in
+      (none-named s 1 n, (none-named s start n, (ap length e, ap (λ k. zoneOf text 0 k) z ∙ part-none text ∙ empty s n)))
+
+  pub is-zoned : (length found ≡ 0 → ⊥) → Zoned 1 start (length found)
+  unfolding zoneOf
+  is-zoned z =
+      let s = zoneOf text start size in
+      let n : length s ≡ 0 → ⊥ = λ q. z (ap length e ∙ q) in
+      let l : length found ≡ size = ap length e ∙ part-size text start size n in
+      (some-named s 1 n, (some-named s start n, (ap length e, ap (λ k. zoneOf text start k) l)))
 
 module _ (text names : List ℕ) (home start size : ℕ) (found : List ℕ) (e : found ≡ nameOf text names home start size) where
   abbrev Named : ℕ → ℕ → ℕ → Type 0

@@ -2,7 +2,7 @@
 ghost use mathlib.Core.Path.{_≡_};
 ghost use lib.ListN.{length};
 ghost use Rattle.arrow_types.specs.Status.{statusOf, valueOf, flag, yesOf, rowOf, ifNamed};
-ghost use Rattle.datatype.specs.Tree.{nameOf};
+ghost use Rattle.datatype.specs.Tree.{nameOf, zoneOf};
 ghost use Rattle.row_table.specs.Parents.{withParents};
 ghost use Rattle.row_table.specs.Sound.{isSound, depthOf};
 ghost use Rattle.row_table.specs.Equal.{equalTrees};
@@ -10,6 +10,7 @@ ghost use Rattle.row_table.specs.Layout.{verdictOf};
 ghost use Rattle.datatype_parse.specs.Parse.{parseAnswer, parseRows};
 ghost use Rattle.datatype_parse.specs.RowsToLend.{rowsToLend};
 ghost use Rattle.datatype_display.specs.Print.{printAnswer, printBytes};
+use datatype::Field;
 use datatype_display::Printed;
 use datatype_parse::Parsed;
 use row_table::Depth;
@@ -92,7 +93,12 @@ pub extern "C" fn arrow_types_name<'a>(
     ensures count { λ r. ⌜ now (count .exit) ≡ length (nameOf (now (text .entry)) (now (names .entry)) home start size) ⌝ }
     ensures bytes { λ r. ⌜ nameOf (now (text .entry)) (now (names .entry)) r (now (from .exit)) (now (count .exit)) ≡ nameOf (now (text .entry)) (now (names .entry)) home start size ⌝ }
 {
-    let found = datatype::name(text, names, home, start, size);
+    let field = Field {
+        home: home,
+        start: start,
+        size: size,
+    };
+    let found = field.name(text, names);
     *count = found.len();
     if found.len() == 0 {
         *from = 0;
@@ -100,6 +106,31 @@ pub extern "C" fn arrow_types_name<'a>(
     }
     *from = start as usize;
     home
+}
+
+// Where a zone stands, by words 9 and 10 of its row: 1, with start and count of its bytes in the text. The three are 0
+// where the zone is empty, as it is where the words do not fit.
+#[no_mangle]
+pub extern "C" fn arrow_types_zone(
+    text: &[u8],
+    start: u32,
+    size: u32,
+    at: &mut usize,
+    count: &mut usize,
+) -> u32
+    ensures found { λ r. ⌜ r ≡ ifNamed (zoneOf (now (text .entry)) start size) 1 ⌝ }
+    ensures start { λ r. ⌜ now (at .exit) ≡ ifNamed (zoneOf (now (text .entry)) start size) start ⌝ }
+    ensures count { λ r. ⌜ now (count .exit) ≡ length (zoneOf (now (text .entry)) start size) ⌝ }
+    ensures bytes { λ r. ⌜ zoneOf (now (text .entry)) (now (at .exit)) (now (count .exit)) ≡ zoneOf (now (text .entry)) start size ⌝ }
+{
+    let zone = datatype::zone(text, start, size);
+    *count = zone.len();
+    if zone.len() == 0 {
+        *at = 0;
+        return 0;
+    }
+    *at = start as usize;
+    1
 }
 
 // Whether text, name list and row words are a sound tree: 1 or 0.

@@ -1,13 +1,13 @@
 -- Kinds and decimals: what the functions of `kind.rt` look at.
-use mathlib.Core.Path.{_≡_, sym}
-use mathlib.Core.Bool.{true, false}
+use mathlib.Core.Path.{_≡_, refl, sym}
+use mathlib.Core.Bool.{Bool, true, false, _&&_, and-false}
 use mathlib.Core.List.{[], _∷_}
-use Prim.Native.Nat.{ℕ, _+_, _-_, _≤_, _<_}
+use Prim.Native.Nat.{ℕ, zero, suc, _+_, _-_, _≤_, _<_}
 use native.Mathlib.Omega.{arith}
-use lib.ListN.{List·getD-eq-default}
-use lib.Dec.{leb, leb→le, le→leb}
-use borrow.Author.Tests.{le-leb, lt-leb}
-use Rattle.datatype.specs.Kind.{leaf, kinds, shapes, shapeOf, maxPrecision, decimalFits}
+use lib.ListN.{getD, List·getD-eq-default}
+use lib.Dec.{leb, ltb, leb→le, le→leb}
+use borrow.Author.Tests.{le-leb, lt-leb, le-ltb, ltb-false}
+use Rattle.datatype.specs.Kind.{leaf, kinds, shapes, shapeOf, decimal32Kind, maxPrecision, decimalFits}
 use Rattle.datatype.proofs.Tests.{iff-eq}
 
 -- a number that is none of kind has the shape of a leaf
@@ -18,9 +18,9 @@ past-kinds k h = List·getD-eq-default shapes leaf {n = k} h
 -- ---- decimals
 
 module _ (k : ℕ) where
-  pub max-1 : k ≤ 35 → 9 ≡ maxPrecision k
+  pub max-1 : k ≡ 35 → 9 ≡ maxPrecision k
   unfolding maxPrecision
-  max-1 h = let e : k - 35 ≡ 0 = omega arith in rw e
+  max-1 e = rw e
 
   pub max-2 : k ≡ 36 → 18 ≡ maxPrecision k
   unfolding maxPrecision
@@ -34,9 +34,28 @@ module _ (k : ℕ) where
   unfolding maxPrecision
   max-4 e = rw e
 
-  pub max-5 : 35 < k → (k ≡ 36 → ⊥) → (k ≡ 37 → ⊥) → (k ≡ 38 → ⊥) → 0 ≡ maxPrecision k
-  unfolding maxPrecision
-  max-5 h p q r = sym (List·getD-eq-default (9 ∷ 18 ∷ 38 ∷ 76 ∷ []) 0 {n = k - 35} (omega arith))
+  pub max-5 : (k ≡ 35 → ⊥) → (k ≡ 36 → ⊥) → (k ≡ 37 → ⊥) → (k ≡ 38 → ⊥) → 0 ≡ maxPrecision k
+  max-5 o p q r = go (ltb k 35) refl
+    where
+      go : (t : Bool) → ltb k 35 ≡ t → 0 ≡ maxPrecision k
+      go true e = unfold maxPrecision in rw e
+      go false e =
+          let h = ltb-false k 35 e in
+          unfold maxPrecision in rw e (sym (List·getD-eq-default (9 ∷ 18 ∷ 38 ∷ 76 ∷ []) 0 {n = k - 35} (omega arith)))
+
+  -- nothing fits a kind that is no decimal
+  pub no-decimal : (p s : ℕ) → (k ≡ 35 → ⊥) → (k ≡ 36 → ⊥) → (k ≡ 37 → ⊥) → (k ≡ 38 → ⊥) → decimalFits k p s ≡ false
+  unfolding decimalFits
+  no-decimal zero s a b c d = refl
+  no-decimal (suc p) s a b c d = rw (sym (max-5 a b c d), lt-leb (suc p) 0 (omega arith), and-false (leb 1 (suc p)))
+
+  -- one rule for the four widths, 32, 64, 128 and 256 bits: the precision is 1 to the width's greatest, and the scale,
+  -- less 128, at most the precision
+  pub width-fits : (w p s : ℕ) → w < 4 → decimalFits (decimal32Kind + w) p s ≡ (leb 1 p && leb p (getD (9 ∷ 18 ∷ 38 ∷ 76 ∷ []) w 0) && leb s (128 + p))
+  unfolding decimalFits maxPrecision
+  width-fits w p s h =
+      let e : decimal32Kind + w - decimal32Kind ≡ w = omega arith in
+      rw (le-ltb (decimal32Kind + w) decimal32Kind (omega arith), e)
 
   module _ (p s : ℕ) where
     pub decimal-1 : p ≡ 0 → false ≡ decimalFits k p s

@@ -45,9 +45,9 @@ shapeOf k = getD shapes k leaf
 unfoldable pub unitFits : ℕ → ℕ → Bool
 unitFits k u = if eqb k time32Kind then ltb u 2 else if eqb k time64Kind then leb 2 u else true
 
--- The greatest precision belongs to the decimal width: 32, 64, 128, 256 bits.
+-- The greatest precision belongs to the decimal width: 32, 64, 128, 256 bits. A kind that is no decimal has none.
 unfoldable pub maxPrecision : ℕ → ℕ
-maxPrecision k = getD (9 ∷ 18 ∷ 38 ∷ 76 ∷ []) (k - decimal32Kind) 0
+maxPrecision k = if ltb k decimal32Kind then 0 else getD (9 ∷ 18 ∷ 38 ∷ 76 ∷ []) (k - decimal32Kind) 0
 
 -- A decimal's precision, and its scale plus 128: a positive scale is at most the precision.
 unfoldable pub decimalFits : ℕ → ℕ → ℕ → Bool

@@ -3,7 +3,7 @@ ghost use mathlib.Core.Path.{_≡_};
 ghost use Rattle.tokenizer.specs.Text.{same};
 ghost use Rattle.datatype.specs.Tree.{part, nameOf, zoneOf};
 
-// Where a field's name stands: its home (1 the text, 2 the name list), its start and its length.
+// Where a field's name stands: its home, its start and its length there.
 pub struct Field {
     pub home: u32,
     pub start: u32,
@@ -11,11 +11,45 @@ pub struct Field {
 }
 
 impl Field {
+    // A name's home: the text, or the name list.
+    pub const IN_TEXT: u32 = 1;
+
+    pub const IN_NAME_LIST: u32 = 2;
+
+    // The default names, and the part of the name list that each of them is.
     pub const LIST_FIELD_DEFAULT_NAME: [u8; 4] = *b"item";
+
+    pub const LIST_FIELD_START: u32 = 0;
+
+    pub const LIST_FIELD_SIZE: u32 = 4;
 
     pub const REE_RUN_ENDS_FIELD_DEFAULT_NAME: [u8; 8] = *b"run_ends";
 
+    pub const REE_RUN_ENDS_START: u32 = 4;
+
+    pub const REE_RUN_ENDS_SIZE: u32 = 8;
+
     pub const REE_VALUES_FIELD_DEFAULT_NAME: [u8; 6] = *b"values";
+
+    pub const REE_VALUES_START: u32 = 12;
+
+    pub const REE_VALUES_SIZE: u32 = 6;
+
+    // The name list: the three default names, end to end.
+    pub const NAME_LIST: [u8; 18] = *b"itemrun_endsvalues";
+
+    // The field's name, from whichever of text and name list is its home: empty where its words do not fit.
+    pub fn name<'a>(self, text: &'a [u8], names: &'a [u8]) -> &'a [u8]
+        ensures { λ r. ⌜ now r ≡ nameOf (now (text .entry)) (now (names .entry)) (self .home) (self .start) (self .size) ⌝ }
+    {
+        if self.home == Self::IN_TEXT {
+            return part_of(text, self.start, self.size);
+        }
+        if self.home == Self::IN_NAME_LIST {
+            return part_of(names, self.start, self.size);
+        }
+        &text[..0]
+    }
 }
 
 // A part of a list, empty where it runs past the end.
@@ -28,19 +62,6 @@ fn part_of(s: &[u8], start: u32, size: u32) -> &[u8]
         return &s[from..to];
     }
     &s[..0]
-}
-
-// The field's name, from whichever of text and name list is its home: empty where its words do not fit.
-pub fn name<'a>(text: &'a [u8], names: &'a [u8], home: u32, start: u32, size: u32) -> &'a [u8]
-    ensures { λ r. ⌜ now r ≡ nameOf (now (text .entry)) (now (names .entry)) home start size ⌝ }
-{
-    if home == 1 {
-        return part_of(text, start, size);
-    }
-    if home == 2 {
-        return part_of(names, start, size);
-    }
-    &text[..0]
 }
 
 // A zone, as a part of the text: empty where its words do not fit.

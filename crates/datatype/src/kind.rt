@@ -64,11 +64,11 @@ impl Decimal {
 
     pub const DECIMAL256_MAX_PRECISION: u32 = 76;
 
-    // The greatest precision of a decimal kind.
+    // The greatest precision of a decimal kind; 0 for every other kind.
     pub fn max_precision(kind: u32) -> u32
         ensures { λ r. ⌜ r ≡ maxPrecision kind ⌝ }
     {
-        if kind <= DECIMAL32 {
+        if kind == DECIMAL32 {
             return Self::DECIMAL32_MAX_PRECISION;
         }
         if kind == DECIMAL64 {

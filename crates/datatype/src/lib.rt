@@ -6,7 +6,6 @@ mod words;
 
 pub use field::Field;
 pub use field::equal_bytes;
-pub use field::name;
 pub use field::zone;
 pub use kind::Decimal;
 pub use words::clear_words;

@@ -29,6 +29,11 @@ pub const ZONE_SIZE: usize = 10;
 
 pub const PARENT: usize = 11;
 
+// The role of a field: nullable or not. A bare row has 0.
+pub const NULLABLE: u32 = 1;
+
+pub const NON_NULL: u32 = 2;
+
 // The limits of a sound tree: bytes of its text, rows, levels.
 pub const MAX_TEXT: usize = 16384;
 

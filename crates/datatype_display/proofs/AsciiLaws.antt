@@ -19,7 +19,7 @@ use Rattle.datatype.proofs.Tests.{iff-eq}
 use Rattle.row_table.proofs.ChildLaws.{child-turn}
 use Rattle.row_table.proofs.Runs.{Turn, turn, forest-none}
 use Rattle.row_table.proofs.SoundTree.{SoundTree, sound-tree, sound-count, sound-forest, sound-labels}
-use Rattle.row_table.proofs.LevelLaws.{LevelsSo, levels-start, levels-call, levels-again}
+use Rattle.row_table.proofs.LevelWalk.{walk-call, walk-rest}
 use Rattle.row_table.proofs.Walks.{labels-turn, kind-word, zone-words}
 use Rattle.datatype_display.specs.Display.{defaultNames}
 use Rattle.datatype_display.specs.Print.{quotesNames, isAscii, namesAscii, quotedAscii}
@@ -189,10 +189,6 @@ module _ (text names table : List ℕ) (level start end : ℕ) where
     unfolding quotedAscii
     quoted-end h = sym (i .so ∙ rw (run-none text names table at end h))
 
-    -- what is left, as the walk that counts levels has it
-    left : LevelsSo table level at end 0 at
-    left = levels-start table level at end (i .nests) (i .upto) (i .flat)
-
     module _ (l : at < end) where
       pub quoted-turn : Turn table at end
       quoted-turn = turn table at end (i .nests) l
@@ -202,7 +198,7 @@ module _ (text names table : List ℕ) (level start end : ℕ) where
 
       module _ (s : ℕ) (is : s ≡ sizeAt table at) where
         pub quoted-call : (level - 1 < level) × (Nests table (at + 1) (at + s - (at + 1)) × (at + 1 ≤ at + s) × (depth (forestAt table (at + 1) (at + s - (at + 1))) ≤ level - 1))
-        quoted-call = levels-call table level at end 0 at left l s is
+        quoted-call = walk-call table level at end (i .nests) (i .flat) l s is
 
         module _ (p : Bool) (e : p ≡ rowAscii (labelAt text names table at) (roots (kids s))) where
           here : quotedAscii (labels text names (forestAt table start (end - start))) ≡ (p && quotedAscii (kids s) && quotedAscii (labels text names (forestAt table (at + s) (end - (at + s)))))
@@ -217,10 +213,7 @@ module _ (text names table : List ℕ) (level start end : ℕ) where
             quoted-not-kids y = sym (here ∙ rw (g, ← f, y))
 
             pub quoted-more : q ≡ true → QuotedSo text names table level start end (at + s)
-            quoted-more y = go (levels-again table level at end 0 at left l s is (depth (forestAt table (at + 1) (at + s - (at + 1)))) (max 0 (depth (forestAt table (at + 1) (at + s - (at + 1))) + 1)) refl refl)
-              where
-                go : LevelsSo table level at end (max 0 (depth (forestAt table (at + 1) (at + s - (at + 1))) + 1)) (at + s) → QuotedSo text names table level start end (at + s)
-                go r = record { upto = r .upto; nests = r .nests; flat = r .flat; so = here ∙ rw (g, ← f, y) }
+            quoted-more y = let r = walk-rest table level at end (i .nests) (i .flat) l s is in record { upto = r .0; nests = r .1; flat = r .2; so = here ∙ rw (g, ← f, y) }
 
 -- ---- a text whose bytes all pass a test
 

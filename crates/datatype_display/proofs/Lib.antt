@@ -8,6 +8,7 @@ pub mod ShapeTexts
 pub mod AsciiLaws
 pub mod BoundLaws
 pub mod Walked
+pub mod PrintedUtf8
 pub mod Printing
 pub mod Prints
 pub mod Length

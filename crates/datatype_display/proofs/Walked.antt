@@ -190,7 +190,7 @@ row-walked l ks h a r =
 
 -- ---- a run of trees
 
-shown-labels : (f : Forest Label) → labelsOf (shown f) ≡ roots f
+pub shown-labels : (f : Forest Label) → labelsOf (shown f) ≡ roots f
 unfolding shown
 shown-labels ∅ = refl
 shown-labels (node l kids next) = ap (λ (ls : List Label). l ∷ ls) (shown-labels next)

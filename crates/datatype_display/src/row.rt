@@ -22,7 +22,6 @@ use crate::write::put_byte;
 use crate::write::put_digits;
 use datatype::Field;
 use datatype::equal_bytes;
-use datatype::name;
 use datatype::rows::HOME;
 use datatype::rows::ID;
 use datatype::rows::KIND;
@@ -238,13 +237,12 @@ pub(crate) fn name_at<'a>(text: &'a [u8], names: &'a [u8], rows: &[u32], i: usiz
     requires { ⌜ rowWords * (i + 1) ≤ length (now rows) ⌝ }
     ensures { λ r. ⌜ now r ≡ (labelAt (now (text .entry)) (now (names .entry)) (now (rows .entry)) i) .name ⌝ }
 {
-    name(
-        text,
-        names,
-        word(rows, i, HOME),
-        word(rows, i, START),
-        word(rows, i, SIZE),
-    )
+    let field = Field {
+        home: word(rows, i, HOME),
+        start: word(rows, i, START),
+        size: word(rows, i, SIZE),
+    };
+    field.name(text, names)
 }
 
 // Writes what stands before the type of child i.

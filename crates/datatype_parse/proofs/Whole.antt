@@ -8,7 +8,7 @@ use native.Mathlib.Omega.{arith}
 use lib.ListN.{length, getD, drop, replicate}
 use lib.Dec.{T, eqb}
 use Rattle.tokenizer.specs.Text.{if_then_else_}
-use Rattle.tokenizer.specs.Answer.{Out, refused, done, refuse, _>>=_}
+use Rattle.tokenizer.specs.Answer.{Refusal, Out, refused, done, refuse, _>>=_}
 use Rattle.tokenizer.specs.Places.{afterSpaces}
 use Rattle.tokenizer.specs.Words.{words}
 use Rattle.tokenizer.specs.Token.{tokenAt, sortOf, valueOf, wordOf, wordKind, noToken, untilQuote, stringToken}
@@ -25,7 +25,7 @@ use Rattle.row_table.specs.Parents.{parented, parentsSet}
 use Rattle.row_table.proofs.ParentTree.{count-parented, first-parents-lent}
 use Rattle.parser.proofs.Holds.{Holds}
 use Rattle.datatype_parse.proofs.ReadSound.{Begun, first-read}
-use Rattle.parser.specs.Parse.{Tree, single, rowsIn, stands, firstType, readOf, rowsOf}
+use Rattle.parser.specs.Parse.{Tree, single, rowsIn, stands, firstType, Extent, readOf, readMeans, rowsOf}
 use Rattle.parser.specs.declared.Read.{Read}
 use Rattle.parser.specs.declared.Read.the-variants as R
 use Rattle.datatype_parse.specs.Parse.{textOver, parse, rowCount, parseAnswer, filled, parseRows, parsedMeans}
@@ -92,19 +92,35 @@ module _ (text before after : List ℕ) (r : Read) where
   abbrev Ends : Parsed → Out Tree → Type 0
   Ends a o = (parsedMeans a ≡ rowCount (ended o)) × (after ≡ filled before (ended o))
 
-  refused-ends : (o : Out Tree) (x : ℕ) → r ≡ readOf o → after ≡ rowsOf before o → r ≡ R.Refused x → Ends (Refused x) o
-  unfolding readOf rowsOf parsedMeans
-  refused-ends (refused y) x e w h = let z : x ≡ y .number = cc in ((λ j. refused (record { number = z j })), w)
-  refused-ends (done t) x e w h = absurd (let z : _≡_ {A = ℕ} 0 1 = cc in omega arith)
+  refused-ends : (o : Out Tree) (x : ℕ) → readMeans r ≡ readOf o → after ≡ rowsOf before o → r ≡ R.Refused x → Ends (Refused x) o
+  unfolding readOf readMeans rowsOf parsedMeans
+  refused-ends (refused y) x e w h =
+      let f : _≡_ {A = Out Extent} (refuse x) (refused y) = sym (ap readMeans h) ∙ e in
+      let z : _≡_ {A = Refusal} (record { number = x }) y = cc in
+      (ap refused z, w)
+  refused-ends (done t) x e w h =
+      let f : _≡_ {A = Out Extent} (refuse x) (done (record { next = t .next; rows = rowsIn t })) = sym (ap readMeans h) ∙ e in
+      absurd (let z : _≡_ {A = ℕ} 0 1 = cc in omega arith)
 
   module _ (n k : ℕ) (h : r ≡ R.Tree n k) (over : Bool) (l : over ≡ textOver text n) where
-    over-ends : (o : Out Tree) (mid : List ℕ) → Holds (λ (t : Tree). count (single t) ≤ 1024) o → r ≡ readOf o → mid ≡ rowsOf before o
+    -- a type was read, and this is its place and row count
+    abbrev extent : Extent
+    extent = record { next = n; rows = k }
+
+    not-refused : (y : Refusal) → done extent ≡ refused y → ⊥
+    not-refused y e = let z : _≡_ {A = ℕ} 0 1 = cc in omega arith
+
+    is-extent : (x : Extent) → done extent ≡ done x → extent ≡ x
+    is-extent x e = cc
+
+    over-ends : (o : Out Tree) (mid : List ℕ) → Holds (λ (t : Tree). count (single t) ≤ 1024) o → readMeans r ≡ readOf o → mid ≡ rowsOf before o
         → after ≡ parentsSet mid (min k (rowsLent (length mid))) → over ≡ true → Ends (Rows k) o
-    unfolding readOf rowsOf parsedMeans
-    over-ends (refused y) mid few e m w b = absurd (let z : _≡_ {A = ℕ} 0 1 = cc in omega arith)
+    unfolding readOf readMeans rowsOf parsedMeans
+    over-ends (refused y) mid few e m w b = absurd (not-refused y (sym (ap readMeans h) ∙ e))
     over-ends (done t) mid few e m w b =
-        let z : t .next ≡ n = cc in
-        let c : k ≡ rowsIn t = cc in
+        let x = is-extent (record { next = t .next; rows = rowsIn t }) (sym (ap readMeans h) ∙ e) in
+        let z : t .next ≡ n = sym (ap (λ (i : Extent). i .next) x) in
+        let c : k ≡ rowsIn t = ap (λ (i : Extent). i .rows) x in
         let d : k ≡ count (single t) = omega arith in
         let o : textOver text (t .next) ≡ true = ap (textOver text) z ∙ sym l ∙ b in
         let rest : List ℕ = drop (length (tableOf (single t))) before in
@@ -116,11 +132,11 @@ module _ (text before after : List ℕ) (r : Read) where
         ∙ ap (λ (i : ℕ). tableOf (parented (single t)) ++ drop i before) (sym long) in
         (rw o (ap (λ (i : ℕ). done i) (d ∙ sym (count-parented 0 0 (single t)))), rw o set)
 
-    more-ends : (o : Out Tree) → r ≡ readOf o → after ≡ replicate (length before) 0 → over ≡ false → Ends (Refused 16) o
-    unfolding readOf parsedMeans
-    more-ends (refused y) e w b = absurd (let z : _≡_ {A = ℕ} 0 1 = cc in omega arith)
+    more-ends : (o : Out Tree) → readMeans r ≡ readOf o → after ≡ replicate (length before) 0 → over ≡ false → Ends (Refused 16) o
+    unfolding readOf readMeans parsedMeans
+    more-ends (refused y) e w b = absurd (not-refused y (sym (ap readMeans h) ∙ e))
     more-ends (done t) e w b =
-        let z : t .next ≡ n = cc in
+        let z : t .next ≡ n = sym (ap (λ (i : Extent). i .next) (is-extent (record { next = t .next; rows = rowsIn t }) (sym (ap readMeans h) ∙ e))) in
         let o : textOver text (t .next) ≡ false = ap (textOver text) z ∙ sym l ∙ b in
         (rw o, rw o w)
 
@@ -133,7 +149,7 @@ module _ (text before after : List ℕ) (r : Read) where
   abbrev Meant : Parsed → Type 0
   Meant a = (parsedMeans a ≡ parseAnswer text before) × (after ≡ parseRows text before)
 
-  module _ (e : r ≡ readOf first) where
+  module _ (e : readMeans r ≡ readOf first) where
     pub read-refused : (x : ℕ) → after ≡ rowsOf before first → r ≡ R.Refused x → Meant (Refused x)
     unfolding parse parseAnswer parseRows
     read-refused x w h = refused-ends first x e w h

@@ -7,12 +7,12 @@ use native.Mathlib.Omega.{arith}
 use lib.ListN.{length, drop, replicate}
 use lib.Seq.{sets-eq}
 use borrow.Author.Tests.{le-leb, lt-leb}
-use Rattle.tokenizer.specs.Answer.{refuse}
+use Rattle.tokenizer.specs.Answer.{done, refuse}
 use Rattle.tokenizer.specs.Utf8.{isUtf8}
 use Rattle.datatype.specs.Tree.{Forest, ∅, node, count, Row}
 use Rattle.datatype.specs.Table.{tableOf, rowsLent}
 use Rattle.datatype.proofs.Table.{length-table}
-use Rattle.parser.specs.Parse.{typeAt, firstType, readOf, rowsOf}
+use Rattle.parser.specs.Parse.{typeAt, firstType, readOf, readMeans, rowsOf}
 use Rattle.parser.specs.Steps.{Room}
 use Rattle.parser.specs.declared.Read.the-variants as R
 use Rattle.parser.proofs.Answers.{GotTree}
@@ -46,8 +46,8 @@ module _ (text before : List ℕ) where
   rows = rowsLent (length before)
 
   module _ (x : ℕ) (after : List ℕ) (e : firstType text rows ≡ refuse x) (w : after ≡ replicate (length before) 0) where
-    pub first-refused : (R.Refused x ≡ readOf (firstType text rows)) × (after ≡ rowsOf before (firstType text rows))
-    unfolding readOf rowsOf
+    pub first-refused : (readMeans (R.Refused x) ≡ readOf (firstType text rows)) × (after ≡ rowsOf before (firstType text rows))
+    unfolding readOf readMeans rowsOf
     first-refused = (rw e, rw e w)
 
   module _ (short : length text ≤ 16384) (u : isUtf8 text ≡ true) (left : ℕ) (l : left ≡ rows) where
@@ -58,8 +58,8 @@ module _ (text before : List ℕ) where
     type-refused x e = begins ∙ e
 
     module _ (n k : ℕ) (after : List ℕ) (g : GotTree (typeAt text 64 0 left) n k 0 left before after) where
-      pub first-read : (R.Tree n k ≡ readOf (firstType text rows)) × (after ≡ rowsOf before (firstType text rows))
-      unfolding readOf rowsOf rowsLent
+      pub first-read : (readMeans (R.Tree n k) ≡ readOf (firstType text rows)) × (after ≡ rowsOf before (firstType text rows))
+      unfolding readOf readMeans rowsOf rowsLent
       first-read =
           let f : Forest Row = node (g .row) (g .kids) ∅ in
           let e = begins ∙ g .is in
@@ -67,4 +67,4 @@ module _ (text before : List ℕ) where
           let fits : 0 + length (tableOf f) ≤ length before = omega (arith, length-table f) in
           let z : 0 + length (tableOf f) ≡ length (tableOf f) = omega arith in
           let c : k ≡ suc (count (g .kids)) = let r = g .rows in omega arith in
-          (rw e (ap (λ (i : ℕ). R.Tree n i) c), rw e (g .stored .rows ∙ sets-eq (tableOf f) before 0 fits ∙ ap (λ (i : ℕ). tableOf f ++ drop i before) z))
+          (rw e (ap (λ (i : ℕ). done (record { next = n; rows = i })) c), rw e (g .stored .rows ∙ sets-eq (tableOf f) before 0 fits ∙ ap (λ (i : ℕ). tableOf f ++ drop i before) z))

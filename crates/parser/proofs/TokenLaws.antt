@@ -190,46 +190,6 @@ module _ (text : List ℕ) (at from : ℕ) (f : from ≡ afterSpaces text at) wh
 pub no-byte : (text : List ℕ) (at byte : ℕ) → length text ≤ at → 0 < byte → getD text at 0 ≡ byte → ⊥
 no-byte text at byte h z e = let d = List·getD-eq-default text 0 {n = at} h in omega arith
 
--- a string whose opening mark stands at a place
-module _ (text : List ℕ) (at : ℕ) (h : at < length text) (c : getD text at 0 ≡ 34) where
-  opened : stringToken DoubleQuotedString at (untilQuote 34 false (drop (at + 1) text)) ≡ tokenAt text at
-  opened = token-34 text at at (sym (spaces-stop text at h (λ e. let z = sym c ∙ e in omega arith))) h c
-
-  module _ (end : ℕ) (e : end ≡ quoteEnd text 34 false (at + 1)) where
-    pub opened-open : length text ≤ end → Q.Refused 6 ≡ quotedOf (need text doubleQuoted at)
-    unfolding quotedOf
-    opened-open m = rw (not-here text doubleQuoted at _ (string-open DoubleQuotedString text 34 at end h e m ∙ opened) refl)
-
-    pub opened-empty : end < length text → end ≤ at + 1 → Q.Refused 7 ≡ quotedOf (need text doubleQuoted at)
-    unfolding quotedOf
-    opened-empty m i = rw (not-here text doubleQuoted at _ (string-empty DoubleQuotedString text 34 at end h e m i ∙ opened) refl)
-
-    pub opened-whole : end < length text → at + 1 < end → Q.String (at + 1) (end - (at + 1)) (end + 1) ≡ quotedOf (need text doubleQuoted at)
-    opened-whole m i = quoted-here text doubleQuoted at _ (string-whole DoubleQuotedString text 34 at end h e m i ∙ opened) refl
-
--- bytes above the backslash end no string
-module _ (text : List ℕ) (i : ℕ) (h : i + 4 ≤ length text) where
-  abbrev endFrom : ℕ → ℕ
-  endFrom k = quoteEnd text 34 false k
-
-  passed : (j : ℕ) → j < length text → 92 < getD text j 0 → endFrom (j + 1) ≡ endFrom j
-  passed j l b = sym (plain-go text 34 j l (plain-byte 34 (getD text j 0) (λ e. omega arith) (λ e. omega arith)))
-
-  module _ (b : 92 < getD text i 0) where
-    pub letters-1 : endFrom (i + 1) ≡ endFrom i
-    letters-1 = passed i (omega arith) b
-
-    module _ (c : 92 < getD text (i + 1) 0) where
-      pub letters-2 : endFrom (i + 2) ≡ endFrom i
-      letters-2 = ap endFrom (omega arith) ∙ passed (i + 1) (omega arith) c ∙ letters-1
-
-      module _ (d : 92 < getD text (i + 2) 0) where
-        pub letters-3 : endFrom (i + 3) ≡ endFrom i
-        letters-3 = ap endFrom (omega arith) ∙ passed (i + 2) (omega arith) d ∙ letters-2
-
-        pub letters-4 : 92 < getD text (i + 3) 0 → endFrom (i + 4) ≡ endFrom i
-        letters-4 e = ap endFrom (omega arith) ∙ passed (i + 3) (omega arith) e ∙ letters-3
-
 -- ---- numbers
 
 module _ (text : List ℕ) (least most at : ℕ) (t : Token) (e : t ≡ tokenAt text at) where

@@ -434,10 +434,19 @@ firstType text rows =
     let utf8 = if isUtf8 text then tree else refuse 2 in
     if leb (length text) 16384 then utf8 else refuse 1
 
--- What the code answers for it: the place behind it and the row count, or the refusal.
-unfoldable pub readOf : Out Tree → Read
-readOf (refused r) = R.Refused (r .number)
-readOf (done t) = R.Tree (t .next) (rowsIn t)
+-- What is answered for it: the place behind it and its row count, or the refusal.
+pub record Extent : Type 0 where
+  pub next : ℕ
+  pub rows : ℕ
+
+unfoldable pub readOf : Out Tree → Out Extent
+readOf (refused r) = refused r
+readOf (done t) = done (record { next = t .next; rows = rowsIn t })
+
+-- What the code's answer means.
+unfoldable pub readMeans : Read → Out Extent
+readMeans (R.Tree next rows) = done (record { next = next; rows = rows })
+readMeans (R.Refused n) = refuse n
 
 -- What the lent words hold behind it: the rows, and past them what they held before; all zeros on a refusal.
 unfoldable pub rowsOf : List ℕ → Out Tree → List ℕ

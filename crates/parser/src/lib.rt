@@ -7,7 +7,7 @@ ghost use Prim.Native.Nat.{suc, _+_, _<_};
 ghost use lib.ListN.{length};
 ghost use Rattle.datatype.specs.Kind.{shapeOf};
 ghost use Rattle.datatype.specs.Table.{rowsLent};
-ghost use Rattle.parser.specs.Parse.{fieldAt, listField, itemsBy, namedRunEnds, defaultRunEnds, fixedListField, listAt, fixedSizeListAt, structAt, unionAt, dictionaryAt, mapAt, runEndEncodedAt, shapeAt, typeAt, unionItem, firstType, readOf, rowsOf};
+ghost use Rattle.parser.specs.Parse.{fieldAt, listField, itemsBy, namedRunEnds, defaultRunEnds, fixedListField, listAt, fixedSizeListAt, structAt, unionAt, dictionaryAt, mapAt, runEndEncodedAt, shapeAt, typeAt, unionItem, firstType, readOf, readMeans, rowsOf};
 ghost use Rattle.parser.specs.Steps.{Room, Meets, MeetsFields, MeetsTurn, itemOf};
 use crate::leaves::close;
 use crate::leaves::parse_decimal;
@@ -33,11 +33,14 @@ use crate::tokens::parse_type_word;
 use crate::tokens::parse_union_mode;
 use crate::tokens::parse_unsigned;
 use crate::tokens::peek_double_quoted;
+use datatype::Field;
 use datatype::clear_words;
 use datatype::kind::STRUCT;
 use datatype::kind::UNION;
 use datatype::rows::MAX_LEVELS;
 use datatype::rows::MAX_TEXT;
+use datatype::rows::NON_NULL;
+use datatype::rows::NULLABLE;
 use datatype::rows::rows_lent;
 
 mod leaves;
@@ -48,31 +51,31 @@ mod tokens;
 // ---- answers; specs/Steps.antt says what each means
 
 // The place behind a token that is needed.
-pub enum Step {
+pub(crate) enum Step {
     Next(usize),
     Refused(u32),
 }
 
 // The place behind a token that is only looked for.
-pub enum Look {
+pub(crate) enum Look {
     Next(usize),
     Other,
 }
 
 // A listed word's value, and the place behind it.
-pub enum Valued {
+pub(crate) enum Valued {
     Value(u32, usize),
     Refused(u32),
 }
 
 // A number's sign and magnitude, and the place behind it.
-pub enum Number {
+pub(crate) enum Number {
     Value(bool, u64, usize),
     Refused(u32),
 }
 
 // Where a string starts, how long it is, and the place behind it.
-pub enum Quoted {
+pub(crate) enum Quoted {
     String(usize, usize, usize),
     Refused(u32),
 }
@@ -84,7 +87,7 @@ pub enum Read {
 }
 
 // One turn of reading fields: they end, or one was read, which is the last, or more may follow.
-pub enum Turn {
+pub(crate) enum Turn {
     End(usize),
     Last(usize, usize),
     More(usize, usize),
@@ -92,7 +95,7 @@ pub enum Turn {
 }
 
 // A field's role, and the place behind the nullability word if there is one.
-pub struct Nullability {
+pub(crate) struct Nullability {
     pub role: u32,
     pub next: usize,
 }
@@ -121,7 +124,15 @@ fn parse_field(
                 match parse_next_type(text, rows, null.next, row, left, level) {
                     Read::Refused(n) => Read::Refused(n),
                     Read::Tree(next, _) => {
-                        put_field(rows, row, null.role, id, 1, start as u32, size as u32);
+                        put_field(
+                            rows,
+                            row,
+                            null.role,
+                            id,
+                            Field::IN_TEXT,
+                            start as u32,
+                            size as u32,
+                        );
                         // The row's own count: the answer's would be copied, and waited for.
                         Read::Tree(next, rows_of(rows, row))
                     }
@@ -148,13 +159,29 @@ fn parse_list_field(
         Read::Refused(n) => Read::Refused(n),
         Read::Tree(next, used) => match next_if(text, next, 44) {
             Look::Other => {
-                put_field(rows, row, null.role, 0, 2, 0, 4);
+                put_field(
+                    rows,
+                    row,
+                    null.role,
+                    0,
+                    Field::IN_NAME_LIST,
+                    Field::LIST_FIELD_START,
+                    Field::LIST_FIELD_SIZE,
+                );
                 Read::Tree(next, used)
             }
             Look::Next(comma) => match parse_list_name(text, comma) {
                 Quoted::Refused(n) => Read::Refused(n),
                 Quoted::String(start, size, behind) => {
-                    put_field(rows, row, null.role, 0, 1, start as u32, size as u32);
+                    put_field(
+                        rows,
+                        row,
+                        null.role,
+                        0,
+                        Field::IN_TEXT,
+                        start as u32,
+                        size as u32,
+                    );
                     Read::Tree(behind, used)
                 }
             },
@@ -206,7 +233,15 @@ fn child(text: &[u8], rows: &mut [u32], at: usize, row: usize, left: usize, leve
     match parse_next_type(text, rows, comma, row, left, level) {
         Read::Refused(n) => Read::Refused(n),
         Read::Tree(next, used) => {
-            put_field(rows, row, 1, 0, 2, 0, 4);
+            put_field(
+                rows,
+                row,
+                NULLABLE,
+                0,
+                Field::IN_NAME_LIST,
+                Field::LIST_FIELD_START,
+                Field::LIST_FIELD_SIZE,
+            );
             Read::Tree(next, used)
         }
     }
@@ -511,7 +546,15 @@ fn pair(text: &[u8], rows: &mut [u32], at: usize, row: usize, left: usize, level
     match parse_next_type(text, rows, sure.next, row, left, level) {
         Read::Refused(n) => Read::Refused(n),
         Read::Tree(behind, used) => {
-            put_field(rows, row, 2, 0, 2, 4, 8);
+            put_field(
+                rows,
+                row,
+                NON_NULL,
+                0,
+                Field::IN_NAME_LIST,
+                Field::REE_RUN_ENDS_START,
+                Field::REE_RUN_ENDS_SIZE,
+            );
             match expect_token(text, behind, 44) {
                 Step::Refused(n) => Read::Refused(n),
                 Step::Next(comma) => {
@@ -519,7 +562,15 @@ fn pair(text: &[u8], rows: &mut [u32], at: usize, row: usize, left: usize, level
                     match parse_next_type(text, rows, null.next, row + used, left - used, level) {
                         Read::Refused(n) => Read::Refused(n),
                         Read::Tree(next, more) => {
-                            put_field(rows, row + used, null.role, 0, 2, 12, 6);
+                            put_field(
+                                rows,
+                                row + used,
+                                null.role,
+                                0,
+                                Field::IN_NAME_LIST,
+                                Field::REE_VALUES_START,
+                                Field::REE_VALUES_SIZE,
+                            );
                             Read::Tree(next, used + more)
                         }
                     }
@@ -629,7 +680,7 @@ fn parse_next_type(
 // Reads the type that a text begins with into lent rows: the place behind it and how many rows it fills, or the
 // refusal's number. A refusal leaves the rows all zeros.
 pub fn parse_first_type(text: &[u8], rows: &mut [u32]) -> Read
-    ensures answer { λ r. ⌜ r ≡ readOf (firstType (now (text .entry)) (rowsLent (length (now (rows .entry))))) ⌝ }
+    ensures answer { λ r. ⌜ readMeans r ≡ readOf (firstType (now (text .entry)) (rowsLent (length (now (rows .entry))))) ⌝ }
     ensures contents { λ r. ⌜ now (rows .exit) ≡ rowsOf (now (rows .entry)) (firstType (now (text .entry)) (rowsLent (length (now (rows .entry))))) ⌝ }
 {
     if text.len() > MAX_TEXT {

@@ -5,7 +5,6 @@ ghost use Prim.Native.Nat.{_+_, _≤_, _<_};
 ghost use lib.ListN.{length, getD};
 ghost use Rattle.tokenizer.specs.Text.{if_then_else_};
 ghost use Rattle.tokenizer.specs.Places.{afterSpaces};
-ghost use Rattle.tokenizer.specs.Ends.{quoteEnd};
 ghost use Rattle.tokenizer.specs.Token.{tokenAt, doubleQuoted, singleQuoted, typeWord, timeUnit, intervalUnit, unionMode, mapSorted, fieldWord, xWord};
 ghost use Rattle.tokenizer.specs.declared.TokenKind.the-variants.{Integer};
 ghost use Rattle.datatype.specs.Kind.{unitFits};
@@ -178,10 +177,6 @@ pub(crate) fn parse_opt_nullable(text: &[u8], at: usize) -> Nullability
 pub(crate) fn peek_double_quoted(text: &[u8], at: usize) -> bool
     ensures { λ r. ⌜ r ≡ stands (now (text .entry)) doubleQuoted at ⌝ }
 {
-    let from = tokenizer::skip_spaces(text, at);
-    if !starts(text, from, 34) {
-        return false;
-    }
     let token = tokenizer::next_token(text, at);
     let kind = token.kind;
     let TokenKind::DoubleQuotedString = kind else {
@@ -190,49 +185,8 @@ pub(crate) fn peek_double_quoted(text: &[u8], at: usize) -> bool
     true
 }
 
-// A place at or behind `from` before which all bytes are above the backslash, as most letters are: no string ends there.
-fn past_letters(text: &[u8], from: usize) -> usize
-    requires { ⌜ from ≤ length (now text) ⌝ }
-    ensures { λ r. ⌜ quoteEnd (now (text .entry)) 34 false r ≡ quoteEnd (now (text .entry)) 34 false from ⌝ }
-{
-    let mut i = from;
-    while text.len() - i >= 4 {
-        if text[i] <= 92 {
-            return i;
-        }
-        if text[i + 1] <= 92 {
-            return i + 1;
-        }
-        if text[i + 2] <= 92 {
-            return i + 2;
-        }
-        if text[i + 3] <= 92 {
-            return i + 3;
-        }
-        i += 4;
-    }
-    i
-}
-
-// A double-quoted string is needed where its opening mark stands. It ends at the place `from` or behind it.
-fn double_quoted(text: &[u8], at: usize, from: usize) -> Quoted
-    requires { ⌜ (at < length (now text)) × (getD (now text) at 0 ≡ 34) ⌝ }
-    requires { ⌜ quoteEnd (now text) 34 false from ≡ quoteEnd (now text) 34 false (at + 1) ⌝ }
-    ensures { λ r. ⌜ r ≡ quotedOf (need (now (text .entry)) doubleQuoted at) ⌝ }
-{
-    let start = at + 1;
-    let end = tokenizer::string_end(text, from, 34);
-    if end >= text.len() {
-        return Quoted::Refused(6);
-    }
-    if end <= start {
-        return Quoted::Refused(7);
-    }
-    Quoted::String(start, end - start, end + 1)
-}
-
-// A double-quoted string is needed, and read as a token.
-fn double_quoted_token(text: &[u8], at: usize) -> Quoted
+// A double-quoted string is needed.
+pub(crate) fn parse_double_quoted_string(text: &[u8], at: usize) -> Quoted
     ensures { λ r. ⌜ r ≡ quotedOf (need (now (text .entry)) doubleQuoted at) ⌝ }
 {
     let token = tokenizer::next_token(text, at);
@@ -241,18 +195,6 @@ fn double_quoted_token(text: &[u8], at: usize) -> Quoted
         return Quoted::Refused(refusal(kind));
     };
     Quoted::String(token.start, token.size, token.next)
-}
-
-// A double-quoted string is needed. Where its mark stands it is read at once.
-pub(crate) fn parse_double_quoted_string(text: &[u8], at: usize) -> Quoted
-    ensures { λ r. ⌜ r ≡ quotedOf (need (now (text .entry)) doubleQuoted at) ⌝ }
-{
-    let from = tokenizer::skip_spaces(text, at);
-    if starts(text, from, 34) {
-        let letters = past_letters(text, from + 1);
-        return double_quoted(text, from, letters);
-    }
-    double_quoted_token(text, at)
 }
 
 // A single-quoted string is needed.
@@ -495,7 +437,7 @@ fn parse_some(text: &[u8], at: usize) -> Quoted
             return Quoted::Refused(n);
         }
     };
-    match double_quoted_token(text, open) {
+    match parse_double_quoted_string(text, open) {
         Quoted::Refused(n) => Quoted::Refused(n),
         Quoted::String(start, size, behind) => match expect_token(text, behind, 41) {
             Step::Refused(n) => Quoted::Refused(n),
@@ -508,10 +450,6 @@ fn parse_some(text: &[u8], at: usize) -> Quoted
 fn parse_zone_string(text: &[u8], at: usize) -> Quoted
     ensures { λ r. ⌜ r ≡ zoneStep (zoneString (now (text .entry)) at) ⌝ }
 {
-    let from = tokenizer::skip_spaces(text, at);
-    if starts(text, from, 34) {
-        return double_quoted(text, from, from + 1);
-    }
     let token = tokenizer::next_token(text, at);
     let kind = token.kind;
     match kind {

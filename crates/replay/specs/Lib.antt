@@ -1,3 +1,4 @@
 pub mod PrintCase
 pub mod ReadCase
 pub mod Sample
+pub mod TableCase

@@ -53,33 +53,31 @@ struct PrintCase {
     next: usize,
 }
 
-// A stored table, but for its words: where text and name list stand and how long they are, how many words it has, and
-// the place behind it.
+// A stored table, but for its words: the text, the name list, how many words, and the place of the words.
 struct Table {
-    text: usize,
-    text_size: u32,
-    list: usize,
-    list_size: u32,
-    count: usize,
+    text: Number,
+    list: Number,
+    count: u32,
     next: usize,
 }
 
-// A stored case of a table: the word that is changed and its value; whether the table is then sound (1 or 0); status and
-// value of the depth and of the verdict; whether it equals the other (1 or 0); the name and the zone of the row that has
-// the word.
+// A stored answer: the status, and the value.
+struct Answer {
+    status: u32,
+    value: u32,
+}
+
+// A stored case of a table: the word that is changed and its value; whether the table is then sound (1 or 0); the depth
+// and the verdict; whether it equals the other (1 or 0); the name and the zone of the row that has the word.
 struct TableCase {
     place: u32,
     value: u32,
     sound: u32,
-    depth_status: u32,
-    depth: u32,
-    verdict_status: u32,
-    verdict: u32,
+    depth: Answer,
+    verdict: Answer,
     equal: u32,
-    name: usize,
-    name_size: u32,
-    zone: usize,
-    zone_size: u32,
+    name: Number,
+    zone: Number,
     next: usize,
 }
 

@@ -1,7 +1,12 @@
 // Replaying the sample of the row table. A group is a table, another that it is compared with, and cases: a word of the
 // first table, the value it is set to, and what is then to be answered.
-ghost use Prim.Native.Nat.{_≤_};
-ghost use lib.ListN.{length};
+ghost use mathlib.Core.Path.{_≡_};
+ghost use Prim.Native.Nat.{_*_, _/_};
+ghost use lib.ListN.{length, getD, set};
+ghost use Rattle.datatype.specs.Table.{rowWords};
+ghost use Rattle.row_table.specs.Layout.{verdictMeans};
+ghost use Rattle.replay.specs.TableCase.{tableAt, tableCaseAt, isVerdict, treeAlike, rowAlike, changeAlike, oneChange, changes, groupCases, groupOf, oneGroup, tableAll};
+use crate::Answer;
 use crate::Table;
 use crate::TableCase;
 use crate::Tally;
@@ -11,36 +16,34 @@ use crate::stored::least;
 use crate::stored::number_at;
 use crate::stored::part_at;
 use crate::stored::words_at;
+use datatype::Field;
 use datatype::rows::HOME;
 use datatype::rows::ROW_WORDS;
 use datatype::rows::SIZE;
 use datatype::rows::START;
 use datatype::rows::ZONE_SIZE;
 use datatype::rows::ZONE_START;
-use row_table::Depth;
 use row_table::Verdict;
 
-// A table, whose words go to a buffer.
-fn table_at(sample: &[u8], at: usize, words: &mut [u32]) -> Table
-    ensures { λ r. ⌜ r .count ≤ length (now (words .exit)) ⌝ }
+// What stands before the words of a table.
+fn table_at(sample: &[u8], at: usize) -> Table
+    ensures { λ r. ⌜ r ≡ tableAt (now (sample .entry)) at ⌝ }
 {
     let text = number_at(sample, at);
     let list = number_at(sample, after_part(sample, text.next, text.value));
     let count = number_at(sample, after_part(sample, list.next, list.value));
-    let n = least(count.value as usize, words.len());
-    let next = words_at(sample, count.next, &mut words[..n]);
     Table {
-        text: text.next,
-        text_size: text.value,
-        list: list.next,
-        list_size: list.value,
-        count: n,
-        next: next,
+        text: text,
+        list: list,
+        count: count.value,
+        next: count.next,
     }
 }
 
 // A case: the word, its value, and the answers.
-fn case_at(sample: &[u8], at: usize) -> TableCase {
+fn case_at(sample: &[u8], at: usize) -> TableCase
+    ensures { λ r. ⌜ r ≡ tableCaseAt (now (sample .entry)) at ⌝ }
+{
     let place = number_at(sample, at);
     let value = number_at(sample, place.next);
     let sound = number_at(sample, value.next);
@@ -55,21 +58,25 @@ fn case_at(sample: &[u8], at: usize) -> TableCase {
         place: place.value,
         value: value.value,
         sound: sound.value,
-        depth_status: depth_status.value,
-        depth: depth.value,
-        verdict_status: verdict_status.value,
-        verdict: verdict.value,
+        depth: Answer {
+            status: depth_status.value,
+            value: depth.value,
+        },
+        verdict: Answer {
+            status: verdict_status.value,
+            value: verdict.value,
+        },
         equal: equal.value,
-        name: name.next,
-        name_size: name.value,
-        zone: zone.next,
-        zone_size: zone.value,
+        name: name,
+        zone: zone,
         next: after_part(sample, zone.next, zone.value),
     }
 }
 
 // A word of a table; 0 past its end.
-fn word(words: &[u32], place: usize) -> u32 {
+fn word(words: &[u32], place: usize) -> u32
+    ensures { λ r. ⌜ r ≡ getD (now (words .entry)) place 0 ⌝ }
+{
     if place < words.len() {
         return words[place];
     }
@@ -77,38 +84,22 @@ fn word(words: &[u32], place: usize) -> u32 {
 }
 
 // Sets a word of a table, unless it is past its end.
-fn put(words: &mut [u32], place: usize, value: u32) {
+fn put(words: &mut [u32], place: usize, value: u32)
+    ensures { λ r. ⌜ now (words .exit) ≡ set (now (words .entry)) place value ⌝ }
+{
     if place < words.len() {
         words[place] = value;
     }
 }
 
-// Whether an answer of 1 for yes and 0 for no is this one.
-fn is_answer(yes: bool, answer: u32) -> bool {
-    if yes {
-        return answer == 1;
-    }
-    answer == 0
-}
-
-fn is_depth(depth: Depth, status: u32, levels: u32) -> bool {
-    match depth {
-        Depth::Levels(n) => {
-            if status == 0 {
-                return n == levels as usize;
-            }
-            false
-        }
-        Depth::Refused(n) => n == status,
-    }
-}
-
 // Whether a verdict is this one: the value is 0 for yes, else the row's number from 1.
-fn is_verdict(verdict: Verdict, status: u32, value: u32) -> bool {
+fn is_verdict(verdict: Verdict, status: u32, value: u32) -> bool
+    ensures { λ r. ⌜ r ≡ isVerdict (verdictMeans verdict) status value ⌝ }
+{
     match verdict {
         Verdict::Yes => {
             if status == 0 {
-                return value == 0;
+                return 0 == value;
             }
             false
         }
@@ -120,21 +111,38 @@ fn is_verdict(verdict: Verdict, status: u32, value: u32) -> bool {
             }
             false
         }
-        Verdict::Refused(n) => n == status,
+        Verdict::Refused(n) => {
+            if n == status {
+                return 0 == value;
+            }
+            false
+        }
     }
 }
 
 // Whether a table is sound or not, and has the depth and the verdict, as a case says.
-fn tree_alike(text: &[u8], list: &[u8], words: &[u32], case: TableCase) -> bool {
-    if !is_answer(row_table::is_sound(text, list, words), case.sound) {
+fn tree_alike(text: &[u8], list: &[u8], words: &[u32], case: TableCase) -> bool
+    ensures { λ r. ⌜ r ≡ treeAlike (now (text .entry)) (now (list .entry)) (now (words .entry)) case ⌝ }
+{
+    if arrow_types::arrow_types_is_sound(text, list, words) != case.sound {
         return false;
     }
-    let depth = row_table::levels::depth(text, list, words);
-    if !is_depth(depth, case.depth_status, case.depth) {
+    let mut depth: usize = 0;
+    if arrow_types::arrow_types_depth(text, list, words, &mut depth) != case.depth.status {
+        return false;
+    }
+    if depth != case.depth.value as usize {
         return false;
     }
     let verdict = row_table::layout::verdict(text, list, words);
-    is_verdict(verdict, case.verdict_status, case.verdict)
+    is_verdict(verdict, case.verdict.status, case.verdict.value)
+}
+
+// Where the row of a word begins.
+fn row_of(place: u32) -> usize
+    ensures { λ r. ⌜ r ≡ rowWords * (place / rowWords) ⌝ }
+{
+    ROW_WORDS * (place as usize / ROW_WORDS)
 }
 
 // Whether the name and the zone of the row that has the word are as a case says.
@@ -145,42 +153,48 @@ fn row_alike<'a>(
     place: u32,
     name: &[u8],
     zone: &[u8],
-) -> bool {
-    let row = place as usize / ROW_WORDS * ROW_WORDS;
-    let home = word(words, row + HOME);
-    let start = word(words, row + START);
-    let a = datatype::name(text, list, home, start, word(words, row + SIZE));
-    if !datatype::equal_bytes(a, name) {
+) -> bool
+    ensures { λ r. ⌜ r ≡ rowAlike (now (text .entry)) (now (list .entry)) (now (words .entry)) place (now (name .entry)) (now (zone .entry)) ⌝ }
+{
+    let row = row_of(place);
+    let field = Field {
+        home: word(words, row + HOME),
+        start: word(words, row + START),
+        size: word(words, row + SIZE),
+    };
+    if !datatype::equal_bytes(field.name(text, list), name) {
         return false;
     }
     let zone_start = word(words, row + ZONE_START);
-    let b = datatype::zone(text, zone_start, word(words, row + ZONE_SIZE));
-    datatype::equal_bytes(b, zone)
+    let zone_size = word(words, row + ZONE_SIZE);
+    datatype::equal_bytes(datatype::zone(text, zone_start, zone_size), zone)
 }
 
 // Whether a table, changed as a case says, gives all that it says; other is the table that it is compared with.
 fn alike(
     sample: &[u8],
-    case: TableCase,
     table: Table,
     words: &[u32],
     other: Table,
     others: &[u32],
-) -> bool {
-    let text = part_at(sample, table.text, table.text_size);
-    let list = part_at(sample, table.list, table.list_size);
+    case: TableCase,
+) -> bool
+    ensures { λ r. ⌜ r ≡ changeAlike (now (sample .entry)) table (now (words .entry)) other (now (others .entry)) case ⌝ }
+{
+    let text = part_at(sample, table.text.next, table.text.value);
+    let list = part_at(sample, table.list.next, table.list.value);
     if !tree_alike(text, list, words, case) {
         return false;
     }
-    let name = part_at(sample, case.name, case.name_size);
-    let zone = part_at(sample, case.zone, case.zone_size);
+    let name = part_at(sample, case.name.next, case.name.value);
+    let zone = part_at(sample, case.zone.next, case.zone.value);
     if !row_alike(text, list, words, case.place, name, zone) {
         return false;
     }
-    let text2 = part_at(sample, other.text, other.text_size);
-    let list2 = part_at(sample, other.list, other.list_size);
-    let equal = row_table::equal_trees(text, list, words, text2, list2, others);
-    is_answer(equal, case.equal)
+    let text2 = part_at(sample, other.text.next, other.text.value);
+    let list2 = part_at(sample, other.list.next, other.list.value);
+    let equal = arrow_types::arrow_types_equal(text, list, words, text2, list2, others);
+    equal == case.equal
 }
 
 // The tally with the case that stands behind it. The table is left as it was.
@@ -191,12 +205,15 @@ fn one_case(
     words: &mut [u32],
     other: Table,
     others: &[u32],
-) -> Tally {
+) -> Tally
+    ensures tally { λ r. ⌜ r ≡ oneChange (now (sample .entry)) table (now (words .entry)) other (now (others .entry)) t ⌝ }
+    ensures words { λ r. ⌜ now (words .exit) ≡ now (words .entry) ⌝ }
+{
     let case = case_at(sample, t.next);
     let place = case.place as usize;
     let old = word(words, place);
     put(words, place, case.value);
-    let good = alike(sample, case, table, words, other, others);
+    let good = alike(sample, table, words, other, others, case);
     put(words, place, old);
     counted(t, good, case.next)
 }
@@ -210,7 +227,9 @@ fn cases_of(
     words: &mut [u32],
     other: Table,
     others: &[u32],
-) -> Tally {
+) -> Tally
+    ensures { λ r. ⌜ r ≡ changes (now (sample .entry)) table (now (words .entry)) other (now (others .entry)) cases start ⌝ }
+{
     let mut t = start;
     let mut left = cases;
     while 0 < left {
@@ -220,32 +239,51 @@ fn cases_of(
     t
 }
 
-// The tally with the group that stands behind it.
-fn one_group(sample: &[u8], t: Tally, words: &mut [u32], others: &mut [u32]) -> Tally {
-    let table = table_at(sample, t.next, words);
-    let other = table_at(sample, table.next, others);
-    let cases = number_at(sample, other.next);
+// The tally with the cases of two tables, the second of so many words.
+fn group_cases(
+    sample: &[u8],
+    t: Tally,
+    table: Table,
+    words: &mut [u32],
+    other: Table,
+    others: &mut [u32],
+) -> Tally
+    ensures { λ r. ⌜ r ≡ groupCases (now (sample .entry)) table (now (words .entry)) other (length (now (others .entry))) t ⌝ }
+{
+    let next = words_at(sample, other.next, others);
+    let cases = number_at(sample, next);
     let start = Tally {
         all: t.all,
         alike: t.alike,
         first: t.first,
         next: cases.next,
     };
-    let n = table.count;
-    let m = other.count;
-    cases_of(
-        sample,
-        start,
-        cases.value,
-        table,
-        &mut words[..n],
-        other,
-        &others[..m],
-    )
+    cases_of(sample, start, cases.value, table, words, other, others)
+}
+
+// The tally with the group of a table of so many words.
+fn group_of(sample: &[u8], t: Tally, table: Table, words: &mut [u32], others: &mut [u32]) -> Tally
+    ensures { λ r. ⌜ r ≡ groupOf (now (sample .entry)) table (length (now (words .entry))) (length (now (others .entry))) t ⌝ }
+{
+    let next = words_at(sample, table.next, words);
+    let other = table_at(sample, next);
+    let count = least(other.count as usize, others.len());
+    group_cases(sample, t, table, words, other, &mut others[..count])
+}
+
+// The tally with the group that stands behind it.
+fn one_group(sample: &[u8], t: Tally, words: &mut [u32], others: &mut [u32]) -> Tally
+    ensures { λ r. ⌜ r ≡ oneGroup (now (sample .entry)) (length (now (words .entry))) (length (now (others .entry))) t ⌝ }
+{
+    let table = table_at(sample, t.next);
+    let count = least(table.count as usize, words.len());
+    group_of(sample, t, table, &mut words[..count], others)
 }
 
 // The tally of a whole sample.
-pub(crate) fn all(sample: &[u8], words: &mut [u32], others: &mut [u32]) -> Tally {
+pub(crate) fn all(sample: &[u8], words: &mut [u32], others: &mut [u32]) -> Tally
+    ensures { λ r. ⌜ r ≡ tableAll (now (sample .entry)) (length (now (words .entry))) (length (now (others .entry))) ⌝ }
+{
     let n = number_at(sample, 0);
     let mut t = Tally {
         all: 0,

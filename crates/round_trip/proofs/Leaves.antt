@@ -8,7 +8,7 @@ use lib.ListN.{length, drop}
 use lib.Dec.{T, ltb}
 use borrow.Author.Tests.{ltb-true, ltb-false}
 use Rattle.tokenizer.specs.Text.{bytes, all, if_then_else_}
-use Rattle.tokenizer.specs.Answer.{Out, done}
+use Rattle.tokenizer.specs.Answer.{Out, done, refuse}
 use Rattle.tokenizer.specs.Words.{words}
 use Rattle.tokenizer.specs.Token.{isSeparator, isDigit, valueOf, timeUnit, intervalUnit, doubleQuoted, rparen, noneWord, someWord}
 use Rattle.tokenizer.proofs.Basics.{skip, is-true}
@@ -128,57 +128,70 @@ module _ (text : List ℕ) where
         (number-read text 0 (2 ^ 31 - 1) valueOf (l .param) (at + 1) (at + 1) (l .param) (41 ∷ rest) (omega arith) (omega arith) refl (mark-stop rest)
         (look-here text (at + 1) _ (skip 1 at text _ e ∙ append-assoc (digits (l .param)) (41 ∷ []) rest)))
 
-    -- ---- decimals
+  -- ---- decimals of any kind: precision and scale are judged behind the mark
 
-    decimal-step : (t t₂ : List ℕ) → ShapeRow decimal l kids → drop at text ≡ 40 ∷ t → (n : NumberRead text 0 255 (at + 1) valueOf (l .param) (44 ∷ t₂))
-        → NumberRead text 128 127 (n .token .next + 1) scaleOf (l .scale) (41 ∷ rest)
-        → TreeRead text (decimalAt text (l .kind) at) (bareLabel l) kids rest
-    unfolding rulesOf shapeFits decimalAt scaleAt
-    decimal-step t t₂ h e n s =
-        plain-row l kids (h .arity) (no-zone l (h .zone)) _ (l .param) (l .scale) (s .token .next + 1) rest refl refl
-        (rw (
-          need-lparen text at t e,
-          n .reads,
-          need-comma text (n .token .next) t₂ (n .after),
-          s .reads,
-          n .value,
-          s .value,
-          closes text (bareRow (l .kind) (l .param) (l .scale) 0 0) ∅ (s .token .next) rest (s .after),
-          is-true (decimalFits (l .kind) (l .param) (l .scale)) (h .shape),
-        ))
-        (skip 1 (s .token .next) text (41 ∷ rest) (s .after))
+  -- the text of a precision and a scale, read as the row of a kind, or refused
+  pub record DecimalRead (k p s at : ℕ) (rest : List ℕ) : Type 0 where
+    pub next : ℕ
+    pub reads : decimalAt text k at ≡ (if decimalFits k p s then done (record { row = bareRow k p s 0 0; kids = ∅; next = next }) else refuse 12)
+    pub after : drop next text ≡ rest
 
-    scale-read : (from p : ℕ) → l .scale < 256 → Look text from p (scaleText (l .scale) ++ (41 ∷ rest))
-        → NumberRead text 128 127 from scaleOf (l .scale) (41 ∷ rest)
-    unfolding scaleText
-    scale-read from p lt = go (ltb (l .scale) 128) refl
-      where
-        go : (b : Bool) → ltb (l .scale) 128 ≡ b
-            → Look text from p ((if b then (45 ∷ digits (128 - l .scale)) else digits (l .scale - 128)) ++ (41 ∷ rest))
-            → NumberRead text 128 127 from scaleOf (l .scale) (41 ∷ rest)
-        go true e k =
-            let h : l .scale < 128 = ltb-true (l .scale) 128 e in
-            minus-read text 128 127 scaleOf (128 - l .scale) from p (l .scale) (41 ∷ rest) (omega arith) (omega arith) (omega arith) (mark-stop rest) k
-        go false e k =
-            let h : 128 ≤ l .scale = ltb-false (l .scale) 128 e in
-            number-read text 128 127 scaleOf (l .scale - 128) from p (l .scale) (41 ∷ rest) (omega arith) (omega arith) (omega arith) (mark-stop rest) k
+  scale-read : (s from p : ℕ) (rest : List ℕ) → s < 256 → Look text from p (scaleText s ++ (41 ∷ rest)) → NumberRead text 128 127 from scaleOf s (41 ∷ rest)
+  unfolding scaleText
+  scale-read s from p rest lt = go (ltb s 128) refl
+    where
+      go : (b : Bool) → ltb s 128 ≡ b → Look text from p ((if b then (45 ∷ digits (128 - s)) else digits (s - 128)) ++ (41 ∷ rest))
+          → NumberRead text 128 127 from scaleOf s (41 ∷ rest)
+      go true e k =
+          let h : s < 128 = ltb-true s 128 e in
+          minus-read text 128 127 scaleOf (128 - s) from p s (41 ∷ rest) (omega arith) (omega arith) (omega arith) (mark-stop rest) k
+      go false e k =
+          let h : 128 ≤ s = ltb-false s 128 e in
+          number-read text 128 127 scaleOf (s - 128) from p s (41 ∷ rest) (omega arith) (omega arith) (omega arith) (mark-stop rest) k
 
-    pub decimal-read : ShapeRow decimal l kids → drop at text ≡ shapeText decimal l (shown kids) ++ rest
-        → TreeRead text (decimalAt text (l .kind) at) (bareLabel l) kids rest
-    unfolding rulesOf shapeText
-    decimal-read h e =
-        let p : l .param < 256 = h .param in
+  module _ (k p s at : ℕ) (rest : List ℕ) where
+    decimal-step : (t t₂ : List ℕ) → drop at text ≡ 40 ∷ t → (n : NumberRead text 0 255 (at + 1) valueOf p (44 ∷ t₂))
+        → NumberRead text 128 127 (n .token .next + 1) scaleOf s (41 ∷ rest) → DecimalRead k p s at rest
+    unfolding decimalAt scaleAt
+    decimal-step t t₂ e n m =
+        record {
+          next = m .token .next + 1;
+          reads =
+              rw (
+                need-lparen text at t e,
+                n .reads,
+                need-comma text (n .token .next) t₂ (n .after),
+                m .reads,
+                n .value,
+                m .value,
+                closes text (bareRow k p s 0 0) ∅ (m .token .next) rest (m .after),
+              );
+          after = skip 1 (m .token .next) text (41 ∷ rest) (m .after);
+        }
+
+    pub decimal-any : p < 256 → s < 256 → drop at text ≡ (bytes "(" ++ (digits p ++ (bytes ", " ++ (scaleText s ++ bytes ")")))) ++ rest → DecimalRead k p s at rest
+    decimal-any h j e =
         precise
-        (number-read text 0 255 valueOf (l .param) (at + 1) (at + 1) (l .param) (44 ∷ 32 ∷ tail) (omega arith) (omega arith) refl (comma-stop (32 ∷ tail))
-        (look-here text (at + 1) _ (skip 1 at text _ e ∙ append-assoc (digits (l .param)) _ rest ∙ ap (λ (r : List ℕ). digits (l .param) ++ (44 ∷ 32 ∷ r)) (append-assoc (scaleText (l .scale)) (41 ∷ []) rest))))
+        (number-read text 0 255 valueOf p (at + 1) (at + 1) p (44 ∷ 32 ∷ tail) (omega arith) (omega arith) refl (comma-stop (32 ∷ tail))
+        (look-here text (at + 1) _ (skip 1 at text _ e ∙ append-assoc (digits p) _ rest ∙ ap (λ (r : List ℕ). digits p ++ (44 ∷ 32 ∷ r)) (append-assoc (scaleText s) (41 ∷ []) rest))))
       where
         tail : List ℕ
-        tail = scaleText (l .scale) ++ (41 ∷ rest)
+        tail = scaleText s ++ (41 ∷ rest)
 
-        precise : NumberRead text 0 255 (at + 1) valueOf (l .param) (44 ∷ 32 ∷ tail) → TreeRead text (decimalAt text (l .kind) at) (bareLabel l) kids rest
+        precise : NumberRead text 0 255 (at + 1) valueOf p (44 ∷ 32 ∷ tail) → DecimalRead k p s at rest
         precise n =
-            decimal-step _ (32 ∷ tail) h e n
-            (scale-read (n .token .next + 1) (n .token .next + 1 + 1) (h .scale) (look-space text (n .token .next + 1) tail (skip 1 (n .token .next) text (44 ∷ 32 ∷ tail) (n .after))))
+            decimal-step _ (32 ∷ tail) e n
+            (scale-read s (n .token .next + 1) (n .token .next + 1 + 1) rest j (look-space text (n .token .next + 1) tail (skip 1 (n .token .next) text (44 ∷ 32 ∷ tail) (n .after))))
+
+  pub decimal-read : (l : Label) (kids : Forest Label) (at : ℕ) (rest : List ℕ) → ShapeRow decimal l kids → drop at text ≡ shapeText decimal l (shown kids) ++ rest
+      → TreeRead text (decimalAt text (l .kind) at) (bareLabel l) kids rest
+  unfolding rulesOf shapeFits shapeText
+  decimal-read l kids at rest h e = fits (decimal-any (l .kind) (l .param) (l .scale) at rest (h .param) (h .scale) e)
+    where
+      fits : DecimalRead (l .kind) (l .param) (l .scale) at rest → TreeRead text (decimalAt text (l .kind) at) (bareLabel l) kids rest
+      fits d =
+          plain-row l kids (h .arity) (no-zone l (h .zone)) _ (l .param) (l .scale) (d .next) rest refl refl
+          (d .reads ∙ rw (is-true (decimalFits (l .kind) (l .param) (l .scale)) (h .shape))) (d .after)
 
   -- ---- Timestamp(unit[, "zone"])
 

@@ -9,6 +9,7 @@ pub mod Items
 pub mod Pairs
 pub mod Parents
 pub mod ReadBack
+pub mod Alike
 pub mod Printed
 pub mod RoundTrip
 pub mod Buffers

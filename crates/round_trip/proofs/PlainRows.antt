@@ -1,12 +1,13 @@
 -- Sound trees with plain names and zones, row by row: what the round trip starts from.
 use mathlib.Core.Path.{_≡_, refl, sym}
 use mathlib.Core.Bool.{Bool, false, _&&_, _||_}
+use mathlib.Core.Logic.{_⊎_, inl, inr}
 use mathlib.Core.List.{List, [], _∷_}
 use Prim.Native.Nat.{ℕ, _<_}
 use lib.ListN.{length}
 use lib.Dec.{T, eqb, ltb→lt, eqb→eq}
 use Rattle.tokenizer.specs.Text.{all, isEmpty}
-use Rattle.tokenizer.proofs.Basics.{and-l, and-r}
+use Rattle.tokenizer.proofs.Basics.{and-l, and-r, both}
 use Rattle.datatype.specs.Kind.{Shape, kinds, shapeOf}
 use Rattle.datatype.specs.Tree.{Forest, ∅, node, roots, Label}
 use Rattle.row_table.specs.Sound.{Place, bare, field, unionField, arityFits, roleFits, idFits, isName, nameFits, rulesOf, zoneFits, shapeFits, rowsFit}
@@ -33,6 +34,22 @@ pub plain-parts : (l : Label) (kids next : Forest Label) → T (allPlain (node l
     → T (all isPlain (l .name)) × T (all isPlain (l .zone)) × T (allPlain kids) × T (allPlain next)
 unfolding allPlain
 plain-parts l kids next p = four (all isPlain (l .name)) (all isPlain (l .zone)) (allPlain kids) (allPlain next) p
+
+-- the other way round: a tree is plain if the name and the zone of each of its rows are
+abbrev pub In : Label → Forest Label → Type 0
+In l ∅ = ⊥
+In l (node m kids next) = (l ≡ m) ⊎ (In l kids ⊎ In l next)
+
+pub rows-plain : (f : Forest Label) → ((l : Label) → In l f → T (all isPlain (l .name)) × T (all isPlain (l .zone))) → T (allPlain f)
+unfolding allPlain
+rows-plain ∅ h = tt
+rows-plain (node l kids next) h =
+    let r = h l (inl refl) in
+    let a : Bool = all isPlain (l .name) in
+    let b : Bool = all isPlain (l .zone) in
+    both (a && b && allPlain kids) (allPlain next)
+    (both (a && b) (allPlain kids) (both a b (r .0) (r .1)) (rows-plain kids (λ m i. h m (inr (inl i)))))
+    (rows-plain next (λ m i. h m (inr (inr i))))
 
 pub plain-rows : (place : Place) (f : Forest Label) → T (rowsFit place f) → T (allPlain f) → PlainRows place f
 plain-rows place ∅ h p = tt

@@ -85,7 +85,7 @@ pub record WholeRead (tree : Forest Label) (rows : ℕ) : Type 0 where
   pub reads : length (display tree) ≤ 16384 → isUtf8 (display tree) ≡ true → parse (display tree) rows ≡ done back
   pub says : labels (display tree) nameList back ≡ tree
 
-over : (text : List ℕ) (at : ℕ) → drop at text ≡ [] → textOver text at ≡ true
+pub over : (text : List ℕ) (at : ℕ) → drop at text ≡ [] → textOver text at ≡ true
 unfolding textOver tokenFrom
 over text at e =
     let t : tokenAt text at ≡ token (Refused 5) at 0 = look-here text at [] e .token in

@@ -1,6 +1,7 @@
 -- `print_and_read`: what its two calls say, put together, and demand 3 of them.
 --   demand3          under demand 3's conditions the answer and both buffers are what the demand says
---   large-buffers    16,384 bytes and 1,024 rows hold the text and the rows of every tree that it speaks of
+--   demand3-asks     its conditions in its own words: a tree that it speaks of, an output that holds the printed text, 1,024 rows lent
+--   large-buffers    16,384 bytes hold the printed text of every such tree
 --   never-one-text   two such trees that are not equal never get one text
 use mathlib.Core.Path.{_≡_, sym, ap, _∙_}
 use mathlib.Core.Bool.{false}
@@ -70,10 +71,13 @@ module _ (text names table out back : List ℕ) where
   demand3 answer out′ back′ a o b asks =
       let s : List ℕ = printed text names table in
       let n : ℕ = count (treeOf text names table) in
-      let p : print text names table (length out) ≡ done s = prints text names table (length out) (asks .tree) (asks .bytes) in
+      let short = conditions text names table (asks .tree) .short in
+      let room = asks .bytes in
+      let fits : length s ≤ length out = omega arith in
+      let p : print text names table (length out) ≡ done s = prints text names table (length out) (asks .tree) fits in
       let r : ReadAnswer text names table back = read-answer text names table back (asks .tree) (asks .rows) in
       let answers : answer ≡ tree (length s) n = rw (a, p, r .answer) in
-      let start : take (length s) out′ ≡ s = ap (take (length s)) o ∙ print-start text names table out (asks .tree) (asks .bytes) in
+      let start : take (length s) out′ ≡ s = ap (take (length s)) o ∙ print-start text names table out (asks .tree) fits in
       let rows : back′ ≡ parseRows s back = rw (b, p) in
       record {
         answers = answers;
@@ -118,13 +122,17 @@ module _ (text names table out back : List ℕ) where
           let g : parseAnswer (take n out′) back ≡ done m = sym f ∙ ap parsedMeans k in
           rewrites (Tree n m) out′ back′ (rw (t .is, g, t .size)) o (rw (t .is, b))
 
-  -- ---- buffers that are always large enough
+  -- ---- its conditions
 
-  pub large-buffers : T (inDemand3 text names table) → 16384 ≤ length out → rowWords * 1024 ≤ length back → Asks3 text names table out back
-  large-buffers h l k =
-      let short = conditions text names table h .short in
+  -- demand 3's own words
+  pub demand3-asks : T (inDemand3 text names table) → length (printed text names table) ≤ length out → rowWords * 1024 ≤ length back → Asks3 text names table out back
+  demand3-asks h l k =
       let few = round-trip text names table h .few in
       record { tree = h; bytes = omega arith; rows = omega arith }
+
+  -- buffers that are always large enough
+  pub large-buffers : T (inDemand3 text names table) → 16384 ≤ length out → rowWords * 1024 ≤ length back → Asks3 text names table out back
+  large-buffers h l k = let short = conditions text names table h .short in demand3-asks h (omega arith) k
 
 -- ---- two trees
 

@@ -1,4 +1,5 @@
 -- Demand 3 on the definitions. For every text, name list and table that meet its conditions (`inDemand3`):
+--   in-demand3      which are: a sound tree, plain names and zones, a printed text of at most 16,384 bytes
 --   round-trip      the printed text is accepted, with any number of rows lent that holds the tree, and the tree that is
 --                   read is sound and says the same as the one printed: it has as many rows, and the two are equal trees
 --   printed-utf8    the printed text is UTF-8
@@ -13,12 +14,13 @@ use native.Mathlib.Omega.{arith}
 use lib.ListN.{length}
 use lib.Dec.{T, leb, leb→le, le→leb}
 use borrow.Author.Tests.{le-leb}
+use Rattle.tokenizer.specs.Text.{all}
 use Rattle.tokenizer.specs.Answer.{Out, done}
 use Rattle.tokenizer.specs.Utf8.{isUtf8}
 use Rattle.tokenizer.proofs.Basics.{and-l, and-r, both, is-true}
 use Rattle.datatype.specs.Tree.{Forest, ∅, node, count, depth, Row, Label, nameList, labelOf, labels}
 use Rattle.datatype.specs.Table.{tableOf, treeOf}
-use Rattle.row_table.specs.Sound.{bare, isSound}
+use Rattle.row_table.specs.Sound.{bare, rowsFit, isSound}
 use Rattle.row_table.specs.Equal.{equalTrees}
 use Rattle.datatype.proofs.Table.{table-view}
 use Rattle.row_table.proofs.SoundTree.{SoundTree, sound-tree, sound-labels}
@@ -30,10 +32,11 @@ use Rattle.datatype_parse.proofs.MoreRows.{more-rows}
 use Rattle.datatype_parse.proofs.ReadSound.{read-sound}
 use Rattle.datatype_display.specs.Display.{display}
 use Rattle.datatype_display.specs.Print.{quotedAscii, print}
-use Rattle.round_trip.specs.Plain.{allPlain, isPlainTree, printed, inDemand3}
-use Rattle.round_trip.proofs.PlainRows.{PlainRows, plain-rows}
+use Rattle.datatype_display.proofs.PrintedUtf8.{display-utf8}
+use Rattle.round_trip.specs.Plain.{isPlain, allPlain, isPlainTree, printed, inDemand3}
+use Rattle.round_trip.proofs.PlainRows.{PlainRows, In, rows-plain, plain-rows}
 use Rattle.round_trip.proofs.ReadBack.{WholeRead, whole-read}
-use Rattle.round_trip.proofs.Printed.{display-utf8, plain-quoted}
+use Rattle.round_trip.proofs.Printed.{plain-quoted}
 
 -- ---- the conditions, taken apart
 
@@ -66,14 +69,16 @@ conditions text names table h =
       short = leb→le (length (printed text names table)) 16384 (and-r (a && b) c h);
     }
 
--- the other way round: a sound tree, plain names and zones, a printed text that is not too long
-pub in-demand3 : (text names table : List ℕ) → T (isSound text names table) → T (isPlainTree text names table) → length (printed text names table) ≤ 16384
-    → T (inDemand3 text names table)
-unfolding inDemand3
+-- the other way round, and no more is asked: a sound tree, names and zones that are plain, row by row, and a printed text
+-- that is not too long
+pub in-demand3 : (text names table : List ℕ) → T (isSound text names table)
+    → ((l : Label) → In l (treeOf text names table) → T (all isPlain (l .name)) × T (all isPlain (l .zone)))
+    → length (printed text names table) ≤ 16384 → T (inDemand3 text names table)
+unfolding inDemand3 isPlainTree
 in-demand3 text names table s p l =
     let a : Bool = isSound text names table in
-    let b : Bool = isPlainTree text names table in
-    both (a && b) (leb (length (printed text names table)) 16384) (both a b s p) (le→leb (length (printed text names table)) 16384 l)
+    let b : Bool = allPlain (treeOf text names table) in
+    both (a && b) (leb (length (printed text names table)) 16384) (both a b s (rows-plain (treeOf text names table) p)) (le→leb (length (printed text names table)) 16384 l)
 
 module _ (text names table : List ℕ) (c : Conditions text names table) where
   abbrev rootRow : Row
@@ -84,6 +89,11 @@ module _ (text names table : List ℕ) (c : Conditions text names table) where
 
   says : treeOf text names table ≡ labels text names (node rootRow kidRows ∅)
   says = sound-labels text names table (c .tree)
+
+  tree-utf8 : T (isUtf8 (printed text names table))
+  tree-utf8 =
+      let f : Forest Label = treeOf text names table in
+      display-utf8 bare f (subst (λ (g : Forest Label). T (rowsFit bare g)) (sym says) (c .tree .fits)) (plain-quoted f (c .plain))
 
   pub plain-tree : PlainTree (treeOf text names table)
   unfolding labels
@@ -105,9 +115,6 @@ module _ (tree : Forest Label) (p : PlainTree tree) where
   tree-read rows enough =
       let e : count (node (p .root) (p .kids) ∅) ≤ rows = subst (λ (f : Forest Label). count f ≤ rows) (p .one) enough in
       subst (λ (f : Forest Label). WholeRead f rows) (sym (p .one)) (whole-read (p .root) (p .kids) rows (p .rows) (p .levels) (omega arith))
-
-  tree-utf8 : T (isUtf8 (display tree))
-  tree-utf8 = subst (λ (f : Forest Label). T (isUtf8 (display f))) (sym (p .one)) (display-utf8 bare (p .root) (p .kids) (p .rows))
 
   tree-few : count tree ≤ 1024
   tree-few = subst (λ (f : Forest Label). count f ≤ 1024) (sym (p .one)) (let h = p .few in omega arith)
@@ -134,7 +141,7 @@ module _ (text names table : List ℕ) (c : Conditions text names table) where
 
   with-tree : (p : PlainTree tree) → WholeRead tree (count tree) → RoundTrip text names table
   with-tree p w =
-      let first : parse (display tree) (count tree) ≡ done (w .back) = w .reads (c .short) (is-true (isUtf8 (display tree)) (tree-utf8 tree p)) in
+      let first : parse (display tree) (count tree) ≡ done (w .back) = w .reads (c .short) (is-true (isUtf8 (display tree)) (tree-utf8 text names table c)) in
       let lent : parse (display tree) 1024 ≡ done (w .back) = more-rows (display tree) (count tree) 1024 (w .back) (tree-few tree p) first in
       let f : Forest Row = node (c .tree .root) (c .tree .kids) ∅ in
       let same : labels (display tree) nameList (w .back) ≡ labels text names f = w .says ∙ sound-labels text names table (c .tree) in
@@ -161,7 +168,7 @@ round-trip text names table h = go (conditions text names table h)
 -- ---- the printed text
 
 pub printed-utf8 : (text names table : List ℕ) → T (inDemand3 text names table) → T (isUtf8 (printed text names table))
-printed-utf8 text names table h = tree-utf8 (treeOf text names table) (plain-tree text names table (conditions text names table h))
+printed-utf8 text names table h = tree-utf8 text names table (conditions text names table h)
 
 pub prints : (text names table : List ℕ) (room : ℕ) → T (inDemand3 text names table) → length (printed text names table) ≤ room
     → print text names table room ≡ done (printed text names table)

@@ -1,4 +1,5 @@
--- Texts to try (document 01): those marked P, and some more, given by the definitions with 1,024 rows lent.
+-- Texts to try (document 01): those marked P, and some more, given by the definitions with 1,024 rows and 16,384 output
+-- bytes lent.
 use mathlib.Core.Path.{_≡_, refl}
 use mathlib.Core.Bool.{Bool, true, false, _&&_}
 use mathlib.Core.List.{List, [], _∷_}
@@ -7,12 +8,13 @@ use Prim.Native.String.{String}
 use lib.Dec.{eqb}
 use Rattle.tokenizer.specs.Text.{bytes, same}
 use Rattle.tokenizer.specs.Answer.{Out, refused, done}
-use Rattle.datatype.specs.Tree.{Forest, Row, count, nameList, labels}
+use Rattle.datatype.specs.Tree.{Forest, Row, count, nameList}
+use Rattle.datatype.specs.Table.{tableOf}
 use Rattle.row_table.specs.Parents.{parentColumn}
 use Rattle.datatype_parse.specs.Computed as parser
 use Rattle.datatype_parse.specs.Parse.{parse}
 use Rattle.datatype_display.specs.Computed as printer
-use Rattle.datatype_display.specs.Display.{display}
+use Rattle.datatype_display.specs.Print.{print}
 
 -- What is expected of a text: a number of rows, a refusal, or a printed text.
 pub data Expected : Type 0 where
@@ -28,13 +30,18 @@ infix 70 _gives_
 abbrev pub _gives_ : String → Expected → Example
 s gives e = record { text = s; expected = e }
 
+-- The printer gives just this text.
+abbrev pub printsAs : Out (List ℕ) → List ℕ → Bool
+printsAs (refused r) s = false
+printsAs (done t) s = same t s
+
 abbrev pub meets : List ℕ → Out (Forest Row) → Expected → Bool
 meets text (refused r) (rows n) = false
 meets text (refused r) (refusal n) = eqb (r .number) n
 meets text (refused r) (prints s) = false
 meets text (done f) (rows n) = eqb (count f) n
 meets text (done f) (refusal n) = false
-meets text (done f) (prints s) = same (display (labels text nameList f)) (bytes s)
+meets text (done f) (prints s) = printsAs (print text nameList (tableOf f) 16384) (bytes s)
 
 abbrev pub allMeet : List Example → Bool
 allMeet [] = true
@@ -74,6 +81,7 @@ further =
     ∷ "FixedSizeBinary(-0)" gives prints "FixedSizeBinary(0)"
     ∷ "Union(Sparse, -0: (\"a\": Int8), 007: (\"b\": non-null Utf8))" gives prints "Union(Sparse, 0: (\"a\": Int8), 7: (\"b\": non-null Utf8))"
     ∷ "Union(Dense, -1: (\"a\": Int8))" gives refusal 15
+    ∷ "Union(Dense, 0: (\"a\": Int8), 0: (\"b\": Int8" gives refusal 5
     ∷ "Struct(\"slot\": non-null Timestamp(Second), \"kwh\": Decimal64(12, 3),)" gives prints "Struct(\"slot\": non-null Timestamp(s), \"kwh\": Decimal64(12, 3))"
     ∷ "FixedSizeList(4, Int32)" gives prints "FixedSizeList(4 x Int32)"
     ∷ "FixedSizeList(4 x non-null Int32, field: 'q')" gives prints "FixedSizeList(4 x non-null Int32, field: 'q')"

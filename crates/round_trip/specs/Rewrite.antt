@@ -55,7 +55,7 @@ rewriteRows text names table out back = rowsTo back (print text names table (len
 -- ---- demand 3
 
 -- Its conditions on the two calls: a tree that it speaks of, and buffers that hold the printed text and the tree's rows.
--- 16,384 bytes and 1,024 rows always do (`large-buffers` in proofs/Rewrite.antt).
+-- 1,024 rows always hold these (`demand3-asks` in proofs/Rewrite.antt), and 16,384 bytes the text (`large-buffers`).
 pub record Asks3 (text names table out back : List ℕ) : Type 0 where
   pub tree : T (inDemand3 text names table)
   pub bytes : length (printed text names table) ≤ length out

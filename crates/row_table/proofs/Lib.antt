@@ -13,6 +13,7 @@ pub mod IdLaws
 pub mod ChildLaws
 pub mod SoundLaws
 pub mod LevelLaws
+pub mod LevelWalk
 pub mod EqualLaws
 pub mod RowList
 pub mod LayoutLaws

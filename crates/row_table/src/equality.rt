@@ -1,13 +1,14 @@
 // Equal trees: equal words 0 to 5, equal name bytes and equal zone bytes, row by row.
 ghost use mathlib.Core.Path.{_≡_};
 ghost use Prim.Native.Nat.{_+_, _*_, _≤_};
-ghost use lib.ListN.{length, take, drop};
-ghost use Rattle.datatype.specs.Table.{rowWords};
+ghost use lib.ListN.{length, take, drop, getD};
+ghost use Rattle.datatype.specs.Tree.{labelOf, zoneOf};
+ghost use Rattle.datatype.specs.Table.{rowWords, rowOf};
 ghost use Rattle.row_table.specs.Equal.{equalRow, equalTrees};
 use crate::rows::word;
+use datatype::Field;
 use datatype::equal_bytes;
 use datatype::equal_words;
-use datatype::name;
 use datatype::rows::HOME;
 use datatype::rows::ROW_WORDS;
 use datatype::rows::SIZE;
@@ -15,6 +16,27 @@ use datatype::rows::START;
 use datatype::rows::ZONE_SIZE;
 use datatype::rows::ZONE_START;
 use datatype::zone;
+
+// The name of row i.
+fn name_at<'a>(text: &'a [u8], names: &'a [u8], rows: &[u32], i: usize) -> &'a [u8]
+    requires { ⌜ rowWords * (i + 1) ≤ length (now rows) ⌝ }
+    ensures { λ r. ⌜ now r ≡ (labelOf (now (text .entry)) (now (names .entry)) (rowOf (take rowWords (drop (rowWords * i) (now (rows .entry)))))) .name ⌝ }
+{
+    let field = Field {
+        home: word(rows, i, HOME),
+        start: word(rows, i, START),
+        size: word(rows, i, SIZE),
+    };
+    field.name(text, names)
+}
+
+// The zone of row i.
+fn zone_at<'a>(text: &'a [u8], rows: &[u32], i: usize) -> &'a [u8]
+    requires { ⌜ rowWords * (i + 1) ≤ length (now rows) ⌝ }
+    ensures { λ r. ⌜ now r ≡ zoneOf (now (text .entry)) (getD (now (rows .entry)) (rowWords * i + 9) 0) (getD (now (rows .entry)) (rowWords * i + 10) 0) ⌝ }
+{
+    zone(text, word(rows, i, ZONE_START), word(rows, i, ZONE_SIZE))
+}
 
 // Whether row i of one tree and row i of the other say the same.
 fn equal_row<'a, 'b>(
@@ -34,26 +56,13 @@ fn equal_row<'a, 'b>(
     if !equal_words(&rows[from..to], &rows2[from..to]) {
         return false;
     }
-    let a = name(
-        text,
-        names,
-        word(rows, i, HOME),
-        word(rows, i, START),
-        word(rows, i, SIZE),
-    );
-    let b = name(
-        text2,
-        names2,
-        word(rows2, i, HOME),
-        word(rows2, i, START),
-        word(rows2, i, SIZE),
-    );
-    if !equal_bytes(a, b) {
+    if !equal_bytes(
+        name_at(text, names, rows, i),
+        name_at(text2, names2, rows2, i),
+    ) {
         return false;
     }
-    let c = zone(text, word(rows, i, ZONE_START), word(rows, i, ZONE_SIZE));
-    let d = zone(text2, word(rows2, i, ZONE_START), word(rows2, i, ZONE_SIZE));
-    equal_bytes(c, d)
+    equal_bytes(zone_at(text, rows, i), zone_at(text2, rows2, i))
 }
 
 // Whether two trees, each with its text, its name list and its row words, are equal.

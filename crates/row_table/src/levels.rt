@@ -1,9 +1,10 @@
-// The depth of a sound tree.
+// How many levels rows have, and the depth of a sound tree.
 ghost use mathlib.Core.Path.{_≡_};
-ghost use Prim.Native.Nat.{_-_, _≤_, max};
-ghost use Rattle.datatype.specs.Tree.{depth as depthOfForest};
-ghost use Rattle.row_table.specs.Sound.{depthOf, depthMeans};
-ghost use Rattle.row_table.specs.Run.{Nests, forestAt};
+ghost use Prim.Native.Nat.{_+_, _-_, _*_, _≤_, max};
+ghost use lib.ListN.{length};
+ghost use Rattle.datatype.specs.Table.{rowWords};
+ghost use Rattle.row_table.specs.Sound.{levelsUpTo, levelsOf, depthOf, depthMeans};
+ghost use Rattle.row_table.specs.Run.{runAt};
 use crate::Depth;
 use crate::rows::subtree;
 use crate::sound::is_sound;
@@ -20,20 +21,47 @@ fn greater(a: usize, b: usize) -> usize
     a
 }
 
-// How many levels rows start to end have, which are at most so many.
-fn levels(rows: &[u32], level: usize, start: usize, end: usize) -> usize
-    requires { ⌜ Nests (now rows) start (end - start) × (start ≤ end) × (depthOfForest (forestAt (now rows) start (end - start)) ≤ level) ⌝ }
-    ensures { λ r. ⌜ r ≡ depthOfForest (forestAt (now (rows .entry)) start (end - start)) ⌝ }
+// How many levels rows start to end have, where they nest and have at most so many; one more than these else.
+fn levels(rows: &[u32], most: usize, start: usize, end: usize) -> usize
+    requires { ⌜ (rowWords * end ≤ length (now rows)) × (start ≤ end) × (most ≤ 64) ⌝ }
+    ensures { λ r. ⌜ r ≡ levelsUpTo most (runAt (now (rows .entry)) start (end - start)) ⌝ }
 {
     let mut deepest = 0;
     let mut at = start;
     while at < end {
         let size = subtree(rows, at);
-        let below = levels(rows, level - 1, at + 1, at + size);
+        if most == 0 {
+            return 1;
+        }
+        if size == 0 {
+            return most + 1;
+        }
+        if end - at < size {
+            return most + 1;
+        }
+        let below = levels(rows, most - 1, at + 1, at + size);
+        if most <= below {
+            return most + 1;
+        }
         deepest = greater(deepest, below + 1);
         at = at + size;
     }
     deepest
+}
+
+// How many levels the rows of a table have, by their subtrees alone: 0 where they do not nest, or have more than 64.
+pub fn levels_of(rows: &[u32]) -> usize
+    ensures { λ r. ⌜ r ≡ levelsOf (now (rows .entry)) ⌝ }
+{
+    let n = rows.len() / ROW_WORDS;
+    if rows.len() != ROW_WORDS * n {
+        return 0;
+    }
+    let deepest = levels(rows, MAX_LEVELS, 0, n);
+    if deepest <= MAX_LEVELS {
+        return deepest;
+    }
+    0
 }
 
 // The depth of a sound tree; 17 where the tree is not sound.
@@ -41,7 +69,7 @@ pub fn depth(text: &[u8], names: &[u8], rows: &[u32]) -> Depth
     ensures { λ r. ⌜ depthMeans r ≡ depthOf (now (text .entry)) (now (names .entry)) (now (rows .entry)) ⌝ }
 {
     if is_sound(text, names, rows) {
-        return Depth::Levels(levels(rows, MAX_LEVELS, 0, rows.len() / ROW_WORDS));
+        return Depth::Levels(levels_of(rows));
     }
     Depth::Refused(17)
 }

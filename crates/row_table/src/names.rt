@@ -11,6 +11,7 @@ ghost use Rattle.datatype.specs.Kind.{kinds, shapeOf};
 ghost use Rattle.datatype.specs.Tree.{nameList};
 ghost use Rattle.row_table.specs.Sound.{isListed, rulesOf};
 ghost use Rattle.row_table.specs.Check.{placeOf, boundary, partFits, nameOk, zoneOk};
+use datatype::Field;
 use datatype::kind::TIMESTAMP;
 
 // A byte as a number of 64 bits.
@@ -34,23 +35,21 @@ fn pack(part: &[u8]) -> u64
     v
 }
 
-// Whether a name list is the three default names, end to end.
+// Whether a name list is the three default names, end to end. Three numbers are compared in less time than 18 bytes.
 pub(crate) fn is_name_list(names: &[u8]) -> bool
     ensures { λ r. ⌜ r ≡ same (now (names .entry)) nameList ⌝ }
 {
     if names.len() != 18 {
         return false;
     }
-    // itemrun_
-    if pack(&names[0..8]) != 0x6974656D72756E5F {
+    let list = Field::NAME_LIST;
+    if pack(&names[0..8]) != pack(&list[0..8]) {
         return false;
     }
-    // endsvalu
-    if pack(&names[8..16]) != 0x656E647376616C75 {
+    if pack(&names[8..16]) != pack(&list[8..16]) {
         return false;
     }
-    // es
-    pack(&names[16..18]) == 0x6573
+    pack(&names[16..18]) == pack(&list[16..18])
 }
 
 // Whether a place of a text that is UTF-8 stands between two characters, or at an end.
@@ -91,14 +90,14 @@ fn part_fits(text: &[u8], start: u32, size: u32) -> bool
 fn is_listed(start: u32, size: u32) -> bool
     ensures { λ r. ⌜ r ≡ isListed start size ⌝ }
 {
-    if start == 0 {
-        return size == 4;
+    if start == Field::LIST_FIELD_START {
+        return size == Field::LIST_FIELD_SIZE;
     }
-    if start == 4 {
-        return size == 8;
+    if start == Field::REE_RUN_ENDS_START {
+        return size == Field::REE_RUN_ENDS_SIZE;
     }
-    if start == 12 {
-        return size == 6;
+    if start == Field::REE_VALUES_START {
+        return size == Field::REE_VALUES_SIZE;
     }
     false
 }
@@ -140,10 +139,10 @@ pub(crate) fn name_fits(
     if 2 < role {
         return false;
     }
-    if home == 1 {
+    if home == Field::IN_TEXT {
         return part_fits(text, start, size);
     }
-    if home == 2 {
+    if home == Field::IN_NAME_LIST {
         return is_listed(start, size);
     }
     false

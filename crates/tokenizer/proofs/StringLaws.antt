@@ -1,13 +1,13 @@
 -- Strings: bytes that are passed over, and the mark that ends a string.
-use mathlib.Core.Path.{_≡_, refl, ap, _∙_}
+use mathlib.Core.Path.{_≡_, refl, sym, ap, _∙_}
 use mathlib.Core.Bool.{Bool, true, false}
 use mathlib.Core.List.{List}
 use Prim.Native.Nat.{ℕ, _+_, _≤_, _<_}
 use native.Mathlib.Omega.{arith}
-use lib.ListN.{length, getD, drop-of-length-le}
+use lib.ListN.{length, getD}
 use borrow.Author.Tests.{eq-eqb, ne-eqb}
 use Rattle.tokenizer.specs.Text.{if_then_else_}
-use Rattle.tokenizer.specs.Token.{escapedAfter, untilQuote}
+use Rattle.tokenizer.specs.Token.{escapedAfter}
 use Rattle.tokenizer.specs.Ends.{closes, quoteEnd}
 use Rattle.tokenizer.proofs.Runs.{quote-stop, quote-go}
 
@@ -29,10 +29,28 @@ module _ (text : List ℕ) (quote i : ℕ) (h : i < length text) where
       same-mark : closes quote false quote ≡ true
       same-mark = rw (eq-eqb quote quote refl)
 
--- behind the text's end
-pub quote-past : (text : List ℕ) (quote from : ℕ) → length text ≤ from → length text ≡ quoteEnd text quote false from
-unfolding quoteEnd untilQuote
-quote-past text quote from h = rw (drop-of-length-le text h) refl
+-- bytes above the backslash end no string
+module _ (text : List ℕ) (quote i : ℕ) (low : quote ≤ 92) (h : i + 4 ≤ length text) where
+  abbrev endFrom : ℕ → ℕ
+  endFrom k = quoteEnd text quote false k
+
+  passed : (j : ℕ) → j < length text → 92 < getD text j 0 → endFrom (j + 1) ≡ endFrom j
+  passed j l b = sym (plain-go text quote j l (plain-byte quote (getD text j 0) (λ e. omega arith) (λ e. omega arith)))
+
+  module _ (b : 92 < getD text i 0) where
+    pub letters-1 : endFrom (i + 1) ≡ endFrom i
+    letters-1 = passed i (omega arith) b
+
+    module _ (c : 92 < getD text (i + 1) 0) where
+      pub letters-2 : endFrom (i + 2) ≡ endFrom i
+      letters-2 = ap endFrom (omega arith) ∙ passed (i + 1) (omega arith) c ∙ letters-1
+
+      module _ (d : 92 < getD text (i + 2) 0) where
+        pub letters-3 : endFrom (i + 3) ≡ endFrom i
+        letters-3 = ap endFrom (omega arith) ∙ passed (i + 2) (omega arith) d ∙ letters-2
+
+        pub letters-4 : 92 < getD text (i + 3) 0 → endFrom (i + 4) ≡ endFrom i
+        letters-4 e = ap endFrom (omega arith) ∙ passed (i + 3) (omega arith) e ∙ letters-3
 
 -- nothing is said of an answer that is not given
 pub never : {A : Type 0} → false ≡ true → A

@@ -1,5 +1,5 @@
--- Where a word and a quoted string end. `quoteEnd` is what the public `string_end` answers; the rest is how the code
--- finds its way, and need not be believed.
+-- Where a word and a quoted string end: how the code finds its way. Contracts of private functions cite these; nothing
+-- here has to be believed.
 use mathlib.Core.Bool.{Bool, not, _&&_}
 use mathlib.Core.List.{List}
 use mathlib.Core.Option.{Option, none, some}

@@ -7,7 +7,6 @@ mod words;
 pub use tokenizer::is_separator;
 pub use tokenizer::next_token;
 pub use tokenizer::skip_spaces;
-pub use tokenizer::string_end;
 pub use utf8::is_utf8;
 
 // What a token is.

@@ -130,14 +130,29 @@ fn quote_end(text: &[u8], from: usize, quote: u8) -> usize
     i
 }
 
-// The same at any place.
-pub fn string_end(text: &[u8], from: usize, quote: u8) -> usize
-    ensures { λ r. ⌜ r ≡ quoteEnd (now (text .entry)) quote false from ⌝ }
+// A place at or behind `from` before which all bytes are above the backslash, as most letters are: no string ends there.
+// Names are most of a text, and their letters are passed faster four at a time than one by one.
+fn past_letters(text: &[u8], from: usize, quote: u8) -> usize
+    requires { ⌜ (from ≤ length (now text)) × (quote ≤ 92) ⌝ }
+    ensures { λ r. ⌜ (r ≤ length (now (text .entry))) × (quoteEnd (now (text .entry)) quote false r ≡ quoteEnd (now (text .entry)) quote false from) ⌝ }
 {
-    if from > text.len() {
-        return text.len();
+    let mut i = from;
+    while text.len() - i >= 4 {
+        if text[i] <= b'\\' {
+            return i;
+        }
+        if text[i + 1] <= b'\\' {
+            return i + 1;
+        }
+        if text[i + 2] <= b'\\' {
+            return i + 2;
+        }
+        if text[i + 3] <= b'\\' {
+            return i + 3;
+        }
+        i += 4;
     }
-    quote_end(text, from, quote)
+    i
 }
 
 // The token of a kind that starts at a place and has a length.
@@ -155,11 +170,12 @@ fn token_of(kind: TokenKind, at: usize, size: usize) -> Token
 
 // The string whose opening mark stands at a place.
 fn quoted_string(text: &[u8], at: usize, quote: u8, kind: TokenKind) -> Token
-    requires { ⌜ at < length (now text) ⌝ }
+    requires { ⌜ (at < length (now text)) × (quote ≤ 92) ⌝ }
     ensures { λ r. ⌜ r ≡ stringToken kind at (untilQuote quote false (drop (at + 1) (now (text .entry)))) ⌝ }
 {
     let start = at + 1;
-    let end = quote_end(text, start, quote);
+    let letters = past_letters(text, start, quote);
+    let end = quote_end(text, letters, quote);
     if end >= text.len() {
         return token_of(TokenKind::Refused(6), at, 0);
     }

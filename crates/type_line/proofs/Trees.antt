@@ -1,4 +1,4 @@
--- The answer to a text that was read: printing into the output behind the head, and what the depth says.
+-- The answer to a text that was read: printing into the output behind the head, and what its levels say.
 use mathlib.Core.Path.{_≡_, refl, sym, ap, _∙_, subst}
 use mathlib.Core.Bool.{Bool, true, false}
 use mathlib.Core.List.{List, [], _∷_, _++_, append-assoc, append-nil}
@@ -11,13 +11,10 @@ use borrow.Rule.Slice.PartMut.{put-same}
 use Rattle.tokenizer.specs.Text.{if_then_else_}
 use Rattle.tokenizer.specs.Answer.{Out, refused, done, refuse}
 use Rattle.tokenizer.proofs.Basics.{of-true}
-use Rattle.datatype.specs.Tree.{∅, node, depth, nameList}
+use Rattle.datatype.specs.Tree.{depth, nameList}
 use Rattle.datatype.specs.Table.{rowWords, treeOf}
-use Rattle.row_table.specs.Sound.{isSound, depthOf, depthMeans}
-use Rattle.row_table.specs.declared.Depth.{Depth}
-use Rattle.row_table.specs.declared.Depth.the-variants as levels
-use Rattle.row_table.proofs.SoundTree.{SoundTree, sound-tree, sound-count, sound-labels}
-use Rattle.row_table.proofs.LevelLaws.{depth-labels}
+use Rattle.row_table.specs.Sound.{isSound, levelsOf}
+use Rattle.row_table.proofs.LevelLaws.{sound-levels}
 use Rattle.datatype_display.specs.Display.{display}
 use Rattle.datatype_display.specs.Print.{quotedAscii, print, lengthOf, printAnswer, written, printBytes, printedMeans}
 use Rattle.datatype_display.specs.declared.Printed.{Printed}
@@ -203,45 +200,15 @@ module _ (text table out : List ℕ) (rows levels h : ℕ) (head : HeadLength ro
         go : (s : List ℕ) × Text s → Answers (treeLine rows levels (print text nameList table 16384)) out r after
         go w = text-answers (w .0) (w .1) r after f
 
--- ---- the depth
+-- ---- the levels
 
-abbrev numberOf : Out ℕ → ℕ
-numberOf (refused r) = r .number
-numberOf (done n) = n
+module _ (text table : List ℕ) (levels : ℕ) (is : levels ≡ levelsOf table) where
+  -- the levels of rows that are printed are the tree's depth; where they are refused, no levels are written
+  levels-or : (sound : Bool) → isSound text nameList table ≡ sound
+      → treeLine (length table / rowWords) levels (print text nameList table 16384) ≡ treeLine (length table / rowWords) (depth (treeOf text nameList table)) (print text nameList table 16384)
+  levels-or true s = ap (λ (k : ℕ). treeLine (length table / rowWords) k (print text nameList table 16384)) (is ∙ sound-levels text nameList table (of-true _ s))
+  levels-or false s = unfold print treeLine in rw s
 
-module _ (text table : List ℕ) (d : Depth) (e : depthMeans d ≡ depthOf text nameList table) (n : ℕ) where
-  -- a tree that is not sound is refused by the printer for the same reason
-  no-depth : (sound : Bool) → isSound text nameList table ≡ sound → (if sound then done (depth (treeOf text nameList table)) else refuse 17) ≡ refuse n → print text nameList table 16384 ≡ refuse n
-  unfolding print
-  no-depth true s q = absurd (let z : _≡_ {A = ℕ} 0 1 = cc in omega arith)
-  no-depth false s q = rw s (ap (λ (m : ℕ). refuse m) (ap numberOf q))
-
-  pub table-refused : d ≡ levels.Refused n → (out : List ℕ) (r : ℕ) (after : List ℕ) → Answers (noLine (record { number = n })) out r after → Answers (tableLine text table) out r after
-  unfolding depthMeans depthOf tableLine treeLine
-  table-refused q out r after a = rw (no-depth (isSound text nameList table) refl (sym e ∙ ap depthMeans q)) a
-
-  -- a sound tree's rows and levels
-  pub record Levels : Type 0 where
-    pub is : n ≡ depth (treeOf text nameList table)
-    pub few : length table / rowWords ≤ 1024
-    pub flat : n ≤ 64
-
-  sound-levels : SoundTree text nameList table → n ≡ depth (treeOf text nameList table) → Levels
-  sound-levels t q =
-      let c = sound-count text nameList table t in
-      let a = t .rows in
-      let b = t .levels in
-      let l : depth (treeOf text nameList table) ≡ depth (node (t .root) (t .kids) ∅) = ap depth (sound-labels text nameList table t) ∙ depth-labels text nameList (node (t .root) (t .kids) ∅) in
-      record { is = q; few = omega arith; flat = omega arith }
-
-  has-depth : (sound : Bool) → isSound text nameList table ≡ sound → (if sound then done (depth (treeOf text nameList table)) else refuse 17) ≡ done n → Levels
-  has-depth true s q = sound-levels (sound-tree text nameList table (of-true _ s)) (cc)
-  has-depth false s q = absurd (let z : _≡_ {A = ℕ} 0 1 = cc in omega arith)
-
-  pub table-levels : d ≡ levels.Levels n → Levels
-  unfolding depthMeans depthOf
-  table-levels q = has-depth (isSound text nameList table) refl (sym e ∙ ap depthMeans q)
-
-  pub table-printed : d ≡ levels.Levels n → (out : List ℕ) (r : ℕ) (after : List ℕ) → Answers (treeLine (length table / rowWords) n (print text nameList table 16384)) out r after → Answers (tableLine text table) out r after
+  pub table-printed : (out : List ℕ) (r : ℕ) (after : List ℕ) → Answers (treeLine (length table / rowWords) levels (print text nameList table 16384)) out r after → Answers (tableLine text table) out r after
   unfolding tableLine
-  table-printed q out r after a = subst (λ (k : ℕ). Answers (treeLine (length table / rowWords) k (print text nameList table 16384)) out r after) (table-levels q .is) a
+  table-printed out r after a = subst (λ (l : List ℕ). Answers l out r after) (levels-or (isSound text nameList table) refl) a

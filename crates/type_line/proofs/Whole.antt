@@ -12,6 +12,8 @@ use Rattle.datatype.specs.Tree.{Forest, count, depth, Row, nameList}
 use Rattle.datatype.specs.Table.{rowWords, tableOf, treeOf, rowsLent}
 use Rattle.datatype.proofs.Table.{length-table, view-table}
 use Rattle.row_table.proofs.LevelLaws.{depth-labels}
+use Rattle.row_table.proofs.SoundTree.{sound-tree, sound-count}
+use Rattle.datatype_parse.proofs.ReadSound.{read-sound}
 use Rattle.datatype_parse.specs.Parse.{parse, rowCount, filled, parseAnswer, parseRows, parsedMeans}
 use Rattle.datatype_parse.specs.declared.Parsed.{Parsed}
 use Rattle.datatype_parse.specs.declared.Parsed.the-variants as parsed
@@ -105,6 +107,21 @@ module _ (line rows out : List ℕ) where
                 let m = length-drop (length t) rows in
                 let c = length-table (w .0) in
                 let d = w .2 in
+                omega arith
+
+        -- they are 1,024 at the most
+        pub line-few : length (take (rowWords * n) rows′) / rowWords ≤ 1024
+        unfolding parsedMeans parseAnswer
+        line-few = go (some-tree n (parse line (rowsLent (length rows))) (sym e ∙ ap parsedMeans h))
+          where
+            go : (f : Forest Row) × (parse line (rowsLent (length rows)) ≡ done f) × (count f ≡ n) → length (take (rowWords * n) rows′) / rowWords ≤ 1024
+            go w =
+                let t = sound-tree line nameList (tableOf (w .0)) (read-sound line (rowsLent (length rows)) (w .0) (w .1) (let a = all-lent (length rows) words in omega arith)) in
+                let a = t .rows in
+                let b = sound-count line nameList (tableOf (w .0)) t in
+                let c = length-table (w .0) in
+                let d = w .2 in
+                let l = length-take-le (rowWords * n) rows′ line-fits in
                 omega arith
 
         pub line-counted : rowWords * n ≡ length (take (rowWords * n) rows′)

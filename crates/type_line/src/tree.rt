@@ -6,11 +6,9 @@ ghost use Rattle.datatype.specs.Table.{rowWords};
 ghost use Rattle.datatype_display.specs.Print.{print};
 ghost use Rattle.type_line.specs.Steps.{Answers, treeLine, tableLine};
 use crate::write;
+use datatype::Field;
 use datatype::rows::ROW_WORDS;
 use datatype_display::Printed;
-use row_table::Depth;
-
-const NAME_LIST: [u8; 18] = *b"itemrun_endsvalues";
 
 // The answer with the tree's depth at hand. What is printed stands where it belongs before the head is written, so that
 // a refused print has written nothing.
@@ -20,19 +18,17 @@ fn print_tree(text: &[u8], rows: &[u32], levels: usize, out: &mut [u8]) -> usize
 {
     let count = rows.len() / ROW_WORDS;
     let head = write::head_length(count, levels);
-    match datatype_display::print_data_type(text, &NAME_LIST, rows, &mut out[head..]) {
+    match datatype_display::print_data_type(text, &Field::NAME_LIST, rows, &mut out[head..]) {
         Printed::Refused(n) => write::put_no(out, n),
         Printed::Length(n) => write::put_frame(out, count, levels, n),
     }
 }
 
-// The answer to a text that was read into these rows.
+// The answer to a text that was read into these rows. The printer checks them; their levels are counted unchecked.
 pub(crate) fn answer_tree(text: &[u8], rows: &[u32], out: &mut [u8]) -> usize
-    requires { ⌜ 16396 ≤ length (now out) ⌝ }
+    requires { ⌜ (16396 ≤ length (now out)) × (length (now rows) / rowWords ≤ 1024) ⌝ }
     ensures { λ r. ⌜ Answers (tableLine (now (text .entry)) (now (rows .entry))) (now (out .entry)) r (now (out .exit)) ⌝ }
 {
-    match row_table::levels::depth(text, &NAME_LIST, rows) {
-        Depth::Refused(n) => write::put_no(out, n),
-        Depth::Levels(levels) => print_tree(text, rows, levels, out),
-    }
+    let levels = row_table::levels::levels_of(rows);
+    print_tree(text, rows, levels, out)
 }

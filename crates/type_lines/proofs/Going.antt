@@ -6,7 +6,7 @@ use mathlib.Core.Option.{Option, none, some}
 use Prim.Native.Nat.{ℕ, suc, _+_, _-_, _≤_, _<_}
 use native.Mathlib.Omega.{arith}
 use lib.ListN.{length, take, drop, length-append, length-drop, drop-of-length-le}
-use lib.Seq.{take-append-le, drop-append-le, take-append-add, drop-append-add, take-at, take-all, take-length, length-take-le, drop-drop, drop-length}
+use lib.Seq.{take-append-le, drop-append-le, take-append-add, drop-append-add, take-at, take-all, take-length, length-take-le, drop-drop, drop-length, drop-at}
 use lib.Dec.{eqb, leb}
 use types.Run.{OneOf}
 use denote.Enum.Declared.{tagOf}
@@ -17,7 +17,7 @@ use Rattle.type_line.specs.declared.Answered.{Answered}
 use Rattle.type_line.specs.declared.Answered.the-variants.{Bytes, NoRoom}
 use Rattle.type_line.proofs.Answered.{the-type as answered-type}
 use Rattle.type_line.proofs.Ends.{before-within, lines-some, long-line}
-use Rattle.type_lines.specs.Run.{outputFrom, printedAt, lineAt, Room, Inside, Wrote, Goes, Unfinished, Halts, Ends}
+use Rattle.type_lines.specs.Run.{outputFrom, printedAt, lineAt, Room, Inside, Behind, Wrote, Goes, Unfinished, Halts, Ends}
 use Rattle.type_lines.specs.declared.Place.{Place}
 
 -- ---- newlines in what is read and in what follows
@@ -89,14 +89,35 @@ module _ (rest : List ℕ) where
   unfolding outputFrom
   skip-all s h = ap output (past-line s h)
 
+-- ---- what lies behind the answers
+
+module _ (out : List ℕ) where
+  pub behind-none : (wrote : ℕ) → wrote ≤ length out → Behind out wrote wrote out
+  behind-none wrote h = record { more = omega arith; fits = h; rest = refl }
+
+  behind-further : (out′ : List ℕ) (i k : ℕ) → drop i out′ ≡ drop i out → drop (i + k) out′ ≡ drop (i + k) out
+  behind-further out′ i k e = sym (drop-drop k i out′) ∙ ap (drop k) e ∙ drop-drop k i out
+
+  module _ (wrote next : ℕ) (out₁ : List ℕ) (b : Behind out wrote next out₁) where
+    pub behind-then : (last : ℕ) (out₂ : List ℕ) → Behind out₁ next last out₂ → Behind out wrote last out₂
+    behind-then last out₂ d =
+        let h = b .more in
+        let k = d .more in
+        let e : next + (last - next) ≡ last = omega arith in
+        record {
+          more = omega arith;
+          fits = d .fits;
+          rest = d .rest ∙ subst (λ (i : ℕ). drop i out₁ ≡ drop i out) e (behind-further out₁ next (last - next) (b .rest));
+        }
+
 -- ---- an answer behind the answers
 
 -- the part of the output that is lent, put back with the answer at its start
 module _ (line out part back : List ℕ) (wrote : ℕ) (fits : wrote ≤ length out)
     (isBack : back ≡ take wrote out ++ (part ++ drop (length out - wrote) (drop wrote out))) where
-  pub wrote-line : (n : ℕ) → n ≡ length (lineAnswer line) → (behind : List ℕ) → part ≡ lineAnswer line ++ behind → length part ≡ length out - wrote
+  pub wrote-line : (n : ℕ) → n ≡ length (lineAnswer line) → (behind : List ℕ) → part ≡ lineAnswer line ++ behind → behind ≡ drop n (drop wrote out) → length part ≡ length out - wrote
       → Wrote line out wrote (wrote + n) back
-  wrote-line n e behind p k =
+  wrote-line n e behind p b k =
       let a : List ℕ = lineAnswer line in
       let after : List ℕ = drop (length out - wrote) (drop wrote out) in
       let h : length (take wrote out) ≡ wrote = length-take-le wrote out fits in
@@ -108,8 +129,19 @@ module _ (line out part back : List ℕ) (wrote : ℕ) (fits : wrote ≤ length 
       ∙ sym (append-assoc (take wrote out) a (behind ++ after)) in
       let front : length (take wrote out ++ a) ≡ wrote + n = length-append (take wrote out) a ∙ (let q : length (take wrote out) + length a ≡ wrote + n = omega arith in q) in
       let whole = ap (λ (l : List ℕ). length l) is ∙ length-append (take wrote out ++ a) (behind ++ after) in
+      let none : after ≡ [] = let d = length-drop wrote out in drop-of-length-le (drop wrote out) {i = length out - wrote} (omega arith) in
       record {
-        fits = omega arith;
+        behind = record {
+          more = omega arith;
+          fits = omega arith;
+          rest =
+              ap (drop (wrote + n)) is
+              ∙ drop-at (take wrote out ++ a) (behind ++ after) (wrote + n) front
+              ∙ ap (λ (l : List ℕ). behind ++ l) none
+              ∙ append-nil behind
+              ∙ b
+              ∙ drop-drop n wrote out;
+        };
         answers = ap (take (wrote + n)) is ∙ take-at (take wrote out ++ a) (behind ++ after) (wrote + n) front;
       }
 
@@ -123,6 +155,9 @@ module _ (line rows out lent part : List ℕ) (wrote : ℕ) (words : lineWords �
   lent-length =
       let d = length-drop wrote out in
       ap (λ (l : List ℕ). length l) isLent ∙ length-take-le (length out - wrote) (drop wrote out) (omega arith)
+
+  lent-all : lent ≡ drop wrote out
+  lent-all = let d = length-drop wrote out in isLent ∙ take-all (length out - wrote) (drop wrote out) (omega arith)
 
   enough : (A : Type 0) (x y : A) → (if (leb lineWords (length rows) && leb 16396 (length lent)) then x else y) ≡ x
   enough A x y = let l = lent-length in rw (le-leb lineWords (length rows) words, le-leb 16396 (length lent) (omega arith))
@@ -148,7 +183,8 @@ module _ (line rows out lent part : List ℕ) (wrote : ℕ) (words : lineWords �
 
     module _ (back : List ℕ) (isBack : back ≡ take wrote out ++ (part ++ drop (length out - wrote) (drop wrote out))) where
       pub wrote-at : (n : ℕ) → r ≡ Bytes n → Wrote line out wrote (wrote + n) back
-      wrote-at n e = wrote-line line out part back wrote (omega arith) isBack n (answer-size n e) (drop (length (lineAnswer line)) lent) answer-bytes (k ∙ lent-length)
+      wrote-at n e = wrote-line line out part back wrote (omega arith) isBack n (answer-size n e) (drop (length (lineAnswer line)) lent) answer-bytes
+          (ap (λ (i : ℕ). drop i lent) (sym (answer-size n e)) ∙ ap (drop n) lent-all) (k ∙ lent-length)
 
   -- there is room
   pub wrote-none : OneOf (1 ∷ []) (tagOf answered-type r) → (back : List ℕ) → Wrote line out wrote wrote back
@@ -162,11 +198,11 @@ module _ (line rows out lent part : List ℕ) (wrote : ℕ) (words : lineWords �
 
 module _ (input out : List ℕ) where
   pub goes-nowhere : (p : Place) → Inside input p out → Goes input p out p out
-  goes-nowhere p i = record { inside = i; same = λ rest. refl }
+  goes-nowhere p i = record { inside = i; behind = behind-none out (p .wrote) (i .answers); same = λ rest. refl }
 
   module _ (p q : Place) (out₁ : List ℕ) (g : Goes input p out q out₁) where
     pub goes-then : (r : Place) (out₂ : List ℕ) → Goes input q out₁ r out₂ → Goes input p out r out₂
-    goes-then r out₂ h = record { inside = h .inside; same = λ rest. g .same rest ∙ h .same rest }
+    goes-then r out₂ h = record { inside = h .inside; behind = behind-then out (p .wrote) (q .wrote) out₁ (g .behind) (r .wrote) out₂ (h .behind); same = λ rest. g .same rest ∙ h .same rest }
 
 -- where the line that begins at a place ends
 module _ (input : List ℕ) (from end : ℕ) (inside : from ≤ length input) (e : end ≡ lineEnd input from) where
@@ -208,7 +244,8 @@ module _ (input out : List ℕ) (from wrote : ℕ) (read : from ≤ length input
         let s : List ℕ = drop from input in
         let i = end-within input from end read e in
         record {
-          inside = record { read = omega arith; answers = w .fits };
+          inside = record { read = omega arith; answers = w .behind .fits };
+          behind = w .behind;
           same = λ rest.
               ap (λ (l : List ℕ). take wrote out ++ l) (whole-line rest s (ends-here input from end read e h))
               ∙ ap (λ (l : List ℕ). take wrote out ++ (lineAnswer l ++ output (drop (suc (beforeNewline s)) s ++ rest))) (sym (the-line input from end read e))
@@ -229,6 +266,7 @@ module _ (input out : List ℕ) (from wrote : ℕ) (read : from ≤ length input
         let i = end-within input from end read e in
         record {
           inside = record { read = omega arith; answers = answers };
+          behind = behind-none out wrote answers;
           same = λ rest.
               ap (λ (l : List ℕ). take wrote out ++ l) (skip-in rest s (ends-here input from end read e h))
               ∙ ap (λ (l : List ℕ). take wrote out ++ output (l ++ rest)) (behind-line input from end read e);
@@ -239,6 +277,7 @@ module _ (input out : List ℕ) (from wrote : ℕ) (read : from ≤ length input
     skips-all h =
         record {
           inside = record { read = omega arith; answers = answers };
+          behind = behind-none out wrote answers;
           same = λ rest.
               ap (λ (l : List ℕ). take wrote out ++ l) (skip-all rest (drop from input) (no-end input from end read e h))
               ∙ ap (λ (l : List ℕ). take wrote out ++ outputFrom true (l ++ rest)) (sym (drop-of-length-le input {i = end} (omega arith)));
@@ -253,7 +292,8 @@ module _ (input out : List ℕ) (from wrote : ℕ) (read : from ≤ length input
         let l = length-drop from input in
         let all : take (length input - from) s ≡ s = take-all (length input - from) s (omega arith) in
         record {
-          inside = record { read = omega arith; answers = w .fits };
+          inside = record { read = omega arith; answers = w .behind .fits };
+          behind = w .behind;
           same = λ rest.
               ap (λ (l : List ℕ). take wrote out ++ l) (too-long rest s h (omega arith))
               ∙ sym (append-assoc (take wrote out) (lineAnswer s) (outputFrom true rest))
@@ -332,22 +372,22 @@ module _ (input : List ℕ) (start had : ℕ) (rows out : List ℕ) where
 
 -- ---- the end of the input
 
-module _ (line out : List ℕ) (wrote : ℕ) where
+module _ (line out : List ℕ) where
   nothing : output [] ≡ []
   unfolding output linesOf
   nothing = refl
 
   -- what is left prints nothing
-  ends-none : wrote ≤ length out → (skip : Bool) → outputFrom skip line ≡ [] → Ends line wrote skip out wrote out
-  ends-none h skip e = record { fits = h; answers = sym (ap (λ (l : List ℕ). take wrote out ++ l) e ∙ append-nil (take wrote out)) }
+  ends-none : (skip : Bool) → outputFrom skip line ≡ [] → Ends line skip out 0 out
+  ends-none skip e = record { behind = behind-none out 0 (omega arith); answers = sym e }
 
-  pub ends-skipped : wrote ≤ length out → beforeNewline line ≡ length line → (skip : Bool) → skip ≡ true → Ends line wrote skip out wrote out
+  pub ends-skipped : beforeNewline line ≡ length line → (skip : Bool) → skip ≡ true → Ends line skip out 0 out
   unfolding outputFrom
-  ends-skipped h k skip e = ends-none h skip (ap (λ (b : Bool). outputFrom b line) e ∙ ap output (drop-of-length-le line {i = suc (beforeNewline line)} (omega arith)) ∙ nothing)
+  ends-skipped k skip e = ends-none skip (ap (λ (b : Bool). outputFrom b line) e ∙ ap output (drop-of-length-le line {i = suc (beforeNewline line)} (omega arith)) ∙ nothing)
 
-  pub ends-empty : wrote ≤ length out → length line ≡ 0 → (skip : Bool) → skip ≡ false → Ends line wrote skip out wrote out
+  pub ends-empty : length line ≡ 0 → (skip : Bool) → skip ≡ false → Ends line skip out 0 out
   unfolding outputFrom
-  ends-empty h k skip e = ends-none h skip (ap (λ (b : Bool). outputFrom b line) e ∙ ap output (none line k) ∙ nothing)
+  ends-empty k skip e = ends-none skip (ap (λ (b : Bool). outputFrom b line) e ∙ ap output (none line k) ∙ nothing)
     where
       none : (l : List ℕ) → length l ≡ 0 → l ≡ []
       none [] q = refl
@@ -363,11 +403,11 @@ module _ (line out : List ℕ) (wrote : ℕ) where
       ∙ ap (λ (l : List ℕ). lineAnswer line ++ answers (linesOf l)) (drop-of-length-le line {i = suc (length line)} (omega arith))
       ∙ append-nil (lineAnswer line)
 
-  pub ends-line : (next : ℕ) (out′ : List ℕ) → (length line ≡ 0 → ⊥) → beforeNewline line ≡ length line → (skip : Bool) → skip ≡ false → Wrote line out wrote next out′
-      → Ends line wrote skip out next out′
+  pub ends-line : (next : ℕ) (out′ : List ℕ) → (length line ≡ 0 → ⊥) → beforeNewline line ≡ length line → (skip : Bool) → skip ≡ false → Wrote line out 0 next out′
+      → Ends line skip out next out′
   unfolding outputFrom
   ends-line next out′ h k skip e w =
       record {
-        fits = w .fits;
-        answers = w .answers ∙ ap (λ (l : List ℕ). take wrote out ++ l) (sym (ap (λ (b : Bool). outputFrom b line) e ∙ only-line (omega arith) k));
+        behind = w .behind;
+        answers = w .answers ∙ sym (ap (λ (b : Bool). outputFrom b line) e ∙ only-line (omega arith) k);
       }

@@ -4,7 +4,7 @@ use mathlib.Core.List.{List, _++_}
 use Prim.Native.Nat.{ℕ, suc, _+_, _-_, _≤_, _<_}
 use native.Mathlib.Omega.{arith}
 use lib.ListN.{length, take, drop, getD, set, length-append, length-drop}
-use lib.Seq.{take-all, take-suc, drop-cons, take-at, set-at, append-snoc, length-take-le, getD-drop, getD-take, getD-append-add}
+use lib.Seq.{take-all, take-suc, drop-cons, set-at, append-snoc, length-take-le, getD-drop, getD-take, getD-append-add}
 use Rattle.type_lines.specs.Run.{Moved}
 
 -- The first i bytes of the part stand at the front, and behind them nothing has changed.
@@ -79,8 +79,5 @@ module _ (before : List ℕ) (from to : ℕ) where
         let e : i ≡ to - from = omega arith in
         record {
           counted = refl;
-          is =
-              ap (λ (l : List ℕ). take (to - from) l) (m .is)
-              ∙ take-at (take i part) (drop i before) (to - from) (front ∙ e)
-              ∙ take-all i part (omega arith);
+          is = m .is ∙ ap (λ (l : List ℕ). l ++ drop i before) (take-all i part (omega arith)) ∙ ap (λ (k : ℕ). part ++ drop k before) e;
         }

@@ -1,4 +1,4 @@
--- What the program's own functions promise: whatever follows in the input, what is printed at last stays the same.
+-- What the functions that answer lines promise: whatever follows in the input, what is printed at last stays the same.
 use mathlib.Core.Path.{_≡_}
 use mathlib.Core.Bool.{Bool, true, false}
 use mathlib.Core.List.{List, _++_}
@@ -6,8 +6,6 @@ use Prim.Native.Nat.{ℕ, suc, _+_, _-_, _≤_, _<_}
 use lib.ListN.{length, take, drop}
 use Rattle.type_line.specs.Line.{lineAnswer, lineWords, output, beforeNewline}
 use Rattle.type_lines.specs.declared.Place.{Place}
-use Rattle.type_lines.specs.declared.Turn.{Turn}
-use Rattle.type_lines.specs.declared.Turn.the-variants.{More, End}
 
 -- ---- what is printed
 
@@ -38,14 +36,21 @@ pub record Inside (input : List ℕ) (p : Place) (out : List ℕ) : Type 0 where
 
 -- ---- answering
 
+-- So many bytes of the output are answers, no fewer than before; what lies behind them stays as it was.
+pub record Behind (out : List ℕ) (wrote next : ℕ) (out′ : List ℕ) : Type 0 where
+  pub more : wrote ≤ next
+  pub fits : next ≤ length out′
+  pub rest : drop next out′ ≡ drop next out
+
 -- The answer to a line stands behind the answers that were in the output.
 pub record Wrote (line out : List ℕ) (wrote next : ℕ) (out′ : List ℕ) : Type 0 where
-  pub fits : next ≤ length out′
+  pub behind : Behind out wrote next out′
   pub answers : take next out′ ≡ take wrote out ++ lineAnswer line
 
 -- From one place to another: whatever follows in the input, what is printed at last stays the same.
 pub record Goes (input : List ℕ) (p : Place) (out : List ℕ) (q : Place) (out′ : List ℕ) : Type 0 where
   pub inside : Inside input q out′
+  pub behind : Behind out (p .wrote) (q .wrote) out′
   pub same : (rest : List ℕ) → printedAt input p out rest ≡ printedAt input q out′ rest
 
 -- What is left is part of one line, and not too long for a text.
@@ -58,33 +63,13 @@ pub record Halts (input : List ℕ) (p : Place) (out : List ℕ) : Type 0 where
   pub left : p .wrote + 16396 ≤ length out → Unfinished (drop (p .from) input)
 
 -- Where the input ends, the output holds all that is still to be printed.
-pub record Ends (line : List ℕ) (wrote : ℕ) (skip : Bool) (out : List ℕ) (next : ℕ) (out′ : List ℕ) : Type 0 where
-  pub fits : next ≤ length out′
-  pub answers : take next out′ ≡ take wrote out ++ outputFrom skip line
+pub record Ends (line : List ℕ) (skip : Bool) (out : List ℕ) (next : ℕ) (out′ : List ℕ) : Type 0 where
+  pub behind : Behind out 0 next out′
+  pub answers : take next out′ ≡ outputFrom skip line
 
--- ---- reading on
+-- ---- moving
 
--- A part of a buffer stands at its front.
+-- A part of a buffer stands at its front; behind that, nothing has changed.
 pub record Moved (before : List ℕ) (from to size : ℕ) (after : List ℕ) : Type 0 where
   pub counted : size ≡ to - from
-  pub is : take size after ≡ drop from (take to before)
-
--- So many bytes at the front of the input are an unfinished line, and there is room to read more and to answer.
-pub record Left (input : List ℕ) (left wrote : ℕ) (rows out : List ℕ) : Type 0 where
-  pub large : 16384 < length input
-  pub room : Room rows out
-  pub line : Unfinished (take left input)
-  pub fits : left < length input
-  pub next : wrote + 16396 ≤ length out
-
--- The program may take another turn, with so many bytes of the input in the buffer.
-pub record Running (input : List ℕ) (filled : ℕ) (p : Place) (rows out : List ℕ) : Type 0 where
-  pub large : 16384 < length input
-  pub room : Room rows out
-  pub fits : filled ≤ length input
-  pub read : p .from ≤ filled
-  pub answers : p .wrote ≤ length out
-
-unfoldable pub GoesOn : Turn → List ℕ → List ℕ → List ℕ → Type 0
-GoesOn End input rows out = Unit
-GoesOn (More filled p) input rows out = Running input filled p rows out
+  pub is : after ≡ drop from (take to before) ++ drop (to - from) before

@@ -86,23 +86,17 @@ pub(crate) fn answer_lines(input: &[u8], p: Place, rows: &mut [u32], out: &mut [
 }
 
 // Answers what is left at the end of the input: a line without a newline, unless it is empty or answered already.
-pub(crate) fn answer_last(
-    line: &[u8],
-    wrote: usize,
-    skip: bool,
-    rows: &mut [u32],
-    out: &mut [u8],
-) -> usize
-    requires { ⌜ (lineWords ≤ length (now rows)) × (wrote + 16396 ≤ length (now out)) × (beforeNewline (now line) ≡ length (now line)) ⌝ }
-    ensures { λ r. ⌜ Ends (now (line .entry)) wrote skip (now (out .entry)) r (now (out .exit)) ⌝ }
+pub(crate) fn answer_last(line: &[u8], skip: bool, rows: &mut [u32], out: &mut [u8]) -> usize
+    requires { ⌜ Room (now rows) (now out) × Unfinished (now line) ⌝ }
+    ensures { λ r. ⌜ Ends (now (line .entry)) skip (now (out .entry)) r (now (out .exit)) ⌝ }
 {
     if skip {
-        return wrote;
+        return 0;
     }
     if line.len() == 0 {
-        return wrote;
+        return 0;
     }
-    answer_at(line, rows, out, wrote)
+    answer_at(line, rows, out, 0)
 }
 
 // Moves a part of a buffer to its front, and gives its length.

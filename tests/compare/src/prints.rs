@@ -7,7 +7,7 @@ use crate::model::{
     self, KINDS, Limits, MOST_BYTES, MOST_LEVELS, MOST_ROWS, NAME_LIST, Row, WORDS, kind, refusal,
 };
 use crate::oracle;
-use crate::sample::{File, Stored};
+use crate::sample::{File, Stored, leaf};
 use crate::subject;
 use std::process::ExitCode;
 
@@ -56,7 +56,7 @@ pub fn prints(file: &str, seed: u64) -> Result<ExitCode, String> {
     if let Some((word, count)) = missing {
         return Err(format!("{word} is printed {count} times only"));
     }
-    let bytes = prints.kept.write(file)?;
+    let bytes = prints.kept.write(file, wrong_print())?;
     let all = prints.kept.records.len();
     println!("{all} prints, {bytes} bytes in {file}");
     for number in [0, 17, 18, 19] {
@@ -65,18 +65,28 @@ pub fn prints(file: &str, seed: u64) -> Result<ExitCode, String> {
     Ok(ExitCode::SUCCESS)
 }
 
+fn print_record(tree: &Tree, room: usize, printed: &Result<Vec<u8>, u32>) -> Vec<u8> {
+    let mut record = Stored::default();
+    record.number(room).line();
+    record.bytes(&tree.text).bytes(&tree.list);
+    record.number(printed.as_ref().err().map_or(0, |number| *number as usize));
+    record.bytes(printed.as_deref().unwrap_or_default());
+    record.number(tree.words.len()).line();
+    record.words(&tree.words);
+    record.0
+}
+
+/// A tree with a text that is not its own, of the same length.
+fn wrong_print() -> Vec<u8> {
+    print_record(&leaf(b"Int32"), MOST_BYTES, &Ok(b"Int16".to_vec()))
+}
+
 impl Prints<'_> {
     /// Keeps a tree that prints into so many bytes; fails where model and Rust differ.
     fn keep(&mut self, tree: &Tree, room: usize, long: usize) -> Result<(), String> {
         let printed = agreed(tree, room)?;
-        let mut record = Stored::default();
-        record.number(room).line();
-        record.bytes(&tree.text).bytes(&tree.list);
-        record.number(printed.as_ref().err().map_or(0, |number| *number as usize));
-        record.bytes(printed.as_deref().unwrap_or_default());
-        record.number(tree.words.len()).line();
-        record.words(&tree.words);
-        if record.0.len() > long || !self.kept.offer(record.0) {
+        let record = print_record(tree, room, &printed);
+        if record.len() > long || !self.kept.offer(record) {
             return Ok(());
         }
         self.answers[printed.as_ref().err().map_or(0, |number| *number as usize)] += 1;

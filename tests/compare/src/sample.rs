@@ -78,7 +78,9 @@ impl File {
         fits
     }
 
-    pub fn write(&self, file: &str) -> Result<usize, String> {
+    /// The last record is wrong on purpose: a replay that calls it alike can't fail.
+    pub fn write(&mut self, file: &str, wrong: Vec<u8>) -> Result<usize, String> {
+        self.records.push(wrong);
         let mut image = Stored::default();
         image.number(self.records.len()).line();
         self.records
@@ -114,7 +116,7 @@ pub fn texts(file: &str, seed: u64) -> Result<ExitCode, String> {
         println!("nothing is written while there are differences");
         return Ok(ExitCode::FAILURE);
     }
-    let bytes = kept.write(file)?;
+    let bytes = kept.write(file, wrong_text())?;
     println!("{} texts, {bytes} bytes in {file}", kept.records.len());
     println!("{accepted:>6} accepted");
     Ok(ExitCode::SUCCESS)
@@ -143,6 +145,12 @@ fn text_record(text: &[u8], lent: usize, answer: &Result<Vec<Row>, u32>) -> Vec<
         Err(number) => record.number(*number as usize).number(0).line(),
     }
     record.0
+}
+
+/// A text with the rows of another.
+fn wrong_text() -> Vec<u8> {
+    let answer = model::read(b"Int16", Limits::lent(MOST_ROWS));
+    text_record(b"Int8", MOST_ROWS * WORDS, &answer)
 }
 
 /// Texts out of every generator: from each a few for every answer that it gives.
@@ -264,8 +272,8 @@ pub fn tables(file: &str, seed: u64) -> Result<ExitCode, String> {
             all.add(tally);
         }
     }
-    let bytes = kept.write(file)?;
-    println!("{} tables, {bytes} bytes in {file}", all.cases);
+    let bytes = kept.write(file, wrong_table())?;
+    println!("{} tables, {bytes} bytes in {file}", all.cases + 1);
     println!("{changed:>6} sound trees with words changed");
     println!("{broken:>6} trees with a clause broken");
     println!("{:>6} tables are sound", all.sound);
@@ -359,14 +367,8 @@ fn around_bounds(random: &mut Random, tree: &Tree) -> Vec<Change> {
 
 /// Two tables, and changes of the first with the answers of each.
 fn table_record(tree: &Tree, other: &Tree, changes: &[Change]) -> (Vec<u8>, Tally) {
-    let mut record = Stored::default();
+    let mut record = two_tables(tree, other, changes.len());
     let mut tally = Tally::default();
-    for tree in [tree, other] {
-        record.bytes(&tree.text).bytes(&tree.list);
-        record.number(tree.words.len()).line();
-        record.words(&tree.words);
-    }
-    record.number(changes.len()).line();
     for (at, value) in changes {
         let mut changed = tree.clone();
         if let Some(word) = changed.words.get_mut(*at) {
@@ -376,6 +378,38 @@ fn table_record(tree: &Tree, other: &Tree, changes: &[Change]) -> (Vec<u8>, Tall
         tally.add(answers(&mut record, &changed, other, at / WORDS));
     }
     (record.0, tally)
+}
+
+/// Two tables, and how many changes follow.
+fn two_tables(tree: &Tree, other: &Tree, changes: usize) -> Stored {
+    let mut record = Stored::default();
+    for tree in [tree, other] {
+        record.bytes(&tree.text).bytes(&tree.list);
+        record.number(tree.words.len()).line();
+        record.words(&tree.words);
+    }
+    record.number(changes).line();
+    record
+}
+
+/// A table that is said to equal another.
+fn wrong_table() -> Vec<u8> {
+    let (tree, other) = (leaf(b"Int8"), leaf(b"Int16"));
+    let mut record = two_tables(&tree, &other, 1);
+    let (at, value) = UNCHANGED;
+    record.number(at).number(value as usize);
+    answers(&mut record, &tree, &tree, at / WORDS);
+    record.0
+}
+
+/// The tree of a text that is a single type.
+pub fn leaf(text: &[u8]) -> Tree {
+    let rows = model::read(text, Limits::lent(1)).expect("a type of one row");
+    Tree {
+        text: text.to_vec(),
+        list: NAME_LIST.to_vec(),
+        words: model::to_words(&rows),
+    }
 }
 
 /// Sound or not, depth, verdict, equality with the other, and a row's name and zone.

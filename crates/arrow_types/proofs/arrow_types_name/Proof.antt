@@ -5,7 +5,7 @@ use Rattle.arrow_types.proofs.arrow_types_name.Statement.{statement}
 use Rattle.arrow_types.proofs.arrow_types_name.Tie as tie
 use Rattle.arrow_types.proofs.arrow_types_name.Reads as reads
 use Rattle.arrow_types.proofs.arrow_types_name.Lts as lts
-use Rattle.datatype.proofs.name.Reads as name-reads
+use Rattle.datatype.proofs.field.Field.name.Reads as name-reads
 
 name-requires : tie.Need-name-requires
 name-requires c κs = search needs

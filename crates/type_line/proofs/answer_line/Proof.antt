@@ -1,4 +1,4 @@
-use Rattle.type_line.proofs.Whole.{few-words, few-bytes, line-refused, line-fits, line-counted, line-read}
+use Rattle.type_line.proofs.Whole.{few-words, few-bytes, line-refused, line-fits, line-few, line-counted, line-read}
 use native.Mathlib.Omega.{arith}
 use borrow.Author.Needs.{needs}
 use Rattle.type_line.proofs.answer_line.Statement.{statement}
@@ -37,7 +37,7 @@ slice-aggregate-answer-tree : tie.Need-slice-aggregate-answer-tree
 slice-aggregate-answer-tree c = line-counted _ _ (c .before .before .before .before .before .before .before .before .before .before .before .before .before .args .out .now) (c .before .before .before .before .before .before .before .before .before .if1 .left) (c .before .before .before .before .before .before .before .before .if2 .left) _ _ (c .before .before .before .before .before .before .parse-data-type .ensures .0) (c .before .before .before .before .before .before .parse-data-type .ensures .1) _ (c .before .before .n2 .given .1) (c .before .before .before .before .before .before .parse-data-type .kept .1 .0)
 
 answer-tree-requires : tie.Need-answer-tree-requires
-answer-tree-requires c κs = search needs
+answer-tree-requires c κs = (search needs, line-few _ _ (c .before .before .before .before .before .before .before .before .before .before .before .before .before .before .args .out .now) (c .before .before .before .before .before .before .before .before .before .before .if1 .left) (c .before .before .before .before .before .before .before .before .before .if2 .left) _ _ (c .before .before .before .before .before .before .before .parse-data-type .ensures .0) (c .before .before .before .before .before .before .before .parse-data-type .ensures .1) _ (c .before .before .before .n2 .given .1) (c .before .before .before .before .before .before .before .parse-data-type .kept .1 .0))
 
 same-length : tie.Need-same-length
 same-length c = search needs

@@ -1,51 +1,28 @@
-use Rattle.parser.proofs.TokenLaws.{need-behind}
-use mathlib.Core.Path.{ap, _∙_}
-use Rattle.parser.specs.Steps.{quotedOf}
+use Rattle.parser.proofs.TokenLaws.{but, quoted-here, quoted-lost, only-sort}
 use native.Mathlib.Omega.{arith}
 use borrow.Author.Needs.{needs}
 use Rattle.parser.proofs.tokens.parse_double_quoted_string.Statement.{statement}
 use Rattle.parser.proofs.tokens.parse_double_quoted_string.Tie as tie
 use Rattle.parser.proofs.tokens.parse_double_quoted_string.Reads as reads
 use Rattle.parser.proofs.tokens.parse_double_quoted_string.Lts as lts
-use Rattle.parser.proofs.tokens.double_quoted.Reads as double-quoted-reads
-use Rattle.parser.proofs.tokens.double_quoted_token.Reads as double-quoted-token-reads
-use Rattle.parser.proofs.tokens.past_letters.Reads as past-letters-reads
-use Rattle.parser.proofs.tokens.starts.Reads as starts-reads
-use Rattle.tokenizer.proofs.skip_spaces.Reads as skip-spaces-reads
+use Rattle.parser.proofs.tokens.refusal.Reads as refusal-reads
+use Rattle.tokenizer.proofs.next_token.Reads as next-token-reads
 
-skip-spaces-requires : tie.Need-skip-spaces-requires
-skip-spaces-requires c κs = search needs
+next-token-requires : tie.Need-next-token-requires
+next-token-requires c κs = search needs
 
-starts-requires : tie.Need-starts-requires
-starts-requires c κs = search needs
+enum-told : tie.Need-enum-told
+enum-told c = search needs
 
-add-past-letters : tie.Need-add-past-letters
-add-past-letters c = let h = c .before .starts .ensures .0 (c .if1 .taken) in omega arith
-
-past-letters-requires : tie.Need-past-letters-requires
-past-letters-requires c κs = let h = c .before .starts .ensures .0 (c .if1 .taken) in omega arith
-
-double-quoted-requires : tie.Need-double-quoted-requires
-double-quoted-requires c κs = (c .before .before .starts .ensures .0 (c .before .if1 .taken), c .past-letters .ensures)
+refusal-requires : tie.Need-refusal-requires
+refusal-requires c κs = search needs
 
 returns : tie.Need-returns
-returns c = c .double-quoted .ensures ∙ ap quotedOf (need-behind _ _ _ (c .before .before .before .before .skip-spaces .ensures) _)
-
-double-quoted-token-requires : tie.Need-double-quoted-token-requires
-double-quoted-token-requires c κs = search needs
+returns c = quoted-lost _ _ _ _ (c .before .before .next-token .ensures) (but 5) tt (c .before .match .keys2) _ (c .refusal .ensures)
 
 returns-2 : tie.Need-returns-2
-returns-2 c = search needs
+returns-2 c = quoted-here _ _ _ _ (c .before .before .next-token .ensures) (only-sort 5 (c .before .before .next-token .result .kind) (c .before .match .keys1))
 
 pub parse-double-quoted-string-spec : {M : Type 1} → statement M
 parse-double-quoted-string-spec =
-    tie.close
-    (tie.spec
-    skip-spaces-requires
-    starts-requires
-    add-past-letters
-    past-letters-requires
-    double-quoted-requires
-    returns
-    double-quoted-token-requires
-    returns-2)
+    tie.close (tie.spec next-token-requires enum-told refusal-requires returns returns-2)

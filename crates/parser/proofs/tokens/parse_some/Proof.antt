@@ -8,7 +8,7 @@ use Rattle.parser.proofs.tokens.parse_some.Tie as tie
 use Rattle.parser.proofs.tokens.parse_some.Reads as reads
 use Rattle.parser.proofs.tokens.parse_some.Lts as lts
 use Rattle.parser.proofs.tokens.expect_token.Reads as expect-token-reads
-use Rattle.parser.proofs.tokens.double_quoted_token.Reads as double-quoted-token-reads
+use Rattle.parser.proofs.tokens.parse_double_quoted_string.Reads as parse-double-quoted-string-reads
 
 expect-token-requires : tie.Need-expect-token-requires
 expect-token-requires c κs = search needs
@@ -22,8 +22,8 @@ enum-known-n c = search needs
 returns : tie.Need-returns
 returns c = zone-refused _ _ (some-1 _ _ _ (lost-step _ _ (sym (c .before .n .given .1) ∙ c .before .before .before .expect-token .ensures)))
 
-double-quoted-token-requires : tie.Need-double-quoted-token-requires
-double-quoted-token-requires c κs = search needs
+parse-double-quoted-string-requires : tie.Need-parse-double-quoted-string-requires
+parse-double-quoted-string-requires c κs = search needs
 
 enum-known-n-2 : tie.Need-enum-known-n-2
 enum-known-n-2 c = search needs
@@ -41,13 +41,13 @@ enum-known-next-2 : tie.Need-enum-known-next-2
 enum-known-next-2 c = search needs
 
 returns-2 : tie.Need-returns-2
-returns-2 c = let o = got-step _ _ (sym (c .before .before .before .before .before .next .given .1) ∙ c .before .before .before .before .before .before .before .expect-token .ensures) in zone-refused _ _ (some-2 _ _ (o .0) _ (o .1) _ (lost-quoted _ _ (sym (c .before .n2 .given .1) ∙ c .before .before .before .double-quoted-token .ensures)))
+returns-2 c = let o = got-step _ _ (sym (c .before .before .before .before .before .next .given .1) ∙ c .before .before .before .before .before .before .before .expect-token .ensures) in zone-refused _ _ (some-2 _ _ (o .0) _ (o .1) _ (lost-quoted _ _ (sym (c .before .n2 .given .1) ∙ c .before .before .before .parse-double-quoted-string .ensures)))
 
 returns-3 : tie.Need-returns-3
-returns-3 c = let o = got-step _ _ (sym (c .before .before .before .before .before .before .before .before .before .next .given .1) ∙ c .before .before .before .before .before .before .before .before .before .before .before .expect-token .ensures) in let q = got-quoted _ _ _ _ (sym (c .before .before .before .before .before .start .given .1) ∙ c .before .before .before .before .before .before .before .double-quoted-token .ensures) in zone-refused _ _ (some-3 _ _ (o .0) _ (o .1) (q .0) _ _ _ (q .1) _ (lost-step _ _ (sym (c .before .n3 .given .1) ∙ c .before .before .before .expect-token2 .ensures)))
+returns-3 c = let o = got-step _ _ (sym (c .before .before .before .before .before .before .before .before .before .next .given .1) ∙ c .before .before .before .before .before .before .before .before .before .before .before .expect-token .ensures) in let q = got-quoted _ _ _ _ (sym (c .before .before .before .before .before .start .given .1) ∙ c .before .before .before .before .before .before .before .parse-double-quoted-string .ensures) in zone-refused _ _ (some-3 _ _ (o .0) _ (o .1) (q .0) _ _ _ (q .1) _ (lost-step _ _ (sym (c .before .n3 .given .1) ∙ c .before .before .before .expect-token2 .ensures)))
 
 returns-4 : tie.Need-returns-4
-returns-4 c = let o = got-step _ _ (sym (c .before .before .before .before .before .before .before .before .before .next .given .1) ∙ c .before .before .before .before .before .before .before .before .before .before .before .expect-token .ensures) in let q = got-quoted _ _ _ _ (sym (c .before .before .before .before .before .start .given .1) ∙ c .before .before .before .before .before .before .before .double-quoted-token .ensures) in let e = got-step _ _ (sym (c .before .next2 .given .1) ∙ c .before .before .before .expect-token2 .ensures) in zone-done _ _ _ _ (some-4 _ _ (o .0) _ (o .1) (q .0) _ _ _ (q .1) (e .0) _ (e .1))
+returns-4 c = let o = got-step _ _ (sym (c .before .before .before .before .before .before .before .before .before .next .given .1) ∙ c .before .before .before .before .before .before .before .before .before .before .before .expect-token .ensures) in let q = got-quoted _ _ _ _ (sym (c .before .before .before .before .before .start .given .1) ∙ c .before .before .before .before .before .before .before .parse-double-quoted-string .ensures) in let e = got-step _ _ (sym (c .before .next2 .given .1) ∙ c .before .before .before .expect-token2 .ensures) in zone-done _ _ _ _ (some-4 _ _ (o .0) _ (o .1) (q .0) _ _ _ (q .1) (e .0) _ (e .1))
 
 pub parse-some-spec : {M : Type 1} → statement M
 parse-some-spec =
@@ -57,7 +57,7 @@ parse-some-spec =
     enum-known-next
     enum-known-n
     returns
-    double-quoted-token-requires
+    parse-double-quoted-string-requires
     enum-known-n-2
     enum-known-start
     expect-token-requires-2

@@ -1,38 +1,32 @@
-use mathlib.Core.Path.{sym}
-use lib.Seq.{length-take-le}
+use Rattle.replay.proofs.TableCases.{one-group}
+use Rattle.replay.proofs.Cases.{front-long}
 use native.Mathlib.Omega.{arith}
 use borrow.Author.Needs.{needs}
 use Rattle.replay.proofs.tables.one_group.Statement.{statement}
 use Rattle.replay.proofs.tables.one_group.Tie as tie
 use Rattle.replay.proofs.tables.one_group.Reads as reads
 use Rattle.replay.proofs.tables.one_group.Lts as lts
-use Rattle.replay.proofs.stored.number_at.Reads as number-at-reads
-use Rattle.replay.proofs.tables.cases_of.Reads as cases-of-reads
+use Rattle.replay.proofs.stored.least.Reads as least-reads
+use Rattle.replay.proofs.tables.group_of.Reads as group-of-reads
 use Rattle.replay.proofs.tables.table_at.Reads as table-at-reads
 
 table-at-requires : tie.Need-table-at-requires
 table-at-requires c κs = search needs
 
-table-at-requires-2 : tie.Need-table-at-requires-2
-table-at-requires-2 c κs = search needs
+cast-least : tie.Need-cast-least
+cast-least c = search needs
 
-number-at-requires : tie.Need-number-at-requires
-number-at-requires c κs = search needs
+least-requires : tie.Need-least-requires
+least-requires c κs = search needs
 
-slice-relend-prefix-cases-of : tie.Need-slice-relend-prefix-cases-of
-slice-relend-prefix-cases-of c = search needs
+slice-relend-prefix-group-of : tie.Need-slice-relend-prefix-group-of
+slice-relend-prefix-group-of c = search needs
 
-slice-aggregate-cases-of : tie.Need-slice-aggregate-cases-of
-slice-aggregate-cases-of c = sym (length-take-le _ (c .before .before .before .before .before .before .before .before .table-at .last .1 .1 .0) (c .before .before .before .before .before .before .before .before .table-at .ensures))
+slice-aggregate-group-of : tie.Need-slice-aggregate-group-of
+slice-aggregate-group-of c = front-long _ _ (c .before .before .before .before .before .before .before .args .words .now) (c .before .least .ensures)
 
-slice-reshare-prefix-cases-of : tie.Need-slice-reshare-prefix-cases-of
-slice-reshare-prefix-cases-of c = search needs
-
-slice-aggregate-cases-of-2 : tie.Need-slice-aggregate-cases-of-2
-slice-aggregate-cases-of-2 c = sym (length-take-le _ (c .before .before .before .before .before .table-at2 .last .1 .1 .0) (c .before .before .before .before .before .table-at2 .ensures))
-
-cases-of-requires : tie.Need-cases-of-requires
-cases-of-requires c κs = search needs
+group-of-requires : tie.Need-group-of-requires
+group-of-requires c κs = search needs
 
 same-length : tie.Need-same-length
 same-length c = search needs
@@ -41,20 +35,18 @@ same-length-2 : tie.Need-same-length-2
 same-length-2 c = search needs
 
 returns : tie.Need-returns
-returns c = search needs
+returns c = one-group _ (c .before .before .before .before .before .before .before .before .before .before .before .before .before .args .words .now) (c .before .before .before .before .before .before .before .before .before .before .before .before .before .args .others .now) _ _ _ _ (c .before .before .before .before .before .before .before .before .before .table-at .ensures) (c .before .before .before .before .before .before .before .least .ensures) (c .before .before .before .before .group-of .ensures)
 
 pub one-group-spec : {M : Type 1} → statement M
 one-group-spec =
     tie.close
     (tie.spec
     table-at-requires
-    table-at-requires-2
-    number-at-requires
-    slice-relend-prefix-cases-of
-    slice-aggregate-cases-of
-    slice-reshare-prefix-cases-of
-    slice-aggregate-cases-of-2
-    cases-of-requires
+    cast-least
+    least-requires
+    slice-relend-prefix-group-of
+    slice-aggregate-group-of
+    group-of-requires
     same-length
     same-length-2
     returns)

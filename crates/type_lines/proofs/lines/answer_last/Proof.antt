@@ -8,10 +8,10 @@ use Rattle.type_lines.proofs.lines.answer_last.Lts as lts
 use Rattle.type_lines.proofs.lines.answer_at.Reads as answer-at-reads
 
 returns : tie.Need-returns
-returns c = ends-skipped _ _ _ (omega arith) (c .before .before .before .before .pre .2) _ (c .if1 .taken)
+returns c = ends-skipped _ _ (c .before .before .before .before .pre .1 .partial) _ (c .if1 .taken)
 
 returns-2 : tie.Need-returns-2
-returns-2 c = ends-empty _ _ _ (omega arith) (c .if2 .taken) _ (c .before .if1 .left)
+returns-2 c = ends-empty _ _ (c .if2 .taken) _ (c .before .if1 .left)
 
 answer-at-requires : tie.Need-answer-at-requires
 answer-at-requires c κs = search needs
@@ -23,7 +23,7 @@ same-length-2 : tie.Need-same-length-2
 same-length-2 c = search needs
 
 returns-3 : tie.Need-returns-3
-returns-3 c = ends-line _ _ _ _ _ (c .before .before .before .before .before .before .before .if2 .left) (c .before .before .before .before .before .before .before .before .before .before .before .before .pre .2) _ (c .before .before .before .before .before .before .before .before .if1 .left) (c .before .before .before .before .answer-at .ensures)
+returns-3 c = ends-line _ _ _ _ (c .before .before .before .before .before .before .before .if2 .left) (c .before .before .before .before .before .before .before .before .before .before .before .before .pre .1 .partial) _ (c .before .before .before .before .before .before .before .before .if1 .left) (c .before .before .before .before .answer-at .ensures)
 
 pub answer-last-spec : {M : Type 1} → statement M
 answer-last-spec =
