@@ -6,7 +6,7 @@ use Prim.Native.Nat.{ℕ, zero, suc, _+_, _-_, _*_, _≤_, _<_}
 use native.Mathlib.Omega.{arith}
 use lib.ListN.{length, getD, length-map}
 use lib.Dec.{T, leb, ltb, eqb, eqb→eq, eqb·suc-suc}
-use borrow.Author.Tests.{le-leb, lt-leb, lt-ltb, le-ltb, eq-eqb, ne-eqb, eqb-true, leb-true, ltb-true, ltb-false}
+use borrow.Author.Tests.{lt-ltb, le-ltb, eq-eqb, ne-eqb, eqb-true, leb-true, ltb-true, ltb-false}
 use Rattle.tokenizer.specs.Text.{if_then_else_}
 use Rattle.tokenizer.proofs.Basics.{and-r, is-true, of-true}
 use Rattle.datatype.specs.Kind.{Shape, leaf, timestamp, time, interval, fixed, list, fixedList, struct, union, dictionary, decimal, mapping, runEnds, kinds, shapeOf, keyRefusal, entriesRefusal, idsFit}
@@ -223,14 +223,6 @@ list-kids runEnds f e = absurd (false≢true e)
 lists : T (allBelow kinds (λ k. sameBool (listShape (shapeOf k)) (isList k)))
 unfolding sameBool shapeOf isList
 lists = tt
-
-pub list-low : (k : ℕ) → k < 27 → false ≡ isList k
-unfolding isList
-list-low k h = rw (lt-leb 27 k h)
-
-pub list-high : (k : ℕ) → 27 ≤ k → leb k 31 ≡ isList k
-unfolding isList
-list-high k h = rw (le-leb 27 k h)
 
 list-bound : (k : ℕ) → isList k ≡ true → k < kinds
 unfolding isList

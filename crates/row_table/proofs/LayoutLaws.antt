@@ -8,7 +8,7 @@ use native.Mathlib.Omega.{arith}
 use lib.ListN.{length, take, drop, getD}
 use lib.Seq.{drop-drop}
 use lib.Dec.{T, leb, ltb, eqb}
-use borrow.Author.Tests.{le-leb, lt-leb, ne-eqb, ltb-true, ltb-false}
+use borrow.Author.Tests.{ne-eqb, ltb-true, ltb-false}
 use Rattle.tokenizer.specs.Text.{if_then_else_}
 use Rattle.tokenizer.specs.Answer.{done}
 use Rattle.tokenizer.proofs.Basics.{of-true}
@@ -29,13 +29,6 @@ use Rattle.row_table.proofs.EqualLaws.{row-word}
 use Rattle.row_table.proofs.RowList.{rowsOf, whole-rows, count-labels}
 
 -- ---- what a row is asked
-
-module _ (least k most : ℕ) where
-  pub between-below : k < least → false ≡ (leb least k && leb k most)
-  between-below h = rw (lt-leb least k h)
-
-  pub between-from : least ≤ k → leb k most ≡ (leb least k && leb k most)
-  between-from h = rw (le-leb least k h)
 
 module _ (asked k : ℕ) where
   pub allowed-1 : asked ≡ 0 → true ≡ kindAllowed (askedOf asked) k

@@ -15,15 +15,16 @@ use Rattle.datatype.proofs.KindLaws.{past-kinds}
 use Rattle.datatype.proofs.ShapeLaws.{else-value}
 use Rattle.tokenizer.proofs.Listed.{NoneOf}
 
+-- ---- a kind between two others
+
+module _ (least k most : ℕ) where
+  pub between-below : k < least → false ≡ (leb least k && leb k most)
+  between-below h = rw (lt-leb least k h)
+
+  pub between-from : least ≤ k → leb k most ≡ (leb least k && leb k most)
+  between-from h = rw (le-leb least k h)
+
 -- ---- the four decimals
-
-pub decimal-low : (k : ℕ) → k < 35 → false ≡ isDecimal k
-unfolding isDecimal
-decimal-low k h = rw (lt-leb 35 k h)
-
-pub decimal-high : (k : ℕ) → 35 ≤ k → leb k 38 ≡ isDecimal k
-unfolding isDecimal
-decimal-high k h = rw (le-leb 35 k h)
 
 -- exactly the decimals have the shape of a decimal
 abbrev decimalShape : Shape → Bool

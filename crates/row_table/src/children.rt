@@ -10,6 +10,7 @@ ghost use Rattle.row_table.specs.Check.{entriesOk, isList, childrenFit};
 use crate::ids::ids_fit;
 use crate::rows::subtree;
 use crate::rows::word;
+use crate::rules::between;
 use crate::rules::is_decimal;
 use datatype::kind::DICTIONARY;
 use datatype::kind::LARGE_LIST_VIEW;
@@ -67,10 +68,7 @@ fn entries_fit(rows: &[u32], first: usize, end: usize) -> bool
 fn is_list(kind: u32) -> bool
     ensures { λ r. ⌜ r ≡ isList kind ⌝ }
 {
-    if kind < LIST {
-        return false;
-    }
-    kind <= LARGE_LIST_VIEW
+    between(LIST, kind, LARGE_LIST_VIEW)
 }
 
 // Whether a row of a kind may have no children.

@@ -1,7 +1,5 @@
 // The layout verdict: a dictionary key is any of the eight integer types, run ends are Int16, Int32 or Int64.
 ghost use mathlib.Core.Path.{_≡_};
-ghost use mathlib.Core.Bool.{_&&_};
-ghost use lib.Dec.{leb};
 ghost use Rattle.tokenizer.specs.Answer.{done};
 ghost use Rattle.datatype.specs.Kind.{shapeOf};
 ghost use Rattle.row_table.specs.Equal.{wholeRows};
@@ -9,6 +7,7 @@ ghost use Rattle.row_table.specs.Layout.{anything, kindAllowed, askedOfF
 ghost use Rattle.row_table.specs.Scan.{askedOf, scan};
 use crate::Verdict;
 use crate::rows::word;
+use crate::rules::between;
 use crate::sound::is_sound;
 use datatype::kind::DICTIONARY;
 use datatype::kind::INT8;
@@ -18,16 +17,6 @@ use datatype::kind::RUN_END_ENCODED;
 use datatype::kind::UINT64;
 use datatype::rows::KIND;
 use datatype::rows::ROW_WORDS;
-
-// Whether a kind lies between two others, in the order of `DataType`, or is one of them.
-fn between(least: u32, kind: u32, most: u32) -> bool
-    ensures { λ r. ⌜ r ≡ (leb least kind && leb kind most) ⌝ }
-{
-    if kind < least {
-        return false;
-    }
-    kind <= most
-}
 
 // Whether a row that is asked something (0 anything, 1 a dictionary key, 2 run ends) may have a kind.
 fn kind_allowed(asked: u32, kind: u32) -> bool

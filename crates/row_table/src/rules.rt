@@ -1,6 +1,8 @@
 // What each kind asks of a row's numbers, and where its children stand.
 ghost use mathlib.Core.Path.{_≡_};
+ghost use mathlib.Core.Bool.{_&&_};
 ghost use Prim.Native.Nat.{_<_};
+ghost use lib.Dec.{leb};
 ghost use Rattle.datatype.specs.Kind.{kinds, shapeOf};
 ghost use Rattle.row_table.specs.Sound.{rulesOf};
 ghost use Rattle.row_table.specs.Check.{placeOf, belowOf, isDecimal, numbersFit};
@@ -20,14 +22,21 @@ use datatype::kind::TIME64;
 use datatype::kind::TIMESTAMP;
 use datatype::kind::UNION;
 
+// Whether a kind lies between two others, in the order of `DataType`, or is one of them.
+pub(crate) fn between(least: u32, kind: u32, most: u32) -> bool
+    ensures { λ r. ⌜ r ≡ (leb least kind && leb kind most) ⌝ }
+{
+    if kind < least {
+        return false;
+    }
+    kind <= most
+}
+
 // Whether a kind is one of the four decimals.
 pub(crate) fn is_decimal(kind: u32) -> bool
     ensures { λ r. ⌜ r ≡ isDecimal kind ⌝ }
 {
-    if kind < DECIMAL32 {
-        return false;
-    }
-    kind <= DECIMAL256
+    between(DECIMAL32, kind, DECIMAL256)
 }
 
 // How many values word 4 has in rows of a kind.

@@ -1,12 +1,14 @@
-use Rattle.row_table.proofs.ChildLaws.{list-low, list-high}
+use borrow.Author.Needs.{needs}
+use Rattle.row_table.specs.Check.{isList}
 use Rattle.row_table.proofs.children.is_list.Statement.{statement}
 use Rattle.row_table.proofs.children.is_list.Tie as tie
 
-returns : tie.Need-returns
-returns c = list-low _ (c .if1 .taken)
+between-requires : tie.Need-between-requires
+between-requires c κs = search needs
 
-returns-2 : tie.Need-returns-2
-returns-2 c = list-high _ (c .if1 .left)
+returns : tie.Need-returns
+unfolding isList
+returns c = c .between .ensures
 
 pub is-list-spec : {M : Type 1} → statement M
-is-list-spec = tie.close (tie.spec returns returns-2)
+is-list-spec = tie.close (tie.spec between-requires returns)

@@ -1,12 +1,14 @@
-use Rattle.row_table.proofs.RuleLaws.{decimal-low, decimal-high}
+use borrow.Author.Needs.{needs}
+use Rattle.row_table.specs.Check.{isDecimal}
 use Rattle.row_table.proofs.rules.is_decimal.Statement.{statement}
 use Rattle.row_table.proofs.rules.is_decimal.Tie as tie
 
-returns : tie.Need-returns
-returns c = decimal-low _ (c .if1 .taken)
+between-requires : tie.Need-between-requires
+between-requires c κs = search needs
 
-returns-2 : tie.Need-returns-2
-returns-2 c = decimal-high _ (c .if1 .left)
+returns : tie.Need-returns
+unfolding isDecimal
+returns c = c .between .ensures
 
 pub is-decimal-spec : {M : Type 1} → statement M
-is-decimal-spec = tie.close (tie.spec returns returns-2)
+is-decimal-spec = tie.close (tie.spec between-requires returns)

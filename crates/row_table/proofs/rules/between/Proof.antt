@@ -1,6 +1,6 @@
-use Rattle.row_table.proofs.LayoutLaws.{between-below, between-from}
-use Rattle.row_table.proofs.layout.between.Statement.{statement}
-use Rattle.row_table.proofs.layout.between.Tie as tie
+use Rattle.row_table.proofs.RuleLaws.{between-below, between-from}
+use Rattle.row_table.proofs.rules.between.Statement.{statement}
+use Rattle.row_table.proofs.rules.between.Tie as tie
 
 returns : tie.Need-returns
 returns c = between-below _ _ _ (c .if1 .taken)
