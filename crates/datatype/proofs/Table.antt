@@ -12,7 +12,7 @@ use borrow.Author.Tests.{le-leb}
 use Rattle.tokenizer.specs.Text.{if_then_else_}
 use Rattle.tokenizer.proofs.Basics.{and-l, and-r, of-true}
 use Rattle.datatype.specs.Tree.{Forest, ∅, node, count, Row}
-use Rattle.datatype.specs.Table.{rowWords, wordsOf, rowOf, subtreeOf, tableOf, join, viewWith, viewOf}
+use Rattle.datatype.specs.Table.{rowWords, wordsOf, rowOf, rowsWord, tableOf, join, viewWith, viewOf}
 
 pub length-table : (f : Forest Row) → length (tableOf f) ≡ rowWords * count f
 unfolding tableOf wordsOf
@@ -53,7 +53,7 @@ view-table f = view-table-with f (length (tableOf f)) (omega (arith, length-tabl
 -- ---- from a table to its tree and back
 
 -- a row taken from a list and what stands behind it are the list
-pub row-words : (ws : List ℕ) → rowWords ≤ length ws → wordsOf (rowOf ws) (subtreeOf ws) ++ drop rowWords ws ≡ ws
+pub row-words : (ws : List ℕ) → rowWords ≤ length ws → wordsOf (rowOf ws) (rowsWord ws) ++ drop rowWords ws ≡ ws
 unfolding wordsOf rowOf
 row-words ws h =
     rw (
@@ -76,10 +76,10 @@ record Viewed (m : ℕ) (ws : List ℕ) (f : Forest Row) : Type 0 where
   kids : Forest Row
   next : Forest Row
   is : f ≡ node (rowOf ws) kids next
-  some-rows : 1 ≤ subtreeOf ws
-  long : rowWords * subtreeOf ws ≤ length ws
-  first : viewWith m (take (rowWords * (subtreeOf ws - 1)) (drop rowWords ws)) ≡ some kids
-  rest : viewWith m (drop (rowWords * (subtreeOf ws - 1)) (drop rowWords ws)) ≡ some next
+  some-rows : 1 ≤ rowsWord ws
+  long : rowWords * rowsWord ws ≤ length ws
+  first : viewWith m (take (rowWords * (rowsWord ws - 1)) (drop rowWords ws)) ≡ some kids
+  rest : viewWith m (drop (rowWords * (rowsWord ws - 1)) (drop rowWords ws)) ≡ some next
 
 join-some : (r : Row) (a b : Option (Forest Row)) (f : Forest Row) → join r a b ≡ some f → (k n : Forest Row) × (f ≡ node r k n) × (a ≡ some k) × (b ≡ some n)
 join-some r none b f e = absurd (let z : _≡_ {A = ℕ} 0 1 = cc in omega arith)
@@ -93,7 +93,7 @@ if-some false x f e = absurd (let z : _≡_ {A = ℕ} 0 1 = cc in omega arith)
 viewed : (m w : ℕ) (ws : List ℕ) (f : Forest Row) → viewWith (suc m) (w ∷ ws) ≡ some f → Viewed m (w ∷ ws) f
 unfolding viewWith
 viewed m w ws f e =
-    let rows = subtreeOf (w ∷ ws) in
+    let rows = rowsWord (w ∷ ws) in
     let behind = drop rowWords (w ∷ ws) in
     let below = viewWith m (take (rowWords * (rows - 1)) behind) in
     let beyond = viewWith m (drop (rowWords * (rows - 1)) behind) in
@@ -114,14 +114,14 @@ viewed m w ws f e =
 put-together : (m : ℕ) (ws : List ℕ) (f : Forest Row) → ((t : List ℕ) (g : Forest Row) → viewWith m t ≡ some g → tableOf g ≡ t) → Viewed m ws f → tableOf f ≡ ws
 unfolding tableOf
 put-together m ws f ih v =
-    let lo : 1 ≤ subtreeOf ws = v .some-rows in
-    let hi : rowWords * subtreeOf ws ≤ length ws = v .long in
+    let lo : 1 ≤ rowsWord ws = v .some-rows in
+    let hi : rowWords * rowsWord ws ≤ length ws = v .long in
     let behind = drop rowWords ws in
-    let size = rowWords * (subtreeOf ws - 1) in
+    let size = rowWords * (rowsWord ws - 1) in
     let fits : size ≤ length behind = omega (arith, length-drop rowWords ws) in
     let k : tableOf (v .kids) ≡ take size behind = ih (take size behind) (v .kids) (v .first) in
     let n : tableOf (v .next) ≡ drop size behind = ih (drop size behind) (v .next) (v .rest) in
-    let rows : suc (count (v .kids)) ≡ subtreeOf ws = omega (arith, length-table (v .kids), ap length k, length-take-le size behind fits) in
+    let rows : suc (count (v .kids)) ≡ rowsWord ws = omega (arith, length-table (v .kids), ap length k, length-take-le size behind fits) in
     rw (v .is, rows, k, n, take-append-drop size behind) (row-words ws (omega arith))
 
 table-view-with : (m : ℕ) (t : List ℕ) (f : Forest Row) → viewWith m t ≡ some f → tableOf f ≡ t
@@ -149,7 +149,7 @@ view-enough (suc m) zero (w ∷ ws) p q = absurd (omega arith)
 view-enough (suc m) (suc n) [] p q = refl
 view-enough (suc m) (suc n) (w ∷ ws) p q =
     let behind = drop rowWords (w ∷ ws) in
-    let size = rowWords * (subtreeOf (w ∷ ws) - 1) in
+    let size = rowWords * (rowsWord (w ∷ ws) - 1) in
     let short : length behind ≤ m = omega (arith, length-drop rowWords (w ∷ ws)) in
     let short′ : length behind ≤ n = omega (arith, length-drop rowWords (w ∷ ws)) in
     rw (

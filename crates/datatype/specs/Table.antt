@@ -6,6 +6,7 @@ use Prim.Native.Nat.{ℕ, zero, suc, _+_, _*_, _-_, _/_, min}
 use lib.ListN.{length, take, drop, getD}
 use lib.Dec.{leb}
 use Rattle.tokenizer.specs.Text.{if_then_else_}
+use Rattle.datatype.specs.Limits.{maxRows}
 use Rattle.datatype.specs.Tree.{Forest, ∅, node, count, Row, Label, labels}
 
 -- How many words a row has.
@@ -15,7 +16,7 @@ rowWords = 12
 -- The words of a row whose subtree has so many rows, itself included.
 unfoldable pub wordsOf : Row → ℕ → List ℕ
 wordsOf r rows =
-    r .kind ∷ rows ∷ r .role ∷ r .id ∷ r .param ∷ r .scale ∷ r .home ∷ r .start ∷ r .size ∷ r .zoneStart ∷ r .zoneSize ∷ r .parent ∷ []
+    r .kind ∷ rows ∷ r .role ∷ r .unionId ∷ r .number ∷ r .scale ∷ r .home ∷ r .nameStart ∷ r .nameLength ∷ r .zoneStart ∷ r .zoneLength ∷ r .parent ∷ []
 
 -- The row that a list of words begins with.
 unfoldable pub rowOf : List ℕ → Row
@@ -23,20 +24,20 @@ rowOf ws =
     record {
       kind = getD ws 0 0;
       role = getD ws 2 0;
-      id = getD ws 3 0;
-      param = getD ws 4 0;
+      unionId = getD ws 3 0;
+      number = getD ws 4 0;
       scale = getD ws 5 0;
       home = getD ws 6 0;
-      start = getD ws 7 0;
-      size = getD ws 8 0;
+      nameStart = getD ws 7 0;
+      nameLength = getD ws 8 0;
       zoneStart = getD ws 9 0;
-      zoneSize = getD ws 10 0;
+      zoneLength = getD ws 10 0;
       parent = getD ws 11 0;
     }
 
 -- The rows in the subtree of the row that a list of words begins with: its word 1.
-abbrev pub subtreeOf : List ℕ → ℕ
-subtreeOf ws = getD ws 1 0
+abbrev pub rowsWord : List ℕ → ℕ
+rowsWord ws = getD ws 1 0
 
 -- The table of a run of trees.
 unfoldable pub tableOf : Forest Row → List ℕ
@@ -55,7 +56,7 @@ viewWith zero [] = some ∅
 viewWith zero (w ∷ ws) = none
 viewWith (suc f) [] = some ∅
 viewWith (suc f) (w ∷ ws) =
-    let rows = subtreeOf (w ∷ ws) in
+    let rows = rowsWord (w ∷ ws) in
     let behind = drop rowWords (w ∷ ws) in
     let below = viewWith f (take (rowWords * (rows - 1)) behind) in
     let beyond = viewWith f (drop (rowWords * (rows - 1)) behind) in
@@ -75,11 +76,11 @@ treeOf text names table = viewLabels text names (viewOf table)
 
 -- How many rows a lent buffer of so many words holds: whole rows, and 1,024 at the most.
 unfoldable pub rowsLent : ℕ → ℕ
-rowsLent words = min (words / rowWords) 1024
+rowsLent words = min (words / rowWords) maxRows
 
 -- Word 1 of row i of a table: the rows in its subtree.
-abbrev pub sizeAt : List ℕ → ℕ → ℕ
-sizeAt table i = getD table (rowWords * i + 1) 0
+abbrev pub rowsAt : List ℕ → ℕ → ℕ
+rowsAt table i = getD table (rowWords * i + 1) 0
 
 -- Word 11 of row i: its parent.
 abbrev pub parentWordAt : List ℕ → ℕ → ℕ

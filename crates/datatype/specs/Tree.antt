@@ -39,19 +39,19 @@ pub record Row : Type 0 where
   -- word 2: 0 bare, 1 nullable field, 2 non-null field
   pub role : ℕ
   -- word 3: union id
-  pub id : ℕ
+  pub unionId : ℕ
   -- word 4: unit, interval unit, length, precision, mode, or sorted
-  pub param : ℕ
+  pub number : ℕ
   -- word 5: scale plus 128
   pub scale : ℕ
   -- word 6: the name's home: 0 none, 1 the text, 2 the name list
   pub home : ℕ
   -- words 7 and 8: where the name starts, and its length
-  pub start : ℕ
-  pub size : ℕ
+  pub nameStart : ℕ
+  pub nameLength : ℕ
   -- words 9 and 10: where the zone starts in the text, and its length
   pub zoneStart : ℕ
-  pub zoneSize : ℕ
+  pub zoneLength : ℕ
   -- word 11: the parent's row number, 0 for the root
   pub parent : ℕ
 
@@ -59,8 +59,8 @@ pub record Row : Type 0 where
 pub record Label : Type 0 where
   pub kind : ℕ
   pub role : ℕ
-  pub id : ℕ
-  pub param : ℕ
+  pub unionId : ℕ
+  pub number : ℕ
   pub scale : ℕ
   pub name : List ℕ
   pub zone : List ℕ
@@ -89,11 +89,11 @@ labelOf text names r =
     record {
       kind = r .kind;
       role = r .role;
-      id = r .id;
-      param = r .param;
+      unionId = r .unionId;
+      number = r .number;
       scale = r .scale;
-      name = nameOf text names (r .home) (r .start) (r .size);
-      zone = zoneOf text (r .zoneStart) (r .zoneSize);
+      name = nameOf text names (r .home) (r .nameStart) (r .nameLength);
+      zone = zoneOf text (r .zoneStart) (r .zoneLength);
     }
 
 -- What a run of trees over a text and a name list says.

@@ -21,19 +21,19 @@ impl Field {
 
     pub const LIST_FIELD_START: u32 = 0;
 
-    pub const LIST_FIELD_SIZE: u32 = 4;
+    pub const LIST_FIELD_LENGTH: u32 = 4;
 
     pub const REE_RUN_ENDS_FIELD_DEFAULT_NAME: [u8; 8] = *b"run_ends";
 
     pub const REE_RUN_ENDS_START: u32 = 4;
 
-    pub const REE_RUN_ENDS_SIZE: u32 = 8;
+    pub const REE_RUN_ENDS_LENGTH: u32 = 8;
 
     pub const REE_VALUES_FIELD_DEFAULT_NAME: [u8; 6] = *b"values";
 
     pub const REE_VALUES_START: u32 = 12;
 
-    pub const REE_VALUES_SIZE: u32 = 6;
+    pub const REE_VALUES_LENGTH: u32 = 6;
 
     // The name list: the three default names, end to end.
     pub const NAME_LIST: [u8; 18] = *b"itemrun_endsvalues";

@@ -2,16 +2,38 @@
 ghost use mathlib.Core.Path.{_≡_};
 ghost use Rattle.datatype.specs.Kind.{maxPrecision, decimalFits};
 
-// The kinds that a rule names, by their place in the Rust's `DataType`.
+// The kinds, by their place in the Rust's `DataType`.
+pub const NULL: u32 = 0;
+
+pub const BOOLEAN: u32 = 1;
+
 pub const INT8: u32 = 2;
 
 pub const INT16: u32 = 3;
 
+pub const INT32: u32 = 4;
+
 pub const INT64: u32 = 5;
+
+pub const UINT8: u32 = 6;
+
+pub const UINT16: u32 = 7;
+
+pub const UINT32: u32 = 8;
 
 pub const UINT64: u32 = 9;
 
+pub const FLOAT16: u32 = 10;
+
+pub const FLOAT32: u32 = 11;
+
+pub const FLOAT64: u32 = 12;
+
 pub const TIMESTAMP: u32 = 13;
+
+pub const DATE32: u32 = 14;
+
+pub const DATE64: u32 = 15;
 
 pub const TIME32: u32 = 16;
 
@@ -21,11 +43,27 @@ pub const DURATION: u32 = 18;
 
 pub const INTERVAL: u32 = 19;
 
+pub const BINARY: u32 = 20;
+
 pub const FIXED_SIZE_BINARY: u32 = 21;
+
+pub const LARGE_BINARY: u32 = 22;
+
+pub const BINARY_VIEW: u32 = 23;
+
+pub const UTF8: u32 = 24;
+
+pub const LARGE_UTF8: u32 = 25;
+
+pub const UTF8_VIEW: u32 = 26;
 
 pub const LIST: u32 = 27;
 
+pub const LIST_VIEW: u32 = 28;
+
 pub const FIXED_SIZE_LIST: u32 = 29;
+
+pub const LARGE_LIST: u32 = 30;
 
 pub const LARGE_LIST_VIEW: u32 = 31;
 
@@ -46,6 +84,7 @@ pub const DECIMAL256: u32 = 38;
 pub const MAP: u32 = 39;
 
 pub const RUN_END_ENCODED: u32 = 40;
+
 // How many kinds there are.
 pub const KINDS: u32 = 41;
 

@@ -7,25 +7,25 @@ pub const ROW_WORDS: usize = 12;
 
 pub const KIND: usize = 0;
 
-pub const SUBTREE: usize = 1;
+pub const ROWS: usize = 1;
 
 pub const ROLE: usize = 2;
 
-pub const ID: usize = 3;
+pub const UNION_ID: usize = 3;
 
-pub const PARAM: usize = 4;
+pub const NUMBER: usize = 4;
 
 pub const SCALE: usize = 5;
 
 pub const HOME: usize = 6;
 
-pub const START: usize = 7;
+pub const NAME_START: usize = 7;
 
-pub const SIZE: usize = 8;
+pub const NAME_LENGTH: usize = 8;
 
 pub const ZONE_START: usize = 9;
 
-pub const ZONE_SIZE: usize = 10;
+pub const ZONE_LENGTH: usize = 10;
 
 pub const PARENT: usize = 11;
 

@@ -12,7 +12,7 @@ use Rattle.tokenizer.specs.Text.{same, bytes, all, if_then_else_}
 use Rattle.tokenizer.proofs.Basics.{and-l, and-r, both, is-true, of-true, all-take, all-drop}
 use Rattle.datatype.specs.Kind.{Shape, runEnds, shapeOf}
 use Rattle.datatype.specs.Tree.{Forest, ∅, node, count, roots, depth, Row, Label, part, nameOf, zoneOf, labelOf, labels}
-use Rattle.datatype.specs.Table.{rowWords, treeOf, sizeAt}
+use Rattle.datatype.specs.Table.{rowWords, treeOf, rowsAt}
 use Rattle.row_table.specs.Sound.{isSound}
 use Rattle.row_table.specs.Run.{rowAt, forestAt, Nests}
 use Rattle.datatype.proofs.Tests.{iff-eq}
@@ -63,11 +63,11 @@ module _ (text names table : List ℕ) where
     unfolding labels
     run-none h = let e : end - at ≡ 0 = omega arith in rw (e, forest-none table at)
 
-    run-turn : Turn table at end → run at end ≡ node (labelAt text names table at) (run (at + 1) (at + sizeAt table at)) (run (at + sizeAt table at) end)
+    run-turn : Turn table at end → run at end ≡ node (labelAt text names table at) (run (at + 1) (at + rowsAt table at)) (run (at + rowsAt table at) end)
     unfolding labelAt
     run-turn t = labels-turn text names table at end t
 
-    roots-turn : Turn table at end → roots (run at end) ≡ labelAt text names table at ∷ roots (run (at + sizeAt table at) end)
+    roots-turn : Turn table at end → roots (run at end) ≡ labelAt text names table at ∷ roots (run (at + rowsAt table at) end)
     roots-turn t = ap roots (run-turn t)
 
   module _ (start end : ℕ) (h : Nests table start (end - start)) (l : start ≤ end) where
@@ -75,24 +75,24 @@ module _ (text names table : List ℕ) where
     unfolding quotesNames
     pair-none e = rw (run-none start end (omega arith))
 
-    module _ (some : start ≡ end → ⊥) (s : ℕ) (is : s ≡ sizeAt table start) where
+    module _ (some : start ≡ end → ⊥) (s : ℕ) (is : s ≡ rowsAt table start) where
       first : Turn table start end
       first = child-turn table start end h l some
 
       pub pair-one : start + s ≡ end → false ≡ quotesNames runEnds (roots (run start end))
       unfolding quotesNames
-      pair-one e = rw (roots-turn start end first, run-none (start + sizeAt table start) end (omega arith))
+      pair-one e = rw (roots-turn start end first, run-none (start + rowsAt table start) end (omega arith))
 
       pub pair-two : (start + s ≡ end → ⊥) → (r : Bool) → r ≡ defaultNames (labelAt text names table start) (labelAt text names table (start + s)) → not r ≡ quotesNames runEnds (roots (run start end))
       unfolding quotesNames
       pair-two d r e = go first (rw is at e)
         where
-          go : Turn table start end → r ≡ defaultNames (labelAt text names table start) (labelAt text names table (start + sizeAt table start)) → not r ≡ quotesNames runEnds (roots (run start end))
+          go : Turn table start end → r ≡ defaultNames (labelAt text names table start) (labelAt text names table (start + rowsAt table start)) → not r ≡ quotesNames runEnds (roots (run start end))
           go t e =
               let w = t .within in
-              rw (roots-turn start end t, roots-turn (start + sizeAt table start) end (turn table (start + sizeAt table start) end (t .rest) (omega arith)), e)
+              rw (roots-turn start end t, roots-turn (start + rowsAt table start) end (turn table (start + rowsAt table start) end (t .rest) (omega arith)), e)
 
-pub pair-rooms : (table : List ℕ) (start end : ℕ) → Nests table start (end - start) → start ≤ end → (start ≡ end → ⊥) → (s : ℕ) → s ≡ sizeAt table start → (start + s ≡ end → ⊥)
+pub pair-rooms : (table : List ℕ) (start end : ℕ) → Nests table start (end - start) → start ≤ end → (start ≡ end → ⊥) → (s : ℕ) → s ≡ rowsAt table start → (start + s ≡ end → ⊥)
     → (rowWords * (start + 1) ≤ length table) × (rowWords * (start + s + 1) ≤ length table)
 pair-rooms table start end h l some s is d =
     let w = child-turn table start end h l some .within in
@@ -133,13 +133,13 @@ module _ (text names table : List ℕ) (start end : ℕ) where
       names-turn = turn table at end (i .nests) l
 
       module _ (s : List ℕ) (e : s ≡ (labelAt text names table at) .name) (p : Bool) (f : p ≡ isAscii s) where
-        step : namesAscii (roots (labels text names (forestAt table start (end - start)))) ≡ (p && namesAscii (roots (labels text names (forestAt table (at + sizeAt table at) (end - (at + sizeAt table at))))))
-        step = i .so ∙ ap namesAscii (roots-turn text names table at end names-turn) ∙ ap (λ (b : Bool). b && namesAscii (roots (labels text names (forestAt table (at + sizeAt table at) (end - (at + sizeAt table at)))))) (sym (f ∙ ap isAscii e))
+        step : namesAscii (roots (labels text names (forestAt table start (end - start)))) ≡ (p && namesAscii (roots (labels text names (forestAt table (at + rowsAt table at) (end - (at + rowsAt table at))))))
+        step = i .so ∙ ap namesAscii (roots-turn text names table at end names-turn) ∙ ap (λ (b : Bool). b && namesAscii (roots (labels text names (forestAt table (at + rowsAt table at) (end - (at + rowsAt table at)))))) (sym (f ∙ ap isAscii e))
 
         pub names-not : p ≡ false → false ≡ namesAscii (roots (labels text names (forestAt table start (end - start))))
         names-not g = sym (step ∙ rw g)
 
-        pub names-more : p ≡ true → (n : ℕ) → n ≡ sizeAt table at → NamesSo text names table start end (at + n)
+        pub names-more : p ≡ true → (n : ℕ) → n ≡ rowsAt table at → NamesSo text names table start end (at + n)
         names-more g n is = rw is (record { upto = names-turn .within; nests = names-turn .rest; so = step ∙ rw g })
 
 -- ---- one row
@@ -196,7 +196,7 @@ module _ (text names table : List ℕ) (level start end : ℕ) where
       abbrev kids : ℕ → Forest Label
       kids s = labels text names (forestAt table (at + 1) (at + s - (at + 1)))
 
-      module _ (s : ℕ) (is : s ≡ sizeAt table at) where
+      module _ (s : ℕ) (is : s ≡ rowsAt table at) where
         pub quoted-call : (level - 1 < level) × (Nests table (at + 1) (at + s - (at + 1)) × (at + 1 ≤ at + s) × (depth (forestAt table (at + 1) (at + s - (at + 1))) ≤ level - 1))
         quoted-call = walk-call table level at end (i .nests) (i .flat) l s is
 
@@ -242,14 +242,14 @@ module _ (text names : List ℕ) (a : T (isAscii text)) (b : T (isAscii names)) 
   roots-ascii : (f : Forest Row) → namesAscii (roots (labels text names f)) ≡ true
   unfolding labels labelOf
   roots-ascii ∅ = refl
-  roots-ascii (node r k n) = rw (name-all (λ c. leb c 127) text names a b (r .home) (r .start) (r .size)) (roots-ascii n)
+  roots-ascii (node r k n) = rw (name-all (λ c. leb c 127) text names a b (r .home) (r .nameStart) (r .nameLength)) (roots-ascii n)
 
   quoted-ascii : (f : Forest Row) → quotedAscii (labels text names f) ≡ true
   unfolding quotedAscii labels labelOf
   quoted-ascii ∅ = refl
   quoted-ascii (node r k n) =
       let q = not (quotesNames (shapeOf (r .kind)) (roots (labels text names k))) in
-      rw (zone-all (λ c. leb c 127) text a (r .zoneStart) (r .zoneSize), roots-ascii k, or-true q, quoted-ascii k) (quoted-ascii n)
+      rw (zone-all (λ c. leb c 127) text a (r .zoneStart) (r .zoneLength), roots-ascii k, or-true q, quoted-ascii k) (quoted-ascii n)
 
 -- ---- the whole tree
 

@@ -12,7 +12,7 @@ use borrow.Author.Tests.{lt-ltb, le-ltb, le-leb, lt-leb, eq-eqb, ne-eqb}
 use Rattle.tokenizer.specs.Text.{isPrintable}
 use Rattle.tokenizer.proofs.Listed.{NoneOf}
 use Rattle.datatype.specs.Kind.{has, kinds}
-use Rattle.datatype.specs.Table.{rowWords, sizeAt}
+use Rattle.datatype.specs.Table.{rowWords, rowsAt}
 use Rattle.datatype.proofs.Tests.{allBelow, below-at}
 use Rattle.datatype.proofs.ShapeLaws.{else-value}
 use Rattle.row_table.specs.Equal.{firstRows, wholeRows}
@@ -68,7 +68,7 @@ kind-few k r e =
 
 module _ (table : List ℕ) (i kind role size zone own : ℕ) (a : kind ≡ getD table (rowWords * i + 0) 0) (b : role ≡ getD table (rowWords * i + 2) 0) (c : size ≡ getD table (rowWords * i + 8) 0)
     (d : zone ≡ getD table (rowWords * i + 10) 0) (e : own ≡ kindBound kind) where
-  pub row-union : kind ≡ 33 → (sub : ℕ) → sub ≡ sizeAt table i → own + 9 * (role / 2) + 2 * size + 2 * zone + 7 * sub ≡ boundAt table i
+  pub row-union : kind ≡ 33 → (sub : ℕ) → sub ≡ rowsAt table i → own + 9 * (role / 2) + 2 * size + 2 * zone + 7 * sub ≡ boundAt table i
   unfolding boundAt rowBound idBound
   row-union u sub s =
       rw (row-word table i 0 (omega arith), row-word table i 1 (omega arith), row-word table i 2 (omega arith), row-word table i 8 (omega arith), row-word table i 10 (omega arith), ← a, ← b, ← c, ← d, ← s, e, eq-eqb kind 33 u)

@@ -143,20 +143,20 @@ leadsOf (l ∷ ls) = leadOf l + leadsOf ls
 -- fields whose names are printable ASCII and whose ids are below 128
 abbrev fieldsFit : List Label → Bool
 fieldsFit [] = true
-fieldsFit (l ∷ ls) = (all isPrintable (l .name) && ltb (l .id) 128) && fieldsFit ls
+fieldsFit (l ∷ ls) = (all isPrintable (l .name) && ltb (l .unionId) 128) && fieldsFit ls
 
 module _ (l : Label) (ls : List Label) (t : T (fieldsFit (l ∷ ls))) where
-  first-fits : T (all isPrintable (l .name) && ltb (l .id) 128)
-  first-fits = and-l (all isPrintable (l .name) && ltb (l .id) 128) (fieldsFit ls) t
+  first-fits : T (all isPrintable (l .name) && ltb (l .unionId) 128)
+  first-fits = and-l (all isPrintable (l .name) && ltb (l .unionId) 128) (fieldsFit ls) t
 
   name-fits : T (all isPrintable (l .name))
-  name-fits = and-l (all isPrintable (l .name)) (ltb (l .id) 128) first-fits
+  name-fits = and-l (all isPrintable (l .name)) (ltb (l .unionId) 128) first-fits
 
-  id-few : length (digits (l .id)) ≤ 3
-  id-few = let h = ltb→lt (l .id) 128 (and-r (all isPrintable (l .name)) (ltb (l .id) 128) first-fits) in digits-3 (l .id) (omega arith)
+  id-few : length (digits (l .unionId)) ≤ 3
+  id-few = let h = ltb→lt (l .unionId) 128 (and-r (all isPrintable (l .name)) (ltb (l .unionId) 128) first-fits) in digits-3 (l .unionId) (omega arith)
 
   rest-fits : T (fieldsFit ls)
-  rest-fits = and-r (all isPrintable (l .name) && ltb (l .id) 128) (fieldsFit ls) t
+  rest-fits = and-r (all isPrintable (l .name) && ltb (l .unionId) 128) (fieldsFit ls) t
 
   field-few : length (fieldText (untyped l)) + 2 ≤ leadOf l
   unfolding fieldText
@@ -231,26 +231,26 @@ unionBound runEnds = 0
 abbrev Few : Shape → Label → List Label → Type 0
 Few s l ls = length (shapeText s l (map untyped ls)) ≤ shapeBound s + 2 * length (l .zone) + unionBound s * length ls + leadsOf ls
 
-shape-few : (s : Shape) (l : Label) (ls : List Label) → l .param < (rulesOf s) .params → l .scale < (rulesOf s) .scales
+shape-few : (s : Shape) (l : Label) (ls : List Label) → l .number < (rulesOf s) .params → l .scale < (rulesOf s) .scales
     → T (arityFits ((rulesOf s) .children) (length ls)) → T (all isPrintable (l .zone)) → T (fieldsFit ls) → Few s l ls
 unfolding shapeText rulesOf arityFits
 shape-few leaf l ls p c a z t = omega arith
-shape-few timestamp l ls p c a z t = let u = unit-few (l .param) in let f = zone-few (l .zone) z in simp length-append (omega arith)
-shape-few time l ls p c a z t = let u = unit-few (l .param) in simp length-append (omega arith)
-shape-few interval l ls p c a z t = let u = interval-few (l .param) in simp length-append (omega arith)
-shape-few fixed l ls p c a z t = let d = digits-10 (l .param) p in simp length-append (omega arith)
+shape-few timestamp l ls p c a z t = let u = unit-few (l .number) in let f = zone-few (l .zone) z in simp length-append (omega arith)
+shape-few time l ls p c a z t = let u = unit-few (l .number) in simp length-append (omega arith)
+shape-few interval l ls p c a z t = let u = interval-few (l .number) in simp length-append (omega arith)
+shape-few fixed l ls p c a z t = let d = digits-10 (l .number) p in simp length-append (omega arith)
 shape-few list l [] p c a z t = absurd a
 shape-few list l (k ∷ ls) p c a z t = let f = list-few k ls t in simp length-append (omega arith)
 shape-few fixedList l [] p c a z t = absurd a
-shape-few fixedList l (k ∷ ls) p c a z t = let d = digits-10 (l .param) p in let f = list-few k ls t in simp length-append (omega arith)
+shape-few fixedList l (k ∷ ls) p c a z t = let d = digits-10 (l .number) p in let f = list-few k ls t in simp length-append (omega arith)
 shape-few struct l ls p c a z t = let f = struct-few ls t in simp length-append (omega arith)
-shape-few union l ls p c a z t = let m = mode-few (l .param) in let f = union-few ls t in simp length-append (omega arith)
+shape-few union l ls p c a z t = let m = mode-few (l .number) in let f = union-few ls t in simp length-append (omega arith)
 shape-few dictionary l [] p c a z t = absurd a
 shape-few dictionary l (k ∷ []) p c a z t = absurd a
 shape-few dictionary l (k ∷ v ∷ ls) p c a z t = simp length-append (omega arith)
-shape-few decimal l ls p c a z t = let d = digits-3 (l .param) (omega arith) in let e = scale-few (l .scale) c in simp length-append (omega arith)
+shape-few decimal l ls p c a z t = let d = digits-3 (l .number) (omega arith) in let e = scale-few (l .scale) c in simp length-append (omega arith)
 shape-few mapping l [] p c a z t = absurd a
-shape-few mapping l (k ∷ ls) p c a z t = let f = field-few k ls t in let s = sorted-few (l .param) in simp length-append (omega arith)
+shape-few mapping l (k ∷ ls) p c a z t = let f = field-few k ls t in let s = sorted-few (l .number) in simp length-append (omega arith)
 shape-few runEnds l [] p c a z t = absurd a
 shape-few runEnds l (k ∷ []) p c a z t = absurd a
 shape-few runEnds l (k ∷ v ∷ []) p c a z t = let f = run-end-few k v t in simp length-append (omega arith)
@@ -282,7 +282,7 @@ unfolding ownLength typeText
 own-few place l kids f z t =
     let s : Shape = shapeOf (l .kind) in
     let k = kind-few (l .kind) (f .kind) in
-    let b = shape-few s l (roots kids) (f .param) (f .scale) (f .arity) z t in
+    let b = shape-few s l (roots kids) (f .number) (f .scale) (f .arity) z t in
     let r = roots-few kids in
     let n : length (roots kids) ≤ suc (count kids) = omega arith in
     let u = mul-le-mul (union-id (l .kind) (f .kind)) n in
@@ -319,7 +319,7 @@ fields-fit place (node l kids next) t p = go (rows-fit place l kids next t) (fou
         → T (all isPrintable (l .name)) × T (all isPrintable (l .zone)) × T (printables kids) × T (printables next)
         → (T (rowsFit place next) → T (printables next) → T (fieldsFit (roots next))) → T (fieldsFit (l ∷ roots next))
     go (f, b, n) (x, y, u, v) more =
-        both (all isPrintable (l .name) && ltb (l .id) 128) (fieldsFit (roots next)) (both (all isPrintable (l .name)) (ltb (l .id) 128) x (id-small place (l .id) (f .id))) (more n v)
+        both (all isPrintable (l .name) && ltb (l .unionId) 128) (fieldsFit (roots next)) (both (all isPrintable (l .name)) (ltb (l .unionId) 128) x (id-small place (l .unionId) (f .unionId))) (more n v)
 
 -- the types of some trees, with what their parent writes about them
 trees-few : (place : Place) (f : Forest Label) → T (rowsFit place f) → T (printables f) → displayLength f + leadsOf (roots f) ≤ labelBound f
@@ -363,7 +363,7 @@ rows-append : (a b : List (List ℕ)) → rowsBound (a ++ b) ≡ rowsBound a + r
 rows-append [] b = omega arith
 rows-append (x ∷ a) b = let e = rows-append a b in omega arith
 
-row-few : (r : Row) (n : ℕ) → rowBound (wordsOf r n) ≡ kindBound (r .kind) + 9 * (r .role / 2) + 2 * r .size + 2 * r .zoneSize + idBound (r .kind) * n
+row-few : (r : Row) (n : ℕ) → rowBound (wordsOf r n) ≡ kindBound (r .kind) + 9 * (r .role / 2) + 2 * r .nameLength + 2 * r .zoneLength + idBound (r .kind) * n
 unfolding rowBound wordsOf
 row-few r n = refl
 
@@ -371,8 +371,8 @@ labels-few : (text names : List ℕ) (f : Forest Row) → labelBound (labels tex
 unfolding labels labelOf
 labels-few text names ∅ = omega arith
 labels-few text names (node r kids next) =
-    let n = name-few text names (r .home) (r .start) (r .size) in
-    let z = zone-short text (r .zoneStart) (r .zoneSize) in
+    let n = name-few text names (r .home) (r .nameStart) (r .nameLength) in
+    let z = zone-short text (r .zoneStart) (r .zoneLength) in
     let c = ap (λ (k : ℕ). idBound (r .kind) * suc k) (count-labels text names kids) in
     let k = labels-few text names kids in
     let m = labels-few text names next in
@@ -384,13 +384,13 @@ printable-labels : (text names : List ℕ) → T (all isPrintable text) → T (a
 unfolding labels labelOf
 printable-labels text names a b ∅ = tt
 printable-labels text names a b (node r kids next) =
-    let x = all isPrintable (nameOf text names (r .home) (r .start) (r .size)) in
-    let y = all isPrintable (zoneOf text (r .zoneStart) (r .zoneSize)) in
+    let x = all isPrintable (nameOf text names (r .home) (r .nameStart) (r .nameLength)) in
+    let y = all isPrintable (zoneOf text (r .zoneStart) (r .zoneLength)) in
     let u = printables (labels text names kids) in
     let v = printables (labels text names next) in
     both (x && y && u) v
     (both (x && y) u
-    (both x y (of-true x (name-all isPrintable text names a b (r .home) (r .start) (r .size))) (of-true y (zone-all isPrintable text a (r .zoneStart) (r .zoneSize))))
+    (both x y (of-true x (name-all isPrintable text names a b (r .home) (r .nameStart) (r .nameLength))) (of-true y (zone-all isPrintable text a (r .zoneStart) (r .zoneLength))))
     (printable-labels text names a b kids))
     (printable-labels text names a b next)
 

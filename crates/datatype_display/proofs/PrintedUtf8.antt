@@ -161,7 +161,7 @@ clean-union : (ks : List Shown) → AllClean ks → T (namesAscii (labelsOf ks))
 unfolding unionText isUtf8 utf8State utf8Step
 clean-union [] h a = literal [] tt
 clean-union (k ∷ ks) h a =
-    literal (bytes ", ") tt then clean-number (k .label .id) then literal (bytes ": (") tt then clean-field k (h .0) (first-ascii k ks a)
+    literal (bytes ", ") tt then clean-number (k .label .unionId) then literal (bytes ": (") tt then clean-field k (h .0) (first-ascii k ks a)
     then literal (bytes ")") tt then clean-union ks (h .1) (rest-ascii k ks a)
 
 -- the short form has no name; in the long form both are ASCII
@@ -186,22 +186,22 @@ QuotesAscii s ls = T (not (quotesNames s ls) || namesAscii ls)
 clean-shape : (s : Shape) (l : Label) (ks : List Shown) → T (isAscii (l .zone)) → QuotesAscii s (labelsOf ks) → AllClean ks → Clean (shapeText s l ks)
 unfolding shapeText quotesNames isUtf8 utf8State utf8Step
 clean-shape leaf l ks z a h = literal [] tt
-clean-shape timestamp l ks z a h = literal (bytes "(") tt then clean-unit (l .param) then clean-zone (l .zone) z then literal (bytes ")") tt
-clean-shape time l ks z a h = literal (bytes "(") tt then clean-unit (l .param) then literal (bytes ")") tt
-clean-shape interval l ks z a h = literal (bytes "(") tt then clean-interval (l .param) then literal (bytes ")") tt
-clean-shape fixed l ks z a h = literal (bytes "(") tt then clean-number (l .param) then literal (bytes ")") tt
+clean-shape timestamp l ks z a h = literal (bytes "(") tt then clean-unit (l .number) then clean-zone (l .zone) z then literal (bytes ")") tt
+clean-shape time l ks z a h = literal (bytes "(") tt then clean-unit (l .number) then literal (bytes ")") tt
+clean-shape interval l ks z a h = literal (bytes "(") tt then clean-interval (l .number) then literal (bytes ")") tt
+clean-shape fixed l ks z a h = literal (bytes "(") tt then clean-number (l .number) then literal (bytes ")") tt
 clean-shape list l [] z a h = literal [] tt
 clean-shape list l (k ∷ ks) z a h = literal (bytes "(") tt then clean-list-field k (h .0) then literal (bytes ")") tt
 clean-shape fixedList l [] z a h = literal [] tt
-clean-shape fixedList l (k ∷ ks) z a h = literal (bytes "(") tt then clean-number (l .param) then literal (bytes " x ") tt then clean-list-field k (h .0) then literal (bytes ")") tt
+clean-shape fixedList l (k ∷ ks) z a h = literal (bytes "(") tt then clean-number (l .number) then literal (bytes " x ") tt then clean-list-field k (h .0) then literal (bytes ")") tt
 clean-shape struct l ks z a h = literal (bytes "(") tt then clean-struct ks h a then literal (bytes ")") tt
-clean-shape union l ks z a h = literal (bytes "(") tt then clean-mode (l .param) then clean-union ks h a then literal (bytes ")") tt
+clean-shape union l ks z a h = literal (bytes "(") tt then clean-mode (l .number) then clean-union ks h a then literal (bytes ")") tt
 clean-shape dictionary l [] z a h = literal [] tt
 clean-shape dictionary l (k ∷ []) z a h = literal [] tt
 clean-shape dictionary l (k ∷ v ∷ ks) z a h = literal (bytes "(") tt then h .0 .text then literal (bytes ", ") tt then h .1 .0 .text then literal (bytes ")") tt
-clean-shape decimal l ks z a h = literal (bytes "(") tt then clean-number (l .param) then literal (bytes ", ") tt then clean-scale (l .scale) then literal (bytes ")") tt
+clean-shape decimal l ks z a h = literal (bytes "(") tt then clean-number (l .number) then literal (bytes ", ") tt then clean-scale (l .scale) then literal (bytes ")") tt
 clean-shape mapping l [] z a h = literal [] tt
-clean-shape mapping l (k ∷ ks) z a h = literal (bytes "(") tt then clean-field k (h .0) (first-ascii k ks a) then literal (bytes ", ") tt then clean-sorted (l .param) then literal (bytes ")") tt
+clean-shape mapping l (k ∷ ks) z a h = literal (bytes "(") tt then clean-field k (h .0) (first-ascii k ks a) then literal (bytes ", ") tt then clean-sorted (l .number) then literal (bytes ")") tt
 clean-shape runEnds l [] z a h = literal [] tt
 clean-shape runEnds l (r ∷ []) z a h = literal [] tt
 clean-shape runEnds l (r ∷ v ∷ ks) z a h = literal (bytes "(") tt then clean-run-ends r v ks (h .0) (h .1 .0) a then literal (bytes ")") tt

@@ -9,7 +9,7 @@ use lib.Dec.{T, eqb}
 use borrow.Author.Tests.{eq-eqb, ne-eqb}
 use Rattle.datatype.specs.Kind.{Shape, leaf, shapeOf}
 use Rattle.datatype.specs.Tree.{Forest, ∅, node, count, roots, depth, Row, Label, labelOf, labels}
-use Rattle.datatype.specs.Table.{rowWords, treeOf, sizeAt}
+use Rattle.datatype.specs.Table.{rowWords, treeOf, rowsAt}
 use Rattle.row_table.specs.Run.{rowAt, forestAt, Nests}
 use Rattle.row_table.specs.Sound.{bare, isSound}
 use Rattle.row_table.proofs.Runs.{Turn, turn, forest-none}
@@ -29,7 +29,7 @@ module _ (table : List ℕ) (level i : ℕ) (w : Subtree table level i) where
   pub subtree-room : rowWords * (i + 1) ≤ length table
   subtree-room = let a = w .some-rows in let r = w .room in omega arith
 
-  module _ (size : ℕ) (is : size ≡ sizeAt table i) where
+  module _ (size : ℕ) (is : size ≡ rowsAt table i) where
     pub subtree-end : i + size ≤ 1024
     subtree-end = rw is (w .few)
 
@@ -63,7 +63,7 @@ module _ (text names table : List ℕ) where
   module _ (s : Shape) (q f : Bool) (j end : ℕ) (t : Turn table j end) where
     -- the first tree of a run, and the rest
     pub run-turn : childrenText s q f (run j end)
-        ≡ leadText s q f (labelAt text names table j) ++ (textAt text names table j ++ (trailText s ((labelAt text names table j) .name) ++ childrenText s q false (run (j + sizeAt table j) end)))
+        ≡ leadText s q f (labelAt text names table j) ++ (textAt text names table j ++ (trailText s ((labelAt text names table j) .name) ++ childrenText s q false (run (j + rowsAt table j) end)))
     unfolding childrenText walked textAt labelAt kidsAt
     run-turn = ap (λ (x : Forest Label). childrenText s q f (walked x)) (labels-turn text names table j end t)
 
@@ -79,7 +79,7 @@ module _ (text names table : List ℕ) where
       pub put : Put before at bytes next out
       pub so : childrenText s q true (run (i + 1) end) ≡ bytes ++ childrenText s q (eqb j (i + 1)) (run j end)
 
-    pub printing-start : end ≡ i + sizeAt table i → Subtree table level i → Printing (i + 1) at before
+    pub printing-start : end ≡ i + rowsAt table i → Subtree table level i → Printing (i + 1) at before
     printing-start e w =
         let r = w .some-rows in
         let k = w .few in
@@ -113,11 +113,11 @@ module _ (text names table : List ℕ) where
         pub printing-room : rowWords * (j + 1) ≤ length table
         printing-room = let r = v .nests .room in omega arith
 
-        pub printing-size : (size : ℕ) → size ≡ sizeAt table j → j + size ≤ 1024
+        pub printing-size : (size : ℕ) → size ≡ rowsAt table j → j + size ≤ 1024
         printing-size size is = let w = printing-turn .within in let k = v .few in omega arith
 
         levels-here : Turn table j end
-            → depth (forestAt table j (end - j)) ≡ max (suc (depth (forestAt table (j + 1) (j + sizeAt table j - (j + 1))))) (depth (forestAt table (j + sizeAt table j) (end - (j + sizeAt table j))))
+            → depth (forestAt table j (end - j)) ≡ max (suc (depth (forestAt table (j + 1) (j + rowsAt table j - (j + 1))))) (depth (forestAt table (j + rowsAt table j) (end - (j + rowsAt table j))))
         levels-here t = rw (t .is)
 
         pub printing-call : (level - 1 < level) × Subtree table (level - 1) j
@@ -130,7 +130,7 @@ module _ (text names table : List ℕ) where
             let k = v .few in
             (omega arith, record { some-rows = t .some-rows; room = omega arith; nests = t .kids; few = omega arith; flat = omega arith })
 
-        pub printing-again : (size : ℕ) → size ≡ sizeAt table j → (f : Bool) → f ≡ eqb j (i + 1) → (led typed after : ℕ) (b1 b2 b3 : List ℕ)
+        pub printing-again : (size : ℕ) → size ≡ rowsAt table j → (f : Bool) → f ≡ eqb j (i + 1) → (led typed after : ℕ) (b1 b2 b3 : List ℕ)
             → Put out next (leadText s q f (labelAt text names table j)) led b1 → Put b1 led (textAt text names table j) typed b2 → Put b2 typed (trailText s ((labelAt text names table j) .name)) after b3
             → Printing (j + size) after b3
         printing-again size is f first led typed after b1 b2 b3 p1 p2 p3 =
@@ -162,7 +162,7 @@ module _ (text names table : List ℕ) where
             }
 
   -- a row's text is its head, its children's and what closes it
-  pub printed-row : (i end at : ℕ) (before : List ℕ) → end ≡ i + sizeAt table i → (s : Shape) (kind param : ℕ) → kind ≡ getD table (rowWords * i + 0) 0 → s ≡ shapeOf kind
+  pub printed-row : (i end at : ℕ) (before : List ℕ) → end ≡ i + rowsAt table i → (s : Shape) (kind param : ℕ) → kind ≡ getD table (rowWords * i + 0) 0 → s ≡ shapeOf kind
       → param ≡ getD table (rowWords * i + 4) 0 → (q : Bool) → q ≡ quotesNames s (roots (labels text names (forestAt table (i + 1) (end - (i + 1)))))
       → (m1 m2 next : ℕ) (b1 b2 after : List ℕ) → Put before at (headText (labelAt text [] table i)) m1 b1 → Put b1 m1 (childrenText s q true (run (i + 1) end)) m2 b2
       → Put b2 m2 (closeText s param) next after → Put before at (textAt text names table i) next after
@@ -173,13 +173,13 @@ module _ (text names table : List ℕ) where
       (put-then before at _ _ m1 next b1 after a (put-then b1 m1 _ _ m2 next b2 after b c))
 
   -- a row with nothing below it
-  pub single-text : (i : ℕ) → 1 ≡ sizeAt table i → singleText (labelAt text [] table i) ≡ textAt text names table i
+  pub single-text : (i : ℕ) → 1 ≡ rowsAt table i → singleText (labelAt text [] table i) ≡ textAt text names table i
   unfolding singleText textAt rowText headText kidsAt labelAt labelOf rowAt childrenText walked labels
   single-text i one =
-      let z : i + sizeAt table i - (i + 1) ≡ 0 = omega arith in
+      let z : i + rowsAt table i - (i + 1) ≡ 0 = omega arith in
       rw (z, forest-none table (i + 1))
 
-  pub printed-single : (i at size : ℕ) (before : List ℕ) → size ≡ sizeAt table i → size ≡ 1 → (next : ℕ) (after : List ℕ)
+  pub printed-single : (i at size : ℕ) (before : List ℕ) → size ≡ rowsAt table i → size ≡ 1 → (next : ℕ) (after : List ℕ)
       → Put before at (singleText (labelAt text [] table i)) next after → Put before at (textAt text names table i) next after
   printed-single i at size before e one next after p = put-as before at _ _ next after (single-text i (sym one ∙ e)) p
 
@@ -207,7 +207,7 @@ module _ (text names table : List ℕ) (sound : T (isSound text names table)) wh
       let e : rows - 0 ≡ rows = omega arith in
       turn table 0 rows (rw e (sound-nests text names table tree)) (omega arith)
 
-  same-tree : node (rowAt table 0) (forestAt table (0 + 1) (0 + sizeAt table 0 - (0 + 1))) (forestAt table (0 + sizeAt table 0) (rows - (0 + sizeAt table 0))) ≡ node (tree .root) (tree .kids) ∅
+  same-tree : node (rowAt table 0) (forestAt table (0 + 1) (0 + rowsAt table 0 - (0 + 1))) (forestAt table (0 + rowsAt table 0) (rows - (0 + rowsAt table 0))) ≡ node (tree .root) (tree .kids) ∅
   unfolding rows
   same-tree =
       let e : rows - 0 ≡ rows = omega arith in
@@ -216,7 +216,7 @@ module _ (text names table : List ℕ) (sound : T (isSound text names table)) wh
   root-is : rowAt table 0 ≡ tree .root
   root-is = ap (root-of (rowAt table 0)) same-tree
 
-  kids-are : forestAt table (0 + 1) (0 + sizeAt table 0 - (0 + 1)) ≡ tree .kids
+  kids-are : forestAt table (0 + 1) (0 + rowsAt table 0 - (0 + 1)) ≡ tree .kids
   kids-are = ap kids-of same-tree
 
   pub tree-call : Subtree table 64 0

@@ -92,7 +92,7 @@ put-lead-is text names table i at before s q f id d name n role r m1 m2 next b1 
     (rw (d, n, r, id-at, role-at))
     (put-then before at _ _ m1 next b1 after u (put-then b1 m1 _ _ m2 next b2 after v w))
   where
-    id-at : (labelAt text names table i) .id ≡ getD table (rowWords * i + 3) 0
+    id-at : (labelAt text names table i) .unionId ≡ getD table (rowWords * i + 3) 0
     id-at = unfold labelAt in id-word text names table i
 
     role-at : (labelAt text names table i) .role ≡ getD table (rowWords * i + 2) 0

@@ -34,19 +34,19 @@ nest c q d n t r = simp append-assoc
 
 -- a child whose name prints in double quotes
 field-child : (s : Shape) (first : Bool) (k : Shown) (r : List ℕ)
-    → leadText s true first (k .label) ++ (k .text ++ r) ≡ separator s first (k .label .id) ++ (fieldText k ++ r)
+    → leadText s true first (k .label) ++ (k .text ++ r) ≡ separator s first (k .label .unionId) ++ (fieldText k ++ r)
 unfolding leadText nameText fieldText nullability nullityText
-field-child s first k r = nest (separator s first (k .label .id)) (quoted (k .label .name)) (bytes ": ") (nullability (k .label .role)) (k .text) r
+field-child s first k r = nest (separator s first (k .label .unionId)) (quoted (k .label .name)) (bytes ": ") (nullability (k .label .role)) (k .text) r
 
 -- a child whose name does not
 typed-child : (s : Shape) (first : Bool) (k : Shown) (r : List ℕ)
-    → leadText s false first (k .label) ++ (k .text ++ r) ≡ separator s first (k .label .id) ++ (nullability (k .label .role) ++ (k .text ++ r))
+    → leadText s false first (k .label) ++ (k .text ++ r) ≡ separator s first (k .label .unionId) ++ (nullability (k .label .role) ++ (k .text ++ r))
 unfolding leadText nameText
-typed-child s first k r = append-assoc (separator s first (k .label .id)) (nullability (k .label .role)) (k .text ++ r)
+typed-child s first k r = append-assoc (separator s first (k .label .unionId)) (nullability (k .label .role)) (k .text ++ r)
 
 -- ---- the children, by shape
 
-list-child : (s : Shape) (k : Shown) → separator s true (k .label .id) ≡ [] → trailText s (k .label .name) ≡ listNameText (k .label .name)
+list-child : (s : Shape) (k : Shown) → separator s true (k .label .unionId) ≡ [] → trailText s (k .label .name) ≡ listNameText (k .label .name)
     → childrenText s false true (k ∷ []) ≡ listFieldText k
 unfolding childrenText listFieldText nullability nullityText
 list-child s k e f =
@@ -73,8 +73,8 @@ unfolding childrenText separator trailText unionText
 union-children first [] = refl
 union-children first (k ∷ ks) =
     field-child union first k (bytes ")" ++ childrenText union true false ks)
-    ∙ ap (λ (t : List ℕ). bytes ", " ++ t) (append-assoc (digits (k .label .id)) (bytes ": (") (fieldText k ++ (bytes ")" ++ childrenText union true false ks)))
-    ∙ ap (λ (t : List ℕ). bytes ", " ++ (digits (k .label .id) ++ (bytes ": (" ++ (fieldText k ++ (bytes ")" ++ t))))) (union-children false ks)
+    ∙ ap (λ (t : List ℕ). bytes ", " ++ t) (append-assoc (digits (k .label .unionId)) (bytes ": (") (fieldText k ++ (bytes ")" ++ childrenText union true false ks)))
+    ∙ ap (λ (t : List ℕ). bytes ", " ++ (digits (k .label .unionId) ++ (bytes ": (" ++ (fieldText k ++ (bytes ")" ++ t))))) (union-children false ks)
 
 entries-child : (k : Shown) → childrenText mapping true true (k ∷ []) ≡ fieldText k
 unfolding childrenText separator trailText
@@ -126,7 +126,7 @@ labelsOf ks = map (λ k. k .label) ks
 
 -- what stands behind a kind's word, as the walk writes it
 abbrev behind : Shape → Label → List Shown → List ℕ
-behind s l ks = openText s (l .param) (l .scale) (l .zone) ++ (childrenText s (quotesNames s (labelsOf ks)) true ks ++ closeText s (l .param))
+behind s l ks = openText s (l .number) (l .scale) (l .zone) ++ (childrenText s (quotesNames s (labelsOf ks)) true ks ++ closeText s (l .number))
 
 -- where there are no children and nothing behind them, what stands before them is all
 only-open : (s : Shape) (quotes : Bool) (o : List ℕ) → o ++ (childrenText s quotes true [] ++ []) ≡ o
@@ -153,11 +153,11 @@ shape-walked list l (k ∷ []) h r = ap (λ (t : List ℕ). bytes "(" ++ (t ++ b
 shape-walked list l (k ∷ j ∷ ks) h r = absurd h
 shape-walked fixedList l [] h r = absurd h
 shape-walked fixedList l (k ∷ []) h r =
-    ap (λ (t : List ℕ). bytes "(" ++ ((digits (l .param) ++ bytes " x ") ++ (t ++ bytes ")"))) (list-child fixedList k refl refl)
-    ∙ ap (λ (t : List ℕ). bytes "(" ++ t) (append-assoc (digits (l .param)) (bytes " x ") (listFieldText k ++ bytes ")"))
+    ap (λ (t : List ℕ). bytes "(" ++ ((digits (l .number) ++ bytes " x ") ++ (t ++ bytes ")"))) (list-child fixedList k refl refl)
+    ∙ ap (λ (t : List ℕ). bytes "(" ++ t) (append-assoc (digits (l .number)) (bytes " x ") (listFieldText k ++ bytes ")"))
 shape-walked fixedList l (k ∷ j ∷ ks) h r = absurd h
 shape-walked struct l ks h r = ap (λ (t : List ℕ). bytes "(" ++ (t ++ bytes ")")) (struct-children ks)
-shape-walked union l ks h r = ap (λ (t : List ℕ). bytes "(" ++ (modeText (l .param) ++ (t ++ bytes ")"))) (union-children true ks)
+shape-walked union l ks h r = ap (λ (t : List ℕ). bytes "(" ++ (modeText (l .number) ++ (t ++ bytes ")"))) (union-children true ks)
 shape-walked dictionary l [] h r = absurd h
 shape-walked dictionary l (k ∷ []) h r = absurd h
 shape-walked dictionary l (k ∷ v ∷ []) h r =
@@ -167,7 +167,7 @@ shape-walked dictionary l (k ∷ v ∷ []) h r =
     ∙ ap (λ (t : List ℕ). bytes "(" ++ t) (append-assoc (k .text) (bytes ", " ++ v .text) (bytes ")"))
 shape-walked dictionary l (k ∷ v ∷ j ∷ ks) h r = absurd h
 shape-walked mapping l [] h r = absurd h
-shape-walked mapping l (k ∷ []) h r = ap (λ (t : List ℕ). bytes "(" ++ (t ++ (bytes ", " ++ (sortedText (l .param) ++ bytes ")")))) (entries-child k)
+shape-walked mapping l (k ∷ []) h r = ap (λ (t : List ℕ). bytes "(" ++ (t ++ (bytes ", " ++ (sortedText (l .number) ++ bytes ")")))) (entries-child k)
 shape-walked mapping l (k ∷ j ∷ ks) h r = absurd h
 shape-walked runEnds l [] h r = absurd h
 shape-walked runEnds l (k ∷ []) h r = absurd h
@@ -184,7 +184,7 @@ pub row-walked : (l : Label) (ks : List Shown) → l .kind < kinds → T (arityF
 unfolding rowText headText typeText
 row-walked l ks h a r =
     let s : Shape = shapeOf (l .kind) in
-    append-assoc (kindText (l .kind)) (openText s (l .param) (l .scale) (l .zone)) (childrenText s (quotesNames s (labelsOf ks)) true ks ++ closeText s (l .param))
+    append-assoc (kindText (l .kind)) (openText s (l .number) (l .scale) (l .zone)) (childrenText s (quotesNames s (labelsOf ks)) true ks ++ closeText s (l .number))
     ∙ ap (λ (t : List ℕ). t ++ behind s l ks) (kind-text (l .kind) h)
     ∙ ap (λ (t : List ℕ). kindWord (l .kind) ++ t) (shape-walked s l ks a r)
 

@@ -7,6 +7,7 @@ use Prim.Native.Nat.{ℕ, _+_, _*_, _/_, _≤_, min}
 use lib.ListN.{length, getD, take, drop}
 use lib.Dec.{ltb, eqb}
 use Rattle.tokenizer.specs.Text.{if_then_else_}
+use Rattle.datatype.specs.Limits.{maxText}
 use Rattle.datatype.specs.Table.{rowWords, treeOf}
 use Rattle.row_table.specs.Equal.{wholeRows}
 use Rattle.datatype_display.specs.Display.{display}
@@ -50,4 +51,4 @@ treeBound table = rowsBound (wholeRows table)
 -- A tree prints into a buffer of so many bytes: it is refused neither by 18 nor by 19.
 pub record Prints (text names table : List ℕ) (room : ℕ) : Type 0 where
   pub ascii : quotedAscii (treeOf text names table) ≡ true
-  pub fits : length (display (treeOf text names table)) ≤ min room 16384
+  pub fits : length (display (treeOf text names table)) ≤ min room maxText

@@ -105,7 +105,7 @@ structText (k ∷ j ∷ ks) = fieldText k ++ (bytes ", " ++ structText (j ∷ ks
 
 unfoldable pub unionText : List Shown → List ℕ
 unionText [] = []
-unionText (k ∷ ks) = bytes ", " ++ (digits (k .label .id) ++ (bytes ": (" ++ (fieldText k ++ (bytes ")" ++ unionText ks))))
+unionText (k ∷ ks) = bytes ", " ++ (digits (k .label .unionId) ++ (bytes ": (" ++ (fieldText k ++ (bytes ")" ++ unionText ks))))
 
 unfoldable pub zoneText : List ℕ → List ℕ
 zoneText [] = []
@@ -126,22 +126,22 @@ runEndText r v =
 -- What stands behind the kind's word, by its shape.
 unfoldable pub shapeText : Shape → Label → List Shown → List ℕ
 shapeText leaf l ks = []
-shapeText timestamp l ks = bytes "(" ++ (unitText (l .param) ++ (zoneText (l .zone) ++ bytes ")"))
-shapeText time l ks = bytes "(" ++ (unitText (l .param) ++ bytes ")")
-shapeText interval l ks = bytes "(" ++ (intervalText (l .param) ++ bytes ")")
-shapeText fixed l ks = bytes "(" ++ (digits (l .param) ++ bytes ")")
+shapeText timestamp l ks = bytes "(" ++ (unitText (l .number) ++ (zoneText (l .zone) ++ bytes ")"))
+shapeText time l ks = bytes "(" ++ (unitText (l .number) ++ bytes ")")
+shapeText interval l ks = bytes "(" ++ (intervalText (l .number) ++ bytes ")")
+shapeText fixed l ks = bytes "(" ++ (digits (l .number) ++ bytes ")")
 shapeText list l [] = []
 shapeText list l (k ∷ ks) = bytes "(" ++ (listFieldText k ++ bytes ")")
 shapeText fixedList l [] = []
-shapeText fixedList l (k ∷ ks) = bytes "(" ++ (digits (l .param) ++ (bytes " x " ++ (listFieldText k ++ bytes ")")))
+shapeText fixedList l (k ∷ ks) = bytes "(" ++ (digits (l .number) ++ (bytes " x " ++ (listFieldText k ++ bytes ")")))
 shapeText struct l ks = bytes "(" ++ (structText ks ++ bytes ")")
-shapeText union l ks = bytes "(" ++ (modeText (l .param) ++ (unionText ks ++ bytes ")"))
+shapeText union l ks = bytes "(" ++ (modeText (l .number) ++ (unionText ks ++ bytes ")"))
 shapeText dictionary l [] = []
 shapeText dictionary l (k ∷ []) = []
 shapeText dictionary l (k ∷ v ∷ ks) = bytes "(" ++ (k .text ++ (bytes ", " ++ (v .text ++ bytes ")")))
-shapeText decimal l ks = bytes "(" ++ (digits (l .param) ++ (bytes ", " ++ (scaleText (l .scale) ++ bytes ")")))
+shapeText decimal l ks = bytes "(" ++ (digits (l .number) ++ (bytes ", " ++ (scaleText (l .scale) ++ bytes ")")))
 shapeText mapping l [] = []
-shapeText mapping l (k ∷ ks) = bytes "(" ++ (fieldText k ++ (bytes ", " ++ (sortedText (l .param) ++ bytes ")")))
+shapeText mapping l (k ∷ ks) = bytes "(" ++ (fieldText k ++ (bytes ", " ++ (sortedText (l .number) ++ bytes ")")))
 shapeText runEnds l [] = []
 shapeText runEnds l (r ∷ []) = []
 shapeText runEnds l (r ∷ v ∷ ks) = bytes "(" ++ (runEndText r v ++ bytes ")")

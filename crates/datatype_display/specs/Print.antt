@@ -6,6 +6,7 @@ use lib.ListN.{length, drop}
 use lib.Dec.{leb}
 use Rattle.tokenizer.specs.Text.{if_then_else_, all}
 use Rattle.tokenizer.specs.Answer.{Out, refused, done, refuse}
+use Rattle.datatype.specs.Limits.{maxText}
 use Rattle.datatype.specs.Kind.{Shape, leaf, timestamp, time, interval, fixed, list, fixedList, struct, union, dictionary, decimal, mapping, runEnds, shapeOf}
 use Rattle.datatype.specs.Tree.{Forest, ∅, node, roots, Label}
 use Rattle.datatype.specs.Table.{treeOf}
@@ -50,7 +51,7 @@ quotedAscii (node l kids next) =
 unfoldable pub print : List ℕ → List ℕ → List ℕ → ℕ → Out (List ℕ)
 print text names table room =
     let tree = treeOf text names table in
-    let fits = if leb (length (display tree)) (min room 16384) then done (display tree) else refuse 19 in
+    let fits = if leb (length (display tree)) (min room maxText) then done (display tree) else refuse 19 in
     let ascii = if quotedAscii tree then fits else refuse 18 in
     if isSound text names table then ascii else refuse 17
 

@@ -9,9 +9,10 @@ use lib.Seq.{sets}
 use lib.Dec.{T, leb, ltb, eqb}
 use Rattle.tokenizer.specs.Text.{bytes, all, if_then_else_}
 use Rattle.tokenizer.specs.Keys.{packed}
+use Rattle.datatype.specs.Limits.{maxText, maxRows}
 use Rattle.datatype.specs.Kind.{Shape, leaf, timestamp, time, interval, fixed, list, fixedList, struct, union, dictionary, decimal, mapping, runEnds, kinds, shapeOf}
 use Rattle.datatype.specs.Tree.{Forest, ∅, node, roots, depth, Label, labelOf, labels}
-use Rattle.datatype.specs.Table.{rowWords, sizeAt}
+use Rattle.datatype.specs.Table.{rowWords, rowsAt}
 use Rattle.row_table.specs.Run.{rowAt, forestAt, Nests}
 use Rattle.datatype_display.specs.Display.{kindWord, digits, unitText, intervalText, modeText, sortedText, scaleText, hex, quoted, listNameText, zoneText, Shown}
 use Rattle.datatype_display.specs.Print.{quotesNames, isAscii, namesAscii}
@@ -26,15 +27,15 @@ pub record Wrote (before : List ℕ) (at : ℕ) (s after : List ℕ) : Type 0 wh
 
 -- `next` is the place n bytes behind `at`; past the limit it only has to be past it.
 pub record Moved (at n next : ℕ) : Type 0 where
-  pub exact : at + n ≤ 16384 → next ≡ at + n
-  pub over : 16384 < at + n → 16384 < next
+  pub exact : at + n ≤ maxText → next ≡ at + n
+  pub over : maxText < at + n → maxText < next
 
 -- The bytes s are written at a place and `next` is the place behind them. Where the buffer has no room for them only
 -- the place counts: printing into no bytes measures the text.
 pub record Put (before : List ℕ) (at : ℕ) (s : List ℕ) (next : ℕ) (after : List ℕ) : Type 0 where
   pub place : Moved at (length s) next
   pub kept : length after ≡ length before
-  pub stored : at + length s ≤ length before → at + length s ≤ 16384 → after ≡ sets before at s
+  pub stored : at + length s ≤ length before → at + length s ≤ maxText → after ≡ sets before at s
 
 -- ---- numbers that hold bytes, the highest first
 
@@ -171,7 +172,7 @@ nullability role = if eqb role 2 then bytes "non-null " else []
 
 -- What stands before a child's type, and behind it.
 unfoldable pub leadText : Shape → Bool → Bool → Label → List ℕ
-leadText s quotes first l = separator s first (l .id) ++ (nameText quotes (l .name) ++ nullability (l .role))
+leadText s quotes first l = separator s first (l .unionId) ++ (nameText quotes (l .name) ++ nullability (l .role))
 
 unfoldable pub trailText : Shape → List ℕ → List ℕ
 trailText leaf name = []
@@ -193,15 +194,15 @@ childrenText s quotes first [] = []
 childrenText s quotes first (k ∷ ks) = leadText s quotes first (k .label) ++ (k .text ++ (trailText s (k .label .name) ++ childrenText s quotes false ks))
 
 unfoldable pub headText : Label → List ℕ
-headText l = kindText (l .kind) ++ openText (shapeOf (l .kind)) (l .param) (l .scale) (l .zone)
+headText l = kindText (l .kind) ++ openText (shapeOf (l .kind)) (l .number) (l .scale) (l .zone)
 
 -- The text of a row with nothing below it.
 unfoldable pub singleText : Label → List ℕ
-singleText l = headText l ++ closeText (shapeOf (l .kind)) (l .param)
+singleText l = headText l ++ closeText (shapeOf (l .kind)) (l .number)
 
 unfoldable pub rowText : Label → List Label → List Shown → List ℕ
 rowText l kids ks =
-    headText l ++ (childrenText (shapeOf (l .kind)) (quotesNames (shapeOf (l .kind)) kids) true ks ++ closeText (shapeOf (l .kind)) (l .param))
+    headText l ++ (childrenText (shapeOf (l .kind)) (quotesNames (shapeOf (l .kind)) kids) true ks ++ closeText (shapeOf (l .kind)) (l .number))
 
 -- The trees of a run, each with the text that the walk prints; for trees whose rows fit these
 -- are the printed types.
@@ -213,14 +214,14 @@ walked (node l kids next) = record { label = l; text = rowText l (roots kids) (w
 
 -- How many levels stand below row i.
 abbrev pub depthBelow : List ℕ → ℕ → ℕ
-depthBelow table i = depth (forestAt table (i + 1) (i + sizeAt table i - (i + 1)))
+depthBelow table i = depth (forestAt table (i + 1) (i + rowsAt table i - (i + 1)))
 
 -- Row i is there with its subtree, which nests and has fewer than so many levels below it.
 pub record Subtree (table : List ℕ) (level i : ℕ) : Type 0 where
-  pub some-rows : 1 ≤ sizeAt table i
-  pub room : rowWords * (i + sizeAt table i) ≤ length table
-  pub nests : Nests table (i + 1) (i + sizeAt table i - (i + 1))
-  pub few : i + sizeAt table i ≤ 1024
+  pub some-rows : 1 ≤ rowsAt table i
+  pub room : rowWords * (i + rowsAt table i) ≤ length table
+  pub nests : Nests table (i + 1) (i + rowsAt table i - (i + 1))
+  pub few : i + rowsAt table i ≤ maxRows
   pub flat : depthBelow table i < level
 
 -- What row i says, and its children.
@@ -228,7 +229,7 @@ unfoldable pub labelAt : List ℕ → List ℕ → List ℕ → ℕ → Label
 labelAt text names table i = labelOf text names (rowAt table i)
 
 unfoldable pub kidsAt : List ℕ → List ℕ → List ℕ → ℕ → Forest Label
-kidsAt text names table i = labels text names (forestAt table (i + 1) (i + sizeAt table i - (i + 1)))
+kidsAt text names table i = labels text names (forestAt table (i + 1) (i + rowsAt table i - (i + 1)))
 
 -- The text of row i's subtree.
 unfoldable pub textAt : List ℕ → List ℕ → List ℕ → ℕ → List ℕ

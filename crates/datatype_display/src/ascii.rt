@@ -21,7 +21,7 @@ use datatype::equal_bytes;
 use datatype::rows::KIND;
 use datatype::rows::MAX_LEVELS;
 use datatype::rows::ROW_WORDS;
-use datatype::rows::ZONE_SIZE;
+use datatype::rows::ZONE_LENGTH;
 use datatype::rows::ZONE_START;
 use datatype::zone;
 
@@ -125,7 +125,7 @@ fn row_ascii<'a>(text: &'a [u8], names: &'a [u8], rows: &[u32], i: usize, end: u
     requires { ⌜ Nests (now rows) (i + 1) (end - (i + 1)) × (i + 1 ≤ end) ⌝ }
     ensures { λ r. ⌜ r ≡ rowAscii (labelAt (now (text .entry)) (now (names .entry)) (now (rows .entry)) i) (roots (labels (now (text .entry)) (now (names .entry)) (forestAt (now (rows .entry)) (i + 1) (end - (i + 1))))) ⌝ }
 {
-    let z = zone(text, word(rows, i, ZONE_START), word(rows, i, ZONE_SIZE));
+    let z = zone(text, word(rows, i, ZONE_START), word(rows, i, ZONE_LENGTH));
     if !is_ascii(z) {
         return false;
     }

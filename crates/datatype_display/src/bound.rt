@@ -5,6 +5,7 @@ ghost use Prim.Native.Nat.{_+_, _*_, _≤_, _<_};
 ghost use lib.ListN.{length};
 ghost use lib.Dec.{T};
 ghost use Rattle.tokenizer.specs.Text.{all, isPrintable};
+ghost use Rattle.datatype.specs.Limits.{maxRows};
 ghost use Rattle.datatype.specs.Table.{rowWords};
 ghost use Rattle.row_table.specs.Sound.{isSound};
 ghost use Rattle.datatype_display.specs.Bound.{byteWeight, kindBound, boundAt, treeBound, Prints};
@@ -13,11 +14,11 @@ use crate::row::word;
 use datatype::kind::UNION;
 use datatype::rows::KIND;
 use datatype::rows::MAX_TEXT;
+use datatype::rows::NAME_LENGTH;
 use datatype::rows::ROLE;
 use datatype::rows::ROW_WORDS;
-use datatype::rows::SIZE;
-use datatype::rows::SUBTREE;
-use datatype::rows::ZONE_SIZE;
+use datatype::rows::ROWS;
+use datatype::rows::ZONE_LENGTH;
 
 // A byte's weight: those that are not printable ASCII are above those that are.
 fn byte_weight(c: u8) -> u8
@@ -94,18 +95,18 @@ fn row_bound(rows: &[u32], i: usize) -> usize
 {
     let kind = word(rows, i, KIND);
     let role = wide(word(rows, i, ROLE));
-    let size = wide(word(rows, i, SIZE));
-    let zone = wide(word(rows, i, ZONE_SIZE));
+    let size = wide(word(rows, i, NAME_LENGTH));
+    let zone = wide(word(rows, i, ZONE_LENGTH));
     let own = kind_bound(kind) + 9 * (role / 2) + 2 * size + 2 * zone;
     if kind == UNION {
-        return own + 7 * wide(word(rows, i, SUBTREE));
+        return own + 7 * wide(word(rows, i, ROWS));
     }
     own
 }
 
 // The bound on the printed length of a sound tree.
 fn tree_bound(rows: &[u32]) -> usize
-    requires { ⌜ length (now rows) ≤ rowWords * 1024 ⌝ }
+    requires { ⌜ length (now rows) ≤ rowWords * maxRows ⌝ }
     ensures { λ r. ⌜ r ≡ treeBound (now (rows .entry)) ⌝ }
 {
     let n = rows.len() / ROW_WORDS;

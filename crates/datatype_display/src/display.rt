@@ -20,7 +20,7 @@ use crate::shape::shape_of;
 use crate::words::put_kind;
 use datatype::rows::KIND;
 use datatype::rows::MAX_LEVELS;
-use datatype::rows::PARAM;
+use datatype::rows::NUMBER;
 
 // Writes the type of row i, which has nothing below it, piece by piece.
 fn put_pieces(text: &[u8], rows: &[u32], i: usize, out: &mut [u8], at: usize) -> usize
@@ -30,7 +30,7 @@ fn put_pieces(text: &[u8], rows: &[u32], i: usize, out: &mut [u8], at: usize) ->
     let next = put_head(text, rows, i, out, at);
     put_close(
         shape_of(word(rows, i, KIND)),
-        word(rows, i, PARAM),
+        word(rows, i, NUMBER),
         out,
         next,
     )
@@ -74,7 +74,7 @@ fn put_nested<'a>(
         next = put_trail(text, names, rows, shape, j, out, typed);
         j = j + subtree(rows, j);
     }
-    put_close(shape, word(rows, i, PARAM), out, next)
+    put_close(shape, word(rows, i, NUMBER), out, next)
 }
 
 // The same; a row with nothing below it is not walked.

@@ -5,7 +5,7 @@ ghost use Prim.Native.Nat.{_+_, _*_, _≤_, _<_};
 ghost use lib.ListN.{length, getD};
 ghost use Rattle.datatype.specs.Kind.{timestamp, decimal};
 ghost use Rattle.datatype.specs.Tree.{nameOf, zoneOf};
-ghost use Rattle.datatype.specs.Table.{rowWords, sizeAt};
+ghost use Rattle.datatype.specs.Table.{rowWords, rowsAt};
 ghost use Rattle.datatype_display.specs.Display.{listNameText, zoneText};
 ghost use Rattle.datatype_display.specs.Steps.{Put, shapeMeans, comma, paramsText, openText, closeText, separator, nullability, nameText, leadText, trailText, headText, labelAt};
 use crate::escape::put_quoted;
@@ -23,16 +23,16 @@ use crate::write::put_digits;
 use datatype::Field;
 use datatype::equal_bytes;
 use datatype::rows::HOME;
-use datatype::rows::ID;
 use datatype::rows::KIND;
-use datatype::rows::PARAM;
+use datatype::rows::NAME_LENGTH;
+use datatype::rows::NAME_START;
+use datatype::rows::NUMBER;
 use datatype::rows::ROLE;
 use datatype::rows::ROW_WORDS;
+use datatype::rows::ROWS;
 use datatype::rows::SCALE;
-use datatype::rows::SIZE;
-use datatype::rows::START;
-use datatype::rows::SUBTREE;
-use datatype::rows::ZONE_SIZE;
+use datatype::rows::UNION_ID;
+use datatype::rows::ZONE_LENGTH;
 use datatype::rows::ZONE_START;
 use datatype::zone;
 
@@ -47,9 +47,9 @@ pub(crate) fn word(rows: &[u32], i: usize, k: usize) -> u32
 // How many rows the subtree of row i has, itself included.
 pub(crate) fn subtree(rows: &[u32], i: usize) -> usize
     requires { ⌜ rowWords * (i + 1) ≤ length (now rows) ⌝ }
-    ensures { λ r. ⌜ r ≡ sizeAt (now (rows .entry)) i ⌝ }
+    ensures { λ r. ⌜ r ≡ rowsAt (now (rows .entry)) i ⌝ }
 {
-    word(rows, i, SUBTREE) as usize
+    word(rows, i, ROWS) as usize
 }
 
 // Writes a zone behind a unit, where there is one.
@@ -149,10 +149,10 @@ pub(crate) fn put_head(text: &[u8], rows: &[u32], i: usize, out: &mut [u8], at: 
 {
     let kind = word(rows, i, KIND);
     let next = put_kind(out, at, kind);
-    let param = word(rows, i, PARAM);
+    let param = word(rows, i, NUMBER);
     let scale = word(rows, i, SCALE);
     let start = word(rows, i, ZONE_START);
-    let size = word(rows, i, ZONE_SIZE);
+    let size = word(rows, i, ZONE_LENGTH);
     put_open(text, shape_of(kind), param, scale, start, size, out, next)
 }
 
@@ -239,8 +239,8 @@ pub(crate) fn name_at<'a>(text: &'a [u8], names: &'a [u8], rows: &[u32], i: usiz
 {
     let field = Field {
         home: word(rows, i, HOME),
-        start: word(rows, i, START),
-        size: word(rows, i, SIZE),
+        start: word(rows, i, NAME_START),
+        size: word(rows, i, NAME_LENGTH),
     };
     field.name(text, names)
 }
@@ -260,7 +260,7 @@ pub(crate) fn put_lead<'a>(
     requires { ⌜ rowWords * (i + 1) ≤ length (now rows) ⌝ }
     ensures { λ r. ⌜ Put (now (out .entry)) at (leadText (shapeMeans shape) quotes first (labelAt (now (text .entry)) (now (names .entry)) (now (rows .entry)) i)) r (now (out .exit)) ⌝ }
 {
-    let parted = put_separator(shape, first, word(rows, i, ID), out, at);
+    let parted = put_separator(shape, first, word(rows, i, UNION_ID), out, at);
     let named = put_name(quotes, name_at(text, names, rows, i), out, parted);
     put_nullability(word(rows, i, ROLE), out, named)
 }

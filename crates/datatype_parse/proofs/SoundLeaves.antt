@@ -27,10 +27,10 @@ module _ (text : List ℕ) (level rows : ℕ) where
   closed r kids at h = holds-bind Whole (need text rparen at) _ λ c. h
 
   module _ (k : ℕ) (low : k < kinds) where
-    childless : (param scale zoneStart zoneSize : ℕ) (sh : Shape) → shapeOf k ≡ sh → Asked text sh k param scale zoneStart zoneSize ∅
-        → Fits text bare (suc level) (suc rows) (node (bareRow k param scale zoneStart zoneSize) ∅ ∅)
-    childless param scale zoneStart zoneSize sh e a =
-        fits-type text level rows k param scale zoneStart zoneSize ∅ low sh e a (run-empty text ((rulesOf sh) .below) level) (omega arith)
+    childless : (param scale zoneStart zoneLength : ℕ) (sh : Shape) → shapeOf k ≡ sh → Asked text sh k param scale zoneStart zoneLength ∅
+        → Fits text bare (suc level) (suc rows) (node (bareRow k param scale zoneStart zoneLength) ∅ ∅)
+    childless param scale zoneStart zoneLength sh e a =
+        fits-type text level rows k param scale zoneStart zoneLength ∅ low sh e a (run-empty text ((rulesOf sh) .below) level) (omega arith)
 
     pub leaf-sound : (at : ℕ) → shapeOf k ≡ leaf → Whole (record { row = bareRow k 0 0 0 0; kids = ∅; next = at })
     unfolding rulesOf zoneOk arityFits

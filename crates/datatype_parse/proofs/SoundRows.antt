@@ -31,7 +31,7 @@ idsAllow unionField ids = idsFit ids
 
 -- the ids of a run of trees
 abbrev pub ids : Forest Row → List ℕ
-ids f = map (λ r. r .id) (roots f)
+ids f = map (λ r. r .unionId) (roots f)
 
 allow-first : (place : Place) (x : ℕ) (xs : List ℕ) → T (idsAllow place (x ∷ xs)) → T (idsAllow place (x ∷ []))
 unfolding idsFit
@@ -78,16 +78,16 @@ module _ (text : List ℕ) where
 
   -- ---- rows
 
-  own : (place : Place) (r : Row) → T (ltb (r .kind) kinds) → T (numbersFit (r .kind) (r .param) (r .scale)) → T (idFits place (r .id))
-      → T (nameOk text place (r .role) (r .home) (r .start) (r .size)) → T (zoneOk text ((rulesOf (shapeOf (r .kind))) .zoned) (r .zoneStart) (r .zoneSize))
+  own : (place : Place) (r : Row) → T (ltb (r .kind) kinds) → T (numbersFit (r .kind) (r .number) (r .scale)) → T (idFits place (r .unionId))
+      → T (nameOk text place (r .role) (r .home) (r .nameStart) (r .nameLength)) → T (zoneOk text ((rulesOf (shapeOf (r .kind))) .zoned) (r .zoneStart) (r .zoneLength))
       → T (ownFits text place r)
   unfolding ownFits
   own place r k n i m z =
       let a : Bool = ltb (r .kind) kinds in
-      let b : Bool = numbersFit (r .kind) (r .param) (r .scale) in
-      let c : Bool = idFits place (r .id) in
-      let d : Bool = nameOk text place (r .role) (r .home) (r .start) (r .size) in
-      both (a && b && c && d) (zoneOk text ((rulesOf (shapeOf (r .kind))) .zoned) (r .zoneStart) (r .zoneSize)) (both (a && b && c) d (both (a && b) c (both a b k n) i) m) z
+      let b : Bool = numbersFit (r .kind) (r .number) (r .scale) in
+      let c : Bool = idFits place (r .unionId) in
+      let d : Bool = nameOk text place (r .role) (r .home) (r .nameStart) (r .nameLength) in
+      both (a && b && c && d) (zoneOk text ((rulesOf (shapeOf (r .kind))) .zoned) (r .zoneStart) (r .zoneLength)) (both (a && b && c) d (both (a && b) c (both a b k n) i) m) z
 
   -- the row of a type made a field's
   own-field : (from to : Place) (r : Row) (role id : ℕ) (n : Name) → T (isField to) → T (eqb role 1 || eqb role 2) → T (idFits to id) → T (Found n)
@@ -119,20 +119,20 @@ module _ (text : List ℕ) where
       run-in text to l (fieldRow role id n r) kids ∅ (own-field from to r role id n p q i f (w .0)) (w .1) (w .2) (run-empty to (suc l))
 
   -- What a shape asks of a type that is read: its numbers, its zone and its children.
-  pub record Asked (sh : Shape) (k param scale zoneStart zoneSize : ℕ) (kids : Forest Row) : Type 0 where
+  pub record Asked (sh : Shape) (k param scale zoneStart zoneLength : ℕ) (kids : Forest Row) : Type 0 where
     pub params : param < (rulesOf sh) .params
     pub scales : scale < (rulesOf sh) .scales
     pub shape : T (ownShape sh k param scale)
-    pub zone : T (zoneOk text ((rulesOf sh) .zoned) zoneStart zoneSize)
+    pub zone : T (zoneOk text ((rulesOf sh) .zoned) zoneStart zoneLength)
     pub arity : T (arityFits ((rulesOf sh) .children) (length (roots kids)))
     pub over : T (overKids sh kids)
 
   -- a type over its children
-  module _ (level k param scale zoneStart zoneSize : ℕ) (kids : Forest Row) (low : k < kinds) where
+  module _ (level k param scale zoneStart zoneLength : ℕ) (kids : Forest Row) (low : k < kinds) where
     abbrev row : Row
-    row = bareRow k param scale zoneStart zoneSize
+    row = bareRow k param scale zoneStart zoneLength
 
-    run-asked : Asked (shapeOf k) k param scale zoneStart zoneSize kids → Run text (belowOf k) level kids → Run text bare (suc level) (node row kids ∅)
+    run-asked : Asked (shapeOf k) k param scale zoneStart zoneLength kids → Run text (belowOf k) level kids → Run text bare (suc level) (node row kids ∅)
     unfolding numbersFit childrenFit idFits nameOk
     run-asked a below =
         let b1 : Bool = ltb param ((rulesOf (shapeOf k)) .params) in
@@ -142,10 +142,10 @@ module _ (text : List ℕ) where
         run-in text bare level row kids ∅ (own bare row (lt→ltb k kinds low) n tt tt (a .zone)) below
         (both (arityFits ((rulesOf (shapeOf k)) .children) (length (roots kids))) (overKids (shapeOf k) kids) (a .arity) (a .over)) (run-empty bare (suc level))
 
-    pub run-type : (sh : Shape) → shapeOf k ≡ sh → Asked sh k param scale zoneStart zoneSize kids → Run text ((rulesOf sh) .below) level kids
+    pub run-type : (sh : Shape) → shapeOf k ≡ sh → Asked sh k param scale zoneStart zoneLength kids → Run text ((rulesOf sh) .below) level kids
         → Run text bare (suc level) (node row kids ∅)
     run-type sh e a below =
-        run-asked (subst (λ (s : Shape). Asked s k param scale zoneStart zoneSize kids) (sym e) a) (subst (λ (s : Shape). Run text ((rulesOf s) .below) level kids) (sym e) below)
+        run-asked (subst (λ (s : Shape). Asked s k param scale zoneStart zoneLength kids) (sym e) a) (subst (λ (s : Shape). Run text ((rulesOf s) .below) level kids) (sym e) below)
 
   -- ---- what the reader answers
 
@@ -167,20 +167,20 @@ module _ (text : List ℕ) where
       let x = a .few in
       let y = b .few in
       record {
-        run = λ t. run-cons place level r kids next (a .run (allow-first place (r .id) (ids next) t)) (b .run (allow-rest place (r .id) (ids next) t));
+        run = λ t. run-cons place level r kids next (a .run (allow-first place (r .unionId) (ids next) t)) (b .run (allow-rest place (r .unionId) (ids next) t));
         few = omega arith;
       }
 
   -- a type or a field made a field
-  pub fits-field : (from to : Place) (level rows : ℕ) (r : Row) (kids : Forest Row) (role id : ℕ) (n : Name) → T (idsAllow from (r .id ∷ [])) → T (isField to)
+  pub fits-field : (from to : Place) (level rows : ℕ) (r : Row) (kids : Forest Row) (role id : ℕ) (n : Name) → T (idsAllow from (r .unionId ∷ [])) → T (isField to)
       → T (eqb role 1 || eqb role 2) → (T (idsAllow to (id ∷ [])) → T (idFits to id)) → T (Found n)
       → Fits from level rows (node r kids ∅) → Fits to level rows (node (fieldRow role id n r) kids ∅)
   fits-field from to level rows r kids role id n w p q i f a =
       record { run = λ t. run-field from to level r kids role id n p q (i t) f (a .run w); few = a .few }
 
   -- a type over its children
-  pub fits-type : (level rows k param scale zoneStart zoneSize : ℕ) (kids : Forest Row) → k < kinds → (sh : Shape) → shapeOf k ≡ sh
-      → Asked sh k param scale zoneStart zoneSize kids → Run text ((rulesOf sh) .below) level kids → count kids ≤ rows
-      → Fits bare (suc level) (suc rows) (node (bareRow k param scale zoneStart zoneSize) kids ∅)
-  fits-type level rows k param scale zoneStart zoneSize kids low sh e a below few =
-      record { run = λ t. run-type level k param scale zoneStart zoneSize kids low sh e a below; few = omega arith }
+  pub fits-type : (level rows k param scale zoneStart zoneLength : ℕ) (kids : Forest Row) → k < kinds → (sh : Shape) → shapeOf k ≡ sh
+      → Asked sh k param scale zoneStart zoneLength kids → Run text ((rulesOf sh) .below) level kids → count kids ≤ rows
+      → Fits bare (suc level) (suc rows) (node (bareRow k param scale zoneStart zoneLength) kids ∅)
+  fits-type level rows k param scale zoneStart zoneLength kids low sh e a below few =
+      record { run = λ t. run-type level k param scale zoneStart zoneLength kids low sh e a below; few = omega arith }

@@ -5,6 +5,7 @@ ghost use Rattle.datatype_parse.specs.RowsToLend.{rowsToLend};
 use datatype::clear_words;
 use datatype::rows::MAX_ROWS;
 use parser::Read;
+use tokenizer::refusal;
 
 // The rows that a text has filled, or the refusal's number.
 pub enum Parsed {
@@ -35,7 +36,7 @@ pub fn parse_data_type(text: &[u8], rows: &mut [u32]) -> Parsed
                 return Parsed::Rows(used);
             }
             clear_words(rows);
-            Parsed::Refused(16)
+            Parsed::Refused(refusal::TRAILING_TEXT)
         }
     }
 }

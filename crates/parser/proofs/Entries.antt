@@ -11,7 +11,7 @@ use borrow.Author.Tests.{eq-eqb, ne-eqb}
 use Rattle.tokenizer.specs.Text.{if_then_else_}
 use Rattle.datatype.specs.Kind.{keyRefusal, entriesRefusal, idsFit}
 use Rattle.datatype.specs.Tree.{Forest, ∅, node, count, roots, Row}
-use Rattle.datatype.specs.Table.{rowWords, tableOf, sizeAt}
+use Rattle.datatype.specs.Table.{rowWords, tableOf, rowsAt}
 use Rattle.row_table.specs.Run.{rowAt, forestAt, Nests}
 use Rattle.row_table.specs.UnionFields.{typeIdsFit}
 use Rattle.datatype.proofs.Table.{length-table}
@@ -68,58 +68,58 @@ module _ (rows : List ℕ) (row end : ℕ) (n : Nests rows row (end - row)) (h :
 
     module _ (k : getD rows (rowWords * row + 0) 0 ≡ 32) where
       -- the children's roles decide
-      by-children : entriesOf F ≡ keyRefusal (map (λ c. c .role) (roots (forestAt rows (row + 1) (row + sizeAt rows row - (row + 1)))))
+      by-children : entriesOf F ≡ keyRefusal (map (λ c. c .role) (roots (forestAt rows (row + 1) (row + rowsAt rows row - (row + 1)))))
       unfolding entriesOf entriesRefusal rowAt
       by-children = rw (first .is, eq-eqb (getD rows (rowWords * row + 2) 0) 2 r, eq-eqb (getD rows (rowWords * row + 0) 0) 32 k)
 
-      pub entries-3 : row + sizeAt rows row ≤ row + 1 → 14 ≡ entriesOf F
+      pub entries-3 : row + rowsAt rows row ≤ row + 1 → 14 ≡ entriesOf F
       entries-3 z =
-          let e : row + sizeAt rows row - (row + 1) ≡ 0 = omega arith in
+          let e : row + rowsAt rows row - (row + 1) ≡ 0 = omega arith in
           sym (by-children ∙ rw (e, forest-none rows (row + 1)))
 
-      module _ (z : row + 1 < row + sizeAt rows row) where
-        key : Turn rows (row + 1) (row + sizeAt rows row)
-        key = turn rows (row + 1) (row + sizeAt rows row) (first .kids) z
+      module _ (z : row + 1 < row + rowsAt rows row) where
+        key : Turn rows (row + 1) (row + rowsAt rows row)
+        key = turn rows (row + 1) (row + rowsAt rows row) (first .kids) z
 
         abbrev value : ℕ
-        value = row + 1 + sizeAt rows (row + 1)
+        value = row + 1 + rowsAt rows (row + 1)
 
-        pub key-within : value ≤ row + sizeAt rows row
+        pub key-within : value ≤ row + rowsAt rows row
         key-within = key .within
 
-        by-key : entriesOf F ≡ keyRefusal (getD rows (rowWords * (row + 1) + 2) 0 ∷ map (λ c. c .role) (roots (forestAt rows value (row + sizeAt rows row - value))))
+        by-key : entriesOf F ≡ keyRefusal (getD rows (rowWords * (row + 1) + 2) 0 ∷ map (λ c. c .role) (roots (forestAt rows value (row + rowsAt rows row - value))))
         unfolding rowAt
         by-key = by-children ∙ rw (key .is)
 
-        pub entries-4 : row + sizeAt rows row ≤ value → 14 ≡ entriesOf F
+        pub entries-4 : row + rowsAt rows row ≤ value → 14 ≡ entriesOf F
         entries-4 y =
-            let e : row + sizeAt rows row - value ≡ 0 = omega arith in
+            let e : row + rowsAt rows row - value ≡ 0 = omega arith in
             sym (by-key ∙ rw (e, forest-none rows value))
 
-        module _ (y : value < row + sizeAt rows row) where
-          second : Turn rows value (row + sizeAt rows row)
-          second = turn rows value (row + sizeAt rows row) (key .rest) y
+        module _ (y : value < row + rowsAt rows row) where
+          second : Turn rows value (row + rowsAt rows row)
+          second = turn rows value (row + rowsAt rows row) (key .rest) y
 
           abbrev third : ℕ
-          third = value + sizeAt rows value
+          third = value + rowsAt rows value
 
-          pub second-within : third ≤ row + sizeAt rows row
+          pub second-within : third ≤ row + rowsAt rows row
           second-within = second .within
 
-          by-value : entriesOf F ≡ keyRefusal (getD rows (rowWords * (row + 1) + 2) 0 ∷ getD rows (rowWords * value + 2) 0 ∷ map (λ c. c .role) (roots (forestAt rows third (row + sizeAt rows row - third))))
+          by-value : entriesOf F ≡ keyRefusal (getD rows (rowWords * (row + 1) + 2) 0 ∷ getD rows (rowWords * value + 2) 0 ∷ map (λ c. c .role) (roots (forestAt rows third (row + rowsAt rows row - third))))
           unfolding rowAt
           by-value = by-key ∙ rw (second .is)
 
-          pub entries-5 : (third ≡ row + sizeAt rows row → ⊥) → 14 ≡ entriesOf F
+          pub entries-5 : (third ≡ row + rowsAt rows row → ⊥) → 14 ≡ entriesOf F
           entries-5 x =
               let w = second .within in
-              let t = turn rows third (row + sizeAt rows row) (second .rest) (omega arith) in
+              let t = turn rows third (row + rowsAt rows row) (second .rest) (omega arith) in
               sym (by-value ∙ rw (t .is))
 
-          module _ (x : third ≡ row + sizeAt rows row) where
+          module _ (x : third ≡ row + rowsAt rows row) where
             two : entriesOf F ≡ (if eqb (getD rows (rowWords * (row + 1) + 2) 0) 2 then 0 else 13)
             two =
-                let e : row + sizeAt rows row - third ≡ 0 = omega arith in
+                let e : row + rowsAt rows row - third ≡ 0 = omega arith in
                 by-value ∙ rw (e, forest-none rows third)
 
             pub entries-6 : (getD rows (rowWords * (row + 1) + 2) 0 ≡ 2 → ⊥) → 13 ≡ entriesOf F
@@ -153,8 +153,8 @@ module _ (rows : List ℕ) (row end : ℕ) (n : Nests rows row (end - row)) (h :
           value-room = let w = size-within in let m = n .room in omega arith
 
           module _ (u : ℕ) (g : u ≡ getD rows (rowWords * (row + 1 + t) + 1) 0) where
-            same-value : sizeAt rows (row + 1 + sizeAt rows (row + 1)) ≡ u
-            same-value = ap (λ (i : ℕ). sizeAt rows (row + 1 + i)) (sym f) ∙ sym g
+            same-value : rowsAt rows (row + 1 + rowsAt rows (row + 1)) ≡ u
+            same-value = ap (λ (i : ℕ). rowsAt rows (row + 1 + i)) (sym f) ∙ sym g
 
             pub three : (row + 1 + t + u ≡ row + s → ⊥) → 14 ≡ entriesOf (forestAt rows row (end - row))
             three x = entries-5 rows row end n h r k (omega arith) (omega arith) (λ q. x (let v = same-value in omega arith))
@@ -195,10 +195,10 @@ module _ (o : Out Fields) (n k at left : ℕ) (before after : List ℕ) (g : Got
       rw e at (stored-is (g .trees) at left before after (g .stored) fits)
 
   -- the ids of the rows are those of the trees
-  pub ids-read : typeIdsFit after at (at + k) ≡ idsFit (map (λ r. r .id) (roots (g .trees)))
+  pub ids-read : typeIdsFit after at (at + k) ≡ idsFit (map (λ r. r .unionId) (roots (g .trees)))
   ids-read =
       type-ids-fit after at (at + k) (nests-is after at (at + k - at) (g .trees) fields-are) (omega arith)
-      ∙ ap (λ (f : Forest Row). idsFit (map (λ r. r .id) (roots f))) (forest-is after at (at + k - at) (g .trees) fields-are)
+      ∙ ap (λ (f : Forest Row). idsFit (map (λ r. r .unionId) (roots f))) (forest-is after at (at + k - at) (g .trees) fields-are)
 
 -- room for a parent's children
 module _ (text rows : List ℕ) (row left : ℕ) (r : Room text rows row (left + 1)) where

@@ -104,8 +104,8 @@ as-field before mid after row role id n r kids m a =
     a
     ∙ ap (λ (l : List ℕ). sets (sets l (i + 2) (role ∷ id ∷ [])) (i + 6) (n .home ∷ n .start ∷ n .size ∷ [])) (m ∙ ap (λ (l : List ℕ). sets before i l) (table-one r kids))
     ∙ ap (λ (l : List ℕ). sets l (i + 6) (n .home ∷ n .start ∷ n .size ∷ []))
-    (sets-inside before i (r .kind ∷ c ∷ []) (r .role ∷ r .id ∷ []) (role ∷ id ∷ []) (r .param ∷ r .scale ∷ r .home ∷ r .start ∷ r .size ∷ r .zoneStart ∷ r .zoneSize ∷ r .parent ∷ ws) refl)
-    ∙ sets-inside before i (r .kind ∷ c ∷ role ∷ id ∷ r .param ∷ r .scale ∷ []) (r .home ∷ r .start ∷ r .size ∷ []) (n .home ∷ n .start ∷ n .size ∷ []) (r .zoneStart ∷ r .zoneSize ∷ r .parent ∷ ws) refl
+    (sets-inside before i (r .kind ∷ c ∷ []) (r .role ∷ r .unionId ∷ []) (role ∷ id ∷ []) (r .number ∷ r .scale ∷ r .home ∷ r .nameStart ∷ r .nameLength ∷ r .zoneStart ∷ r .zoneLength ∷ r .parent ∷ ws) refl)
+    ∙ sets-inside before i (r .kind ∷ c ∷ role ∷ id ∷ r .number ∷ r .scale ∷ []) (r .home ∷ r .nameStart ∷ r .nameLength ∷ []) (n .home ∷ n .start ∷ n .size ∷ []) (r .zoneStart ∷ r .zoneLength ∷ r .parent ∷ ws) refl
     ∙ ap (λ (l : List ℕ). sets before i l) (sym (table-one (fieldRow role id n r) kids))
 
 -- a word before a run of stores is as it was
@@ -120,7 +120,7 @@ unfolding wordsOf
 rows-said before after row r kids h e =
     let i = rowWords * row in
     let c = suc (count kids) in
-    let ws : List ℕ = r .role ∷ r .id ∷ r .param ∷ r .scale ∷ r .home ∷ r .start ∷ r .size ∷ r .zoneStart ∷ r .zoneSize ∷ r .parent ∷ tableOf kids in
+    let ws : List ℕ = r .role ∷ r .unionId ∷ r .number ∷ r .scale ∷ r .home ∷ r .nameStart ∷ r .nameLength ∷ r .zoneStart ∷ r .zoneLength ∷ r .parent ∷ tableOf kids in
     let next : i + 1 ≡ suc i = omega arith in
     let there : suc i < length (set before i (r .kind)) = omega (arith, length-set before i (r .kind)) in
     ap (λ (l : List ℕ). getD l (i + 1) 0) (e ∙ ap (λ (l : List ℕ). sets before i l) (table-one r kids))

@@ -61,7 +61,7 @@ module _ (text : List ℕ) (type : ℕ → ℕ → Out Tree) (k at left : ℕ) w
       union-at-3 x f = rw (e, m .is, f) refl
 
       module _ (row n used : ℕ) (before mid : List ℕ) (g : GotFields (itemsBy (unionItem text type) (suc left) c left) n used (row + 1) left before mid) (fit : Bool)
-          (q : fit ≡ idsFit (map (λ r. r .id) (roots (g .trees)))) where
+          (q : fit ≡ idsFit (map (λ r. r .unionId) (roots (g .trees)))) where
         pub union-at-4 : fit ≡ false → unionAt text type k at left ≡ refuse 15
         unfolding unionAt
         union-at-4 z = rw (e, m .is, g .is, ← q, z) refl

@@ -11,6 +11,7 @@ use Rattle.tokenizer.specs.Utf8.{isUtf8}
 use Rattle.tokenizer.specs.Token.{tokenAt, sortOf, valueOf, isNegative, noToken, lparen, rparen, comma, colon, integer, doubleQuoted, singleQuoted, typeWord, timeUnit, intervalUnit, unionMode, mapSorted, nullability, fieldWord, someWord, noneWord, xWord}
 use Rattle.tokenizer.specs.declared.Token.{Token}
 use Rattle.tokenizer.specs.declared.TokenKind.{TokenKind}
+use Rattle.datatype.specs.Limits.{maxText, maxLevels}
 use Rattle.datatype.specs.Kind.{Shape, leaf, timestamp, time, interval, fixed, list, fixedList, struct, union, dictionary, decimal, mapping, runEnds, shapeOf, unitFits, decimalFits, entriesRefusal, idsFit}
 use Rattle.datatype.specs.Tree.{Forest, ∅, node, count, roots, Row}
 use Rattle.datatype.specs.Table.{tableOf}
@@ -41,13 +42,13 @@ textName t = record { home = 1; start = t .start; size = t .size }
 
 -- The row of a type that is no field: kind, words 4 and 5, and the zone.
 abbrev pub bareRow : ℕ → ℕ → ℕ → ℕ → ℕ → Row
-bareRow k param scale zoneStart zoneSize =
-    record { kind = k; role = 0; id = 0; param = param; scale = scale; home = 0; start = 0; size = 0; zoneStart = zoneStart; zoneSize = zoneSize; parent = 0 }
+bareRow k param scale zoneStart zoneLength =
+    record { kind = k; role = 0; unionId = 0; number = param; scale = scale; home = 0; nameStart = 0; nameLength = 0; zoneStart = zoneStart; zoneLength = zoneLength; parent = 0 }
 
 -- The same row as a field's.
 abbrev pub fieldRow : ℕ → ℕ → Name → Row → Row
 fieldRow role id n r =
-    record { kind = r .kind; role = role; id = id; param = r .param; scale = r .scale; home = n .home; start = n .start; size = n .size; zoneStart = r .zoneStart; zoneSize = r .zoneSize; parent = r .parent }
+    record { kind = r .kind; role = role; unionId = id; number = r .number; scale = r .scale; home = n .home; nameStart = n .start; nameLength = n .size; zoneStart = r .zoneStart; zoneLength = r .zoneLength; parent = r .parent }
 
 -- A type or a field that was read: its row, its children, and the place behind it.
 pub record Tree : Type 0 where
@@ -371,7 +372,7 @@ module _ (text : List ℕ) where
       p ← need lparen at
       m ← need unionMode (p .next)
       fs ← itemsBy unionItem (suc rows) (m .next) rows
-      if idsFit (map (λ r. r .id) (roots (fs .trees)))
+      if idsFit (map (λ r. r .unionId) (roots (fs .trees)))
           then done (record { row = bareRow k (valueOf (m .kind)) 0 0 0; kids = fs .trees; next = fs .next })
           else refuse 15
 
@@ -430,9 +431,9 @@ module _ (text : List ℕ) where
 -- The whole text is judged first: its length (1), then its bytes (2). So many rows are lent.
 unfoldable pub firstType : List ℕ → ℕ → Out Tree
 firstType text rows =
-    let tree = typeAt text 64 0 rows in
+    let tree = typeAt text maxLevels 0 rows in
     let utf8 = if isUtf8 text then tree else refuse 2 in
-    if leb (length text) 16384 then utf8 else refuse 1
+    if leb (length text) maxText then utf8 else refuse 1
 
 -- What is answered for it: the place behind it and its row count, or the refusal.
 pub record Extent : Type 0 where

@@ -11,6 +11,7 @@ use Rattle.tokenizer.specs.Text.{if_then_else_}
 use Rattle.tokenizer.specs.Answer.{Out, refused, done}
 use Rattle.tokenizer.specs.Token.{valueOf, isNegative, lparen, rparen, comma, colon}
 use Rattle.tokenizer.specs.declared.Token.{Token}
+use Rattle.datatype.specs.Limits.{maxText, maxRows}
 use Rattle.datatype.specs.Kind.{entriesRefusal}
 use Rattle.datatype.specs.Tree.{Forest, ∅, node, count, roots, Row}
 use Rattle.datatype.specs.Table.{rowWords, wordsOf, tableOf}
@@ -67,8 +68,8 @@ zoneStep (done z) = Q.String (z .start) (z .size) (z .next)
 
 -- What a reader of types asks of its buffers: so many rows are left from the row on.
 pub record Room (text rows : List ℕ) (row left : ℕ) : Type 0 where
-  pub short : length text ≤ 16384
-  pub small : row + left ≤ 1024
+  pub short : length text ≤ maxText
+  pub small : row + left ≤ maxRows
   pub fits : rowWords * (row + left) ≤ length rows
 
 -- The rows of a run of trees stand from a row on, within the rows left, and the rest is as it was.

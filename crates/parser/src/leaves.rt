@@ -19,6 +19,7 @@ use crate::tokens::parse_unit;
 use crate::tokens::parse_unsigned;
 use crate::tokens::parse_zone;
 use datatype::Decimal;
+use tokenizer::refusal;
 
 // The mark that closes a type; its row is then written in front of the rows of its children.
 pub(crate) fn close(
@@ -34,7 +35,7 @@ pub(crate) fn close(
     requires { ⌜ Room (now text) (now rows) row (used + 1) ⌝ }
     ensures { λ r. ⌜ Closed (need (now (text .entry)) rparen at) row used (bareRow kind param scale 0 0) (now (rows .entry)) r (now (rows .exit)) ⌝ }
 {
-    match expect_token(text, at, 41) {
+    match expect_token(text, at, b')') {
         Step::Refused(n) => Read::Refused(n),
         Step::Next(next) => {
             put_row(rows, row, kind, (used + 1) as u32, param, scale, 0, 0);
@@ -53,7 +54,7 @@ pub(crate) fn parse_timestamp(
     requires { ⌜ Room (now text) (now rows) row 1 ⌝ }
     ensures { λ r. ⌜ Meets (timestampAt (now (text .entry)) kind at) row 1 (now (rows .entry)) r (now (rows .exit)) ⌝ }
 {
-    let open = match expect_token(text, at, 40) {
+    let open = match expect_token(text, at, b'(') {
         Step::Next(next) => next,
         Step::Refused(n) => {
             return Read::Refused(n);
@@ -76,7 +77,7 @@ pub(crate) fn parse_time(text: &[u8], rows: &mut [u32], kind: u32, at: usize, ro
     requires { ⌜ Room (now text) (now rows) row 1 ⌝ }
     ensures { λ r. ⌜ Meets (timeAt (now (text .entry)) kind at) row 1 (now (rows .entry)) r (now (rows .exit)) ⌝ }
 {
-    let open = match expect_token(text, at, 40) {
+    let open = match expect_token(text, at, b'(') {
         Step::Next(next) => next,
         Step::Refused(n) => {
             return Read::Refused(n);
@@ -98,7 +99,7 @@ pub(crate) fn parse_interval(
     requires { ⌜ Room (now text) (now rows) row 1 ⌝ }
     ensures { λ r. ⌜ Meets (intervalAt (now (text .entry)) kind at) row 1 (now (rows .entry)) r (now (rows .exit)) ⌝ }
 {
-    let open = match expect_token(text, at, 40) {
+    let open = match expect_token(text, at, b'(') {
         Step::Next(next) => next,
         Step::Refused(n) => {
             return Read::Refused(n);
@@ -120,7 +121,7 @@ pub(crate) fn parse_fixed_size_binary(
     requires { ⌜ Room (now text) (now rows) row 1 ⌝ }
     ensures { λ r. ⌜ Meets (fixedSizeBinaryAt (now (text .entry)) kind at) row 1 (now (rows .entry)) r (now (rows .exit)) ⌝ }
 {
-    let open = match expect_token(text, at, 40) {
+    let open = match expect_token(text, at, b'(') {
         Step::Next(next) => next,
         Step::Refused(n) => {
             return Read::Refused(n);
@@ -169,7 +170,7 @@ fn parse_scale(
                     if decimal.fits(kind) {
                         return Read::Tree(next, used);
                     }
-                    Read::Refused(12)
+                    Read::Refused(refusal::WRONG_DECIMAL)
                 }
             }
         }
@@ -181,7 +182,7 @@ pub(crate) fn parse_decimal(text: &[u8], rows: &mut [u32], kind: u32, at: usize,
     requires { ⌜ Room (now text) (now rows) row 1 ⌝ }
     ensures { λ r. ⌜ Meets (decimalAt (now (text .entry)) kind at) row 1 (now (rows .entry)) r (now (rows .exit)) ⌝ }
 {
-    let open = match expect_token(text, at, 40) {
+    let open = match expect_token(text, at, b'(') {
         Step::Next(next) => next,
         Step::Refused(n) => {
             return Read::Refused(n);
@@ -189,7 +190,7 @@ pub(crate) fn parse_decimal(text: &[u8], rows: &mut [u32], kind: u32, at: usize,
     };
     match parse_unsigned(text, open, 255) {
         Valued::Refused(n) => Read::Refused(n),
-        Valued::Value(precision, behind) => match expect_token(text, behind, 44) {
+        Valued::Value(precision, behind) => match expect_token(text, behind, b',') {
             Step::Refused(n) => Read::Refused(n),
             Step::Next(comma) => parse_scale(text, rows, kind, precision, comma, row),
         },

@@ -42,6 +42,7 @@ use datatype::rows::MAX_TEXT;
 use datatype::rows::NON_NULL;
 use datatype::rows::NULLABLE;
 use datatype::rows::rows_lent;
+use tokenizer::refusal;
 
 mod leaves;
 mod quick;
@@ -117,7 +118,7 @@ fn parse_field(
 {
     match parse_double_quoted_string(text, at) {
         Quoted::Refused(n) => Read::Refused(n),
-        Quoted::String(start, size, behind) => match expect_token(text, behind, 58) {
+        Quoted::String(start, size, behind) => match expect_token(text, behind, b':') {
             Step::Refused(n) => Read::Refused(n),
             Step::Next(colon) => {
                 let null = parse_opt_nullable(text, colon);
@@ -157,7 +158,7 @@ fn parse_list_field(
     let null = parse_opt_nullable(text, at);
     match parse_next_type(text, rows, null.next, row, left, level) {
         Read::Refused(n) => Read::Refused(n),
-        Read::Tree(next, used) => match next_if(text, next, 44) {
+        Read::Tree(next, used) => match next_if(text, next, b',') {
             Look::Other => {
                 put_field(
                     rows,
@@ -166,7 +167,7 @@ fn parse_list_field(
                     0,
                     Field::IN_NAME_LIST,
                     Field::LIST_FIELD_START,
-                    Field::LIST_FIELD_SIZE,
+                    Field::LIST_FIELD_LENGTH,
                 );
                 Read::Tree(next, used)
             }
@@ -204,7 +205,7 @@ fn parse_list(
     requires { ⌜ Room (now text) (now rows) row (left + 1) ⌝ }
     ensures { λ r. ⌜ Meets (listAt (now (text .entry)) (typeAt (now (text .entry)) level) kind at left) row (left + 1) (now (rows .entry)) r (now (rows .exit)) ⌝ }
 {
-    let open = match expect_token(text, at, 40) {
+    let open = match expect_token(text, at, b'(') {
         Step::Next(next) => next,
         Step::Refused(n) => {
             return Read::Refused(n);
@@ -224,7 +225,7 @@ fn child(text: &[u8], rows: &mut [u32], at: usize, row: usize, left: usize, leve
     if let Look::Next(x) = next_if_x(text, at) {
         return parse_list_field(text, rows, x, row, left, level);
     }
-    let comma = match expect_token(text, at, 44) {
+    let comma = match expect_token(text, at, b',') {
         Step::Next(next) => next,
         Step::Refused(n) => {
             return Read::Refused(n);
@@ -240,7 +241,7 @@ fn child(text: &[u8], rows: &mut [u32], at: usize, row: usize, left: usize, leve
                 0,
                 Field::IN_NAME_LIST,
                 Field::LIST_FIELD_START,
-                Field::LIST_FIELD_SIZE,
+                Field::LIST_FIELD_LENGTH,
             );
             Read::Tree(next, used)
         }
@@ -259,7 +260,7 @@ fn parse_fixed_size_list(
     requires { ⌜ Room (now text) (now rows) row (left + 1) ⌝ }
     ensures { λ r. ⌜ Meets (fixedSizeListAt (now (text .entry)) (typeAt (now (text .entry)) level) kind at left) row (left + 1) (now (rows .entry)) r (now (rows .exit)) ⌝ }
 {
-    let open = match expect_token(text, at, 40) {
+    let open = match expect_token(text, at, b'(') {
         Step::Next(next) => next,
         Step::Refused(n) => {
             return Read::Refused(n);
@@ -292,14 +293,14 @@ fn item(
     if kind == UNION {
         return arm(text, rows, at, row, left, level);
     }
-    if let Look::Next(end) = next_if(text, at, 41) {
+    if let Look::Next(end) = next_if(text, at, b')') {
         return Turn::End(end);
     }
     match parse_field(text, rows, 0, at, row, left, level) {
         Read::Refused(n) => Turn::Refused(n),
-        Read::Tree(next, used) => match next_if(text, next, 44) {
+        Read::Tree(next, used) => match next_if(text, next, b',') {
             Look::Next(comma) => Turn::More(comma, used),
-            Look::Other => match expect_token(text, next, 41) {
+            Look::Other => match expect_token(text, next, b')') {
                 Step::Next(end) => Turn::Last(end, used),
                 Step::Refused(n) => Turn::Refused(n),
             },
@@ -353,7 +354,7 @@ fn parse_struct(
     requires { ⌜ Room (now text) (now rows) row (left + 1) ⌝ }
     ensures { λ r. ⌜ Meets (structAt (now (text .entry)) (typeAt (now (text .entry)) level) kind at left) row (left + 1) (now (rows .entry)) r (now (rows .exit)) ⌝ }
 {
-    let open = match expect_token(text, at, 40) {
+    let open = match expect_token(text, at, b'(') {
         Step::Next(next) => next,
         Step::Refused(n) => {
             return Read::Refused(n);
@@ -373,10 +374,10 @@ fn arm(text: &[u8], rows: &mut [u32], at: usize, row: usize, left: usize, level:
     requires { ⌜ Room (now text) (now rows) row left ⌝ }
     ensures { λ r. ⌜ MeetsTurn (unionItem (now (text .entry)) (typeAt (now (text .entry)) level) at left) row left (now (rows .entry)) r (now (rows .exit)) ⌝ }
 {
-    if let Look::Next(end) = next_if(text, at, 41) {
+    if let Look::Next(end) = next_if(text, at, b')') {
         return Turn::End(end);
     }
-    let comma = match expect_token(text, at, 44) {
+    let comma = match expect_token(text, at, b',') {
         Step::Next(next) => next,
         Step::Refused(n) => {
             return Turn::Refused(n);
@@ -386,13 +387,13 @@ fn arm(text: &[u8], rows: &mut [u32], at: usize, row: usize, left: usize, level:
         Number::Refused(n) => Turn::Refused(n),
         Number::Value(negative, magnitude, behind) => {
             let id = wrapped(negative, magnitude);
-            match expect_token(text, behind, 58) {
+            match expect_token(text, behind, b':') {
                 Step::Refused(n) => Turn::Refused(n),
-                Step::Next(colon) => match expect_token(text, colon, 40) {
+                Step::Next(colon) => match expect_token(text, colon, b'(') {
                     Step::Refused(n) => Turn::Refused(n),
                     Step::Next(open) => match parse_field(text, rows, id, open, row, left, level) {
                         Read::Refused(n) => Turn::Refused(n),
-                        Read::Tree(next, used) => match expect_token(text, next, 41) {
+                        Read::Tree(next, used) => match expect_token(text, next, b')') {
                             Step::Refused(n) => Turn::Refused(n),
                             Step::Next(end) => Turn::More(end, used),
                         },
@@ -415,7 +416,7 @@ fn parse_union(
     requires { ⌜ Room (now text) (now rows) row (left + 1) ⌝ }
     ensures { λ r. ⌜ Meets (unionAt (now (text .entry)) (typeAt (now (text .entry)) level) kind at left) row (left + 1) (now (rows .entry)) r (now (rows .exit)) ⌝ }
 {
-    let open = match expect_token(text, at, 40) {
+    let open = match expect_token(text, at, b'(') {
         Step::Next(next) => next,
         Step::Refused(n) => {
             return Read::Refused(n);
@@ -428,7 +429,7 @@ fn parse_union(
                 Read::Refused(n) => Read::Refused(n),
                 Read::Tree(next, used) => {
                     if !row_table::try_new(rows, row + 1, row + 1 + used) {
-                        return Read::Refused(15);
+                        return Read::Refused(refusal::WRONG_UNION_ID);
                     }
                     put_row(rows, row, kind, (used + 1) as u32, mode, 0, 0, 0);
                     Read::Tree(next, used + 1)
@@ -450,7 +451,7 @@ fn parse_dictionary(
     requires { ⌜ Room (now text) (now rows) row (left + 1) ⌝ }
     ensures { λ r. ⌜ Meets (dictionaryAt (now (text .entry)) (typeAt (now (text .entry)) level) kind at left) row (left + 1) (now (rows .entry)) r (now (rows .exit)) ⌝ }
 {
-    let open = match expect_token(text, at, 40) {
+    let open = match expect_token(text, at, b'(') {
         Step::Next(next) => next,
         Step::Refused(n) => {
             return Read::Refused(n);
@@ -458,7 +459,7 @@ fn parse_dictionary(
     };
     match parse_next_type(text, rows, open, row + 1, left, level) {
         Read::Refused(n) => Read::Refused(n),
-        Read::Tree(behind, used) => match expect_token(text, behind, 44) {
+        Read::Tree(behind, used) => match expect_token(text, behind, b',') {
             Step::Refused(n) => Read::Refused(n),
             Step::Next(comma) => {
                 match parse_next_type(text, rows, comma, row + 1 + used, left - used, level) {
@@ -484,7 +485,7 @@ fn parse_map(
     requires { ⌜ Room (now text) (now rows) row (left + 1) ⌝ }
     ensures { λ r. ⌜ Meets (mapAt (now (text .entry)) (typeAt (now (text .entry)) level) kind at left) row (left + 1) (now (rows .entry)) r (now (rows .exit)) ⌝ }
 {
-    let open = match expect_token(text, at, 40) {
+    let open = match expect_token(text, at, b'(') {
         Step::Next(next) => next,
         Step::Refused(n) => {
             return Read::Refused(n);
@@ -497,7 +498,7 @@ fn parse_map(
             if number != 0 {
                 return Read::Refused(number);
             }
-            match expect_token(text, behind, 44) {
+            match expect_token(text, behind, b',') {
                 Step::Refused(n) => Read::Refused(n),
                 Step::Next(comma) => match parse_map_sorted(text, comma) {
                     Valued::Refused(n) => Read::Refused(n),
@@ -519,9 +520,9 @@ fn ree(text: &[u8], rows: &mut [u32], at: usize, row: usize, left: usize, level:
         Read::Refused(n) => Read::Refused(n),
         Read::Tree(behind, used) => {
             if role_of(rows, row, row + used) != 2 {
-                return Read::Refused(13);
+                return Read::Refused(refusal::MUST_BE_NON_NULL);
             }
-            match expect_token(text, behind, 44) {
+            match expect_token(text, behind, b',') {
                 Step::Refused(n) => Read::Refused(n),
                 Step::Next(comma) => {
                     match parse_field(text, rows, 0, comma, row + used, left - used, level) {
@@ -541,7 +542,7 @@ fn pair(text: &[u8], rows: &mut [u32], at: usize, row: usize, left: usize, level
 {
     let sure = parse_opt_nullable(text, at);
     if sure.role != 2 {
-        return Read::Refused(13);
+        return Read::Refused(refusal::MUST_BE_NON_NULL);
     }
     match parse_next_type(text, rows, sure.next, row, left, level) {
         Read::Refused(n) => Read::Refused(n),
@@ -553,9 +554,9 @@ fn pair(text: &[u8], rows: &mut [u32], at: usize, row: usize, left: usize, level
                 0,
                 Field::IN_NAME_LIST,
                 Field::REE_RUN_ENDS_START,
-                Field::REE_RUN_ENDS_SIZE,
+                Field::REE_RUN_ENDS_LENGTH,
             );
-            match expect_token(text, behind, 44) {
+            match expect_token(text, behind, b',') {
                 Step::Refused(n) => Read::Refused(n),
                 Step::Next(comma) => {
                     let null = parse_opt_nullable(text, comma);
@@ -569,7 +570,7 @@ fn pair(text: &[u8], rows: &mut [u32], at: usize, row: usize, left: usize, level
                                 0,
                                 Field::IN_NAME_LIST,
                                 Field::REE_VALUES_START,
-                                Field::REE_VALUES_SIZE,
+                                Field::REE_VALUES_LENGTH,
                             );
                             Read::Tree(next, used + more)
                         }
@@ -592,7 +593,7 @@ fn parse_run_end_encoded(
     requires { ⌜ Room (now text) (now rows) row (left + 1) ⌝ }
     ensures { λ r. ⌜ Meets (runEndEncodedAt (now (text .entry)) (typeAt (now (text .entry)) level) kind at left) row (left + 1) (now (rows .entry)) r (now (rows .exit)) ⌝ }
 {
-    let open = match expect_token(text, at, 40) {
+    let open = match expect_token(text, at, b'(') {
         Step::Next(next) => next,
         Step::Refused(n) => {
             return Read::Refused(n);
@@ -664,10 +665,10 @@ fn parse_next_type(
     ensures { λ r. ⌜ Meets (typeAt (now (text .entry)) level at left) row left (now (rows .entry)) r (now (rows .exit)) ⌝ }
 {
     if level == 0 {
-        return Read::Refused(3);
+        return Read::Refused(refusal::TOO_DEEP);
     }
     if left == 0 {
-        return Read::Refused(4);
+        return Read::Refused(refusal::TOO_MANY_ROWS);
     }
     match parse_type_word(text, at) {
         Valued::Refused(n) => Read::Refused(n),
@@ -685,11 +686,11 @@ pub fn parse_first_type(text: &[u8], rows: &mut [u32]) -> Read
 {
     if text.len() > MAX_TEXT {
         clear_words(rows);
-        return Read::Refused(1);
+        return Read::Refused(refusal::TEXT_TOO_LONG);
     }
     if !tokenizer::is_utf8(text) {
         clear_words(rows);
-        return Read::Refused(2);
+        return Read::Refused(refusal::NOT_UTF8);
     }
     let left = rows_lent(rows.len());
     match parse_next_type(text, rows, 0, 0, left, MAX_LEVELS) {

@@ -4,23 +4,26 @@ ghost use Prim.Native.Nat.{_+_, _*_, _-_, _≤_, _<_};
 ghost use mathlib.Core.List.{List, [], _∷_};
 ghost use lib.ListN.{length, getD};
 ghost use lib.Seq.{sets};
+ghost use Rattle.datatype.specs.Limits.{maxRows};
 ghost use Rattle.datatype.specs.Table.{rowWords, wordsOf};
 ghost use Rattle.row_table.specs.Run.{Nests, forestAt};
 ghost use Rattle.parser.specs.Parse.{bareRow};
 ghost use Rattle.parser.specs.Steps.{entriesOf, roleOf};
+use datatype::kind::STRUCT;
 use datatype::rows::HOME;
-use datatype::rows::ID;
 use datatype::rows::KIND;
-use datatype::rows::PARAM;
+use datatype::rows::NAME_LENGTH;
+use datatype::rows::NAME_START;
+use datatype::rows::NUMBER;
 use datatype::rows::PARENT;
 use datatype::rows::ROLE;
 use datatype::rows::ROW_WORDS;
+use datatype::rows::ROWS;
 use datatype::rows::SCALE;
-use datatype::rows::SIZE;
-use datatype::rows::START;
-use datatype::rows::SUBTREE;
-use datatype::rows::ZONE_SIZE;
+use datatype::rows::UNION_ID;
+use datatype::rows::ZONE_LENGTH;
 use datatype::rows::ZONE_START;
+use tokenizer::refusal;
 
 // Writes the row of a type that is no field.
 pub(crate) fn put_row(
@@ -38,16 +41,16 @@ pub(crate) fn put_row(
 {
     let i = ROW_WORDS * row;
     rows[i] = kind;
-    rows[i + SUBTREE] = size;
+    rows[i + ROWS] = size;
     rows[i + ROLE] = 0;
-    rows[i + ID] = 0;
-    rows[i + PARAM] = param;
+    rows[i + UNION_ID] = 0;
+    rows[i + NUMBER] = param;
     rows[i + SCALE] = scale;
     rows[i + HOME] = 0;
-    rows[i + START] = 0;
-    rows[i + SIZE] = 0;
+    rows[i + NAME_START] = 0;
+    rows[i + NAME_LENGTH] = 0;
     rows[i + ZONE_START] = zone_start;
-    rows[i + ZONE_SIZE] = zone_size;
+    rows[i + ZONE_LENGTH] = zone_size;
     rows[i + PARENT] = 0;
 }
 
@@ -66,10 +69,10 @@ pub(crate) fn put_field(
 {
     let i = ROW_WORDS * row;
     rows[i + ROLE] = role;
-    rows[i + ID] = id;
+    rows[i + UNION_ID] = id;
     rows[i + HOME] = home;
-    rows[i + START] = start;
-    rows[i + SIZE] = size;
+    rows[i + NAME_START] = start;
+    rows[i + NAME_LENGTH] = size;
 }
 
 // Word k of a row.
@@ -85,7 +88,7 @@ pub(crate) fn rows_of(rows: &[u32], row: usize) -> usize
     requires { ⌜ rowWords * row + rowWords ≤ length (now rows) ⌝ }
     ensures { λ r. ⌜ r ≡ getD (now (rows .entry)) (rowWords * row + 1) 0 ⌝ }
 {
-    word(rows, row, SUBTREE)
+    word(rows, row, ROWS)
 }
 
 // The role of a row whose subtree lies before the row `end`.
@@ -98,29 +101,29 @@ pub(crate) fn role_of(rows: &[u32], row: usize, end: usize) -> usize
 
 // The refusal of Map's entries, whose row stands before the row `end` with all of its subtree, or 0.
 pub(crate) fn entries_refusal(rows: &[u32], row: usize, end: usize) -> u32
-    requires { ⌜ Nests (now rows) row (end - row) × (row < end) × (end ≤ 1024) ⌝ }
+    requires { ⌜ Nests (now rows) row (end - row) × (row < end) × (end ≤ maxRows) ⌝ }
     ensures { λ r. ⌜ r ≡ entriesOf (forestAt (now (rows .entry)) row (end - row)) ⌝ }
 {
     if word(rows, row, ROLE) != 2 {
-        return 13;
+        return refusal::MUST_BE_NON_NULL;
     }
-    if word(rows, row, KIND) != 32 {
-        return 14;
+    if word(rows, row, KIND) != STRUCT as usize {
+        return refusal::WRONG_MAP_ENTRIES;
     }
-    let behind = row + word(rows, row, SUBTREE);
+    let behind = row + word(rows, row, ROWS);
     let key = row + 1;
     if key >= behind {
-        return 14;
+        return refusal::WRONG_MAP_ENTRIES;
     }
-    let value = key + word(rows, key, SUBTREE);
+    let value = key + word(rows, key, ROWS);
     if value >= behind {
-        return 14;
+        return refusal::WRONG_MAP_ENTRIES;
     }
-    if value + word(rows, value, SUBTREE) != behind {
-        return 14;
+    if value + word(rows, value, ROWS) != behind {
+        return refusal::WRONG_MAP_ENTRIES;
     }
     if word(rows, key, ROLE) != 2 {
-        return 13;
+        return refusal::MUST_BE_NON_NULL;
     }
     0
 }

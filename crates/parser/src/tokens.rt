@@ -22,13 +22,14 @@ use crate::quick::behind_word;
 use crate::quick::type_word;
 use crate::quick::unit_word;
 use tokenizer::TokenKind;
+use tokenizer::refusal;
 
 // The refusal at a token that is not of the sort needed.
-fn refusal(kind: TokenKind) -> u32
+fn refusal_of(kind: TokenKind) -> u32
     ensures { λ r. ⌜ r ≡ refusalOf kind ⌝ }
 {
     let TokenKind::Refused(n) = kind else {
-        return 9;
+        return refusal::UNEXPECTED_TOKEN;
     };
     n
 }
@@ -54,14 +55,14 @@ pub(crate) fn expect_token(text: &[u8], at: usize, mark: u8) -> Step
     }
     let from = tokenizer::skip_spaces(text, at);
     if from >= text.len() {
-        return Step::Refused(5);
+        return Step::Refused(refusal::TEXT_ENDS);
     }
     if text[from] == mark {
         return Step::Next(from + 1);
     }
     let token = tokenizer::next_token(text, from);
     let kind = token.kind;
-    Step::Refused(refusal(kind))
+    Step::Refused(refusal_of(kind))
 }
 
 // A mark is looked for, and taken if it is there.
@@ -76,7 +77,7 @@ pub(crate) fn next_if(text: &[u8], at: usize, mark: u8) -> Look
     if b == mark {
         return Look::Next(at + 1);
     }
-    if b != 32 {
+    if b != b' ' {
         return Look::Other;
     }
     let from = tokenizer::skip_spaces(text, at + 1);
@@ -123,7 +124,7 @@ fn nullability_behind(text: &[u8], at: usize) -> Nullability
     ensures next { λ r. ⌜ r .next ≡ afterRole (now (text .entry)) at ⌝ }
 {
     let from = tokenizer::skip_spaces(text, at);
-    if starts(text, from, 110) {
+    if starts(text, from, b'n') {
         return nullability_word(text, at, from);
     }
     Nullability { role: 1, next: at }
@@ -137,10 +138,10 @@ fn starts_type(text: &[u8], at: usize) -> bool
         return false;
     }
     let b = text[at];
-    if b < 65 {
+    if b < b'A' {
         return false;
     }
-    b <= 90
+    b <= b'Z'
 }
 
 // Nullability, which may be left out. Behind one space it is told at once.
@@ -148,7 +149,7 @@ pub(crate) fn parse_opt_nullable(text: &[u8], at: usize) -> Nullability
     ensures role { λ r. ⌜ r .role ≡ roleAt (now (text .entry)) at ⌝ }
     ensures next { λ r. ⌜ r .next ≡ afterRole (now (text .entry)) at ⌝ }
 {
-    if !starts(text, at, 32) {
+    if !starts(text, at, b' ') {
         let null = nullability_behind(text, at);
         return Nullability {
             role: null.role,
@@ -192,7 +193,7 @@ pub(crate) fn parse_double_quoted_string(text: &[u8], at: usize) -> Quoted
     let token = tokenizer::next_token(text, at);
     let kind = token.kind;
     let TokenKind::DoubleQuotedString = kind else {
-        return Quoted::Refused(refusal(kind));
+        return Quoted::Refused(refusal_of(kind));
     };
     Quoted::String(token.start, token.size, token.next)
 }
@@ -204,7 +205,7 @@ pub(crate) fn parse_single_quoted_string(text: &[u8], at: usize) -> Quoted
     let token = tokenizer::next_token(text, at);
     let kind = token.kind;
     let TokenKind::SingleQuotedString = kind else {
-        return Quoted::Refused(refusal(kind));
+        return Quoted::Refused(refusal_of(kind));
     };
     Quoted::String(token.start, token.size, token.next)
 }
@@ -221,7 +222,7 @@ pub(crate) fn parse_type_word(text: &[u8], at: usize) -> Valued
     let token = tokenizer::next_token(text, at);
     let kind = token.kind;
     let TokenKind::DataType(k) = kind else {
-        return Valued::Refused(refusal(kind));
+        return Valued::Refused(refusal_of(kind));
     };
     Valued::Value(k, token.next)
 }
@@ -237,7 +238,7 @@ pub(crate) fn parse_time_unit(text: &[u8], at: usize) -> Valued
     let token = tokenizer::next_token(text, at);
     let kind = token.kind;
     let TokenKind::TimeUnit(unit) = kind else {
-        return Valued::Refused(refusal(kind));
+        return Valued::Refused(refusal_of(kind));
     };
     Valued::Value(unit, token.next)
 }
@@ -248,7 +249,7 @@ pub(crate) fn parse_interval_unit(text: &[u8], at: usize) -> Valued
     let token = tokenizer::next_token(text, at);
     let kind = token.kind;
     let TokenKind::IntervalUnit(unit) = kind else {
-        return Valued::Refused(refusal(kind));
+        return Valued::Refused(refusal_of(kind));
     };
     Valued::Value(unit, token.next)
 }
@@ -259,7 +260,7 @@ pub(crate) fn parse_union_mode(text: &[u8], at: usize) -> Valued
     let token = tokenizer::next_token(text, at);
     let kind = token.kind;
     let TokenKind::UnionMode(mode) = kind else {
-        return Valued::Refused(refusal(kind));
+        return Valued::Refused(refusal_of(kind));
     };
     Valued::Value(mode, token.next)
 }
@@ -275,7 +276,7 @@ pub(crate) fn parse_map_sorted(text: &[u8], at: usize) -> Valued
     let token = tokenizer::next_token(text, at);
     let kind = token.kind;
     let TokenKind::MapSorted(sorted) = kind else {
-        return Valued::Refused(refusal(kind));
+        return Valued::Refused(refusal_of(kind));
     };
     Valued::Value(sorted, token.next)
 }
@@ -287,7 +288,7 @@ fn expect_field(text: &[u8], at: usize) -> Step
     let token = tokenizer::next_token(text, at);
     let kind = token.kind;
     let TokenKind::Field = kind else {
-        return Step::Refused(refusal(kind));
+        return Step::Refused(refusal_of(kind));
     };
     Step::Next(token.next)
 }
@@ -318,10 +319,10 @@ fn limit(negative: bool, least: u64, most: u64) -> u64
 fn is_digit(b: u8) -> bool
     ensures { λ r. ⌜ (r ≡ true → (48 ≤ b) × (b ≤ 57)) ⌝ }
 {
-    if b < 48 {
+    if b < b'0' {
         return false;
     }
-    b <= 57
+    b <= b'9'
 }
 
 // A number of one or two digits at a place, if a mark or a space stands behind it.
@@ -342,7 +343,7 @@ fn short_number(text: &[u8], at: usize) -> Word
     let second = text[at + 1];
     if tokenizer::is_separator(second) {
         return Word {
-            value: (first - 48) as u32,
+            value: (first - b'0') as u32,
             next: at + 1,
         };
     }
@@ -351,7 +352,7 @@ fn short_number(text: &[u8], at: usize) -> Word
     }
     if tokenizer::is_separator(text[at + 2]) {
         return Word {
-            value: 10 * (first - 48) as u32 + (second - 48) as u32,
+            value: 10 * (first - b'0') as u32 + (second - b'0') as u32,
             next: at + 2,
         };
     }
@@ -365,10 +366,10 @@ fn number_token(text: &[u8], at: usize, least: u64, most: u64) -> Number
     let token = tokenizer::next_token(text, at);
     let kind = token.kind;
     let TokenKind::Integer(negative, magnitude) = kind else {
-        return Number::Refused(refusal(kind));
+        return Number::Refused(refusal_of(kind));
     };
     if magnitude > limit(negative, least, most) {
-        return Number::Refused(10);
+        return Number::Refused(refusal::NUMBER_OUT_OF_RANGE);
     }
     Number::Value(negative, magnitude, token.next)
 }
@@ -422,7 +423,7 @@ pub(crate) fn parse_unit(text: &[u8], kind: u32, at: usize) -> Valued
             if unit_fits(kind, unit) {
                 return Valued::Value(unit, next);
             }
-            Valued::Refused(11)
+            Valued::Refused(refusal::WRONG_TIME_UNIT)
         }
     }
 }
@@ -431,7 +432,7 @@ pub(crate) fn parse_unit(text: &[u8], kind: u32, at: usize) -> Valued
 fn parse_some(text: &[u8], at: usize) -> Quoted
     ensures { λ r. ⌜ r ≡ zoneStep (someZone (now (text .entry)) at) ⌝ }
 {
-    let open = match expect_token(text, at, 40) {
+    let open = match expect_token(text, at, b'(') {
         Step::Next(next) => next,
         Step::Refused(n) => {
             return Quoted::Refused(n);
@@ -439,7 +440,7 @@ fn parse_some(text: &[u8], at: usize) -> Quoted
     };
     match parse_double_quoted_string(text, open) {
         Quoted::Refused(n) => Quoted::Refused(n),
-        Quoted::String(start, size, behind) => match expect_token(text, behind, 41) {
+        Quoted::String(start, size, behind) => match expect_token(text, behind, b')') {
             Step::Refused(n) => Quoted::Refused(n),
             Step::Next(next) => Quoted::String(start, size, next),
         },
@@ -456,7 +457,7 @@ fn parse_zone_string(text: &[u8], at: usize) -> Quoted
         TokenKind::None => Quoted::String(0, 0, token.next),
         TokenKind::Some => parse_some(text, token.next),
         TokenKind::DoubleQuotedString => Quoted::String(token.start, token.size, token.next),
-        _ => Quoted::Refused(refusal(kind)),
+        _ => Quoted::Refused(refusal_of(kind)),
     }
 }
 
@@ -464,10 +465,10 @@ fn parse_zone_string(text: &[u8], at: usize) -> Quoted
 pub(crate) fn parse_zone(text: &[u8], at: usize) -> Quoted
     ensures { λ r. ⌜ r ≡ zoneStep (zoneAt (now (text .entry)) at) ⌝ }
 {
-    if let Look::Next(next) = next_if(text, at, 41) {
+    if let Look::Next(next) = next_if(text, at, b')') {
         return Quoted::String(0, 0, next);
     }
-    let from = match expect_token(text, at, 44) {
+    let from = match expect_token(text, at, b',') {
         Step::Next(next) => next,
         Step::Refused(n) => {
             return Quoted::Refused(n);
@@ -475,7 +476,7 @@ pub(crate) fn parse_zone(text: &[u8], at: usize) -> Quoted
     };
     match parse_zone_string(text, from) {
         Quoted::Refused(n) => Quoted::Refused(n),
-        Quoted::String(start, size, behind) => match expect_token(text, behind, 41) {
+        Quoted::String(start, size, behind) => match expect_token(text, behind, b')') {
             Step::Refused(n) => Quoted::Refused(n),
             Step::Next(next) => Quoted::String(start, size, next),
         },
@@ -492,7 +493,7 @@ pub(crate) fn parse_list_name(text: &[u8], at: usize) -> Quoted
             return Quoted::Refused(n);
         }
     };
-    match expect_token(text, word, 58) {
+    match expect_token(text, word, b':') {
         Step::Refused(n) => Quoted::Refused(n),
         Step::Next(next) => parse_single_quoted_string(text, next),
     }

@@ -130,15 +130,15 @@ module _ (text list words : List ℕ) (place : ℕ) (name zone : List ℕ) (row 
   unfolding rowAlike
   other-name h = rw (sym name-is, sym eg, h) refl
 
-  zone-is : (zoneStart zoneSize : ℕ) → zoneStart ≡ getD words (row + 9) 0 → zoneSize ≡ getD words (row + 10) 0 → (zoned : List ℕ) → zoned ≡ zoneOf text zoneStart zoneSize
+  zone-is : (zoneStart zoneLength : ℕ) → zoneStart ≡ getD words (row + 9) 0 → zoneLength ≡ getD words (row + 10) 0 → (zoned : List ℕ) → zoned ≡ zoneOf text zoneStart zoneLength
       → zoned ≡ labelOf text list (rowOf (drop (rowWords * (place / rowWords)) words)) .zone
   unfolding labelOf rowOf
-  zone-is zoneStart zoneSize a b zoned c = c ∙ rw (a, b, sym er, getD-drop row words 9 0, getD-drop row words 10 0) refl
+  zone-is zoneStart zoneLength a b zoned c = c ∙ rw (a, b, sym er, getD-drop row words 9 0, getD-drop row words 10 0) refl
 
-  pub same-name : good ≡ true → (zoneStart zoneSize : ℕ) → zoneStart ≡ getD words (row + 9) 0 → zoneSize ≡ getD words (row + 10) 0 → (zoned : List ℕ) → zoned ≡ zoneOf text zoneStart zoneSize
+  pub same-name : good ≡ true → (zoneStart zoneLength : ℕ) → zoneStart ≡ getD words (row + 9) 0 → zoneLength ≡ getD words (row + 10) 0 → (zoned : List ℕ) → zoned ≡ zoneOf text zoneStart zoneLength
       → (r : Bool) → r ≡ same zoned zone → r ≡ rowAlike text list words place name zone
   unfolding rowAlike
-  same-name h zoneStart zoneSize a b zoned c r d = rw (sym name-is, sym eg, h) (d ∙ ap (λ (l : List ℕ). same l zone) (zone-is zoneStart zoneSize a b zoned c))
+  same-name h zoneStart zoneLength a b zoned c r d = rw (sym name-is, sym eg, h) (d ∙ ap (λ (l : List ℕ). same l zone) (zone-is zoneStart zoneLength a b zoned c))
 
 -- ---- one case, and all of them
 

@@ -26,13 +26,13 @@ pub(crate) fn number_at(sample: &[u8], at: usize) -> Number
     while i < sample.len() {
         let b = sample[i];
         i += 1;
-        if b < 48 {
+        if b < b'0' {
             return Number {
                 value: value,
                 next: i,
             };
         }
-        value = shifted(value, b - 48);
+        value = shifted(value, b - b'0');
     }
     Number {
         value: value,

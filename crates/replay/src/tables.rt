@@ -18,10 +18,10 @@ use crate::stored::part_at;
 use crate::stored::words_at;
 use datatype::Field;
 use datatype::rows::HOME;
+use datatype::rows::NAME_LENGTH;
+use datatype::rows::NAME_START;
 use datatype::rows::ROW_WORDS;
-use datatype::rows::SIZE;
-use datatype::rows::START;
-use datatype::rows::ZONE_SIZE;
+use datatype::rows::ZONE_LENGTH;
 use datatype::rows::ZONE_START;
 use row_table::Verdict;
 
@@ -159,14 +159,14 @@ fn row_alike<'a>(
     let row = row_of(place);
     let field = Field {
         home: word(words, row + HOME),
-        start: word(words, row + START),
-        size: word(words, row + SIZE),
+        start: word(words, row + NAME_START),
+        size: word(words, row + NAME_LENGTH),
     };
     if !datatype::equal_bytes(field.name(text, list), name) {
         return false;
     }
     let zone_start = word(words, row + ZONE_START);
-    let zone_size = word(words, row + ZONE_SIZE);
+    let zone_size = word(words, row + ZONE_LENGTH);
     datatype::equal_bytes(datatype::zone(text, zone_start, zone_size), zone)
 }
 

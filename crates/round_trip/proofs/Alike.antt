@@ -56,7 +56,7 @@ unfolding shapeAt
 decimals-read text type k at rows e = rw e
 
 -- what it prints
-pub decimal-text : (w : ℕ) (l : Label) → w < 4 → l .kind ≡ decimal32Kind + w → display (node l ∅ ∅) ≡ decimalText w (l .param) (l .scale)
+pub decimal-text : (w : ℕ) (l : Label) → w < 4 → l .kind ≡ decimal32Kind + w → display (node l ∅ ∅) ≡ decimalText w (l .number) (l .scale)
 unfolding display shown typeText shapeText
 decimal-text w l h e = rw (e, decimal-shape w h)
 

@@ -33,7 +33,7 @@ module _ (text : List ℕ) (type : ℕ → ℕ → Out Tree) where
     pub first : sortOf ((tokenAt text at) .kind) ≡ doubleQuoted
     pub tree : TreeRead text (fieldAt text type id at rows) l kids rest
 
-  field-step : (id : ℕ) (l : Label) (kids : Forest Label) (at rows : ℕ) (t rest : List ℕ) → id ≡ l .id → (q : Quoted text doubleQuoted at (l .name) (58 ∷ t))
+  field-step : (id : ℕ) (l : Label) (kids : Forest Label) (at rows : ℕ) (t rest : List ℕ) → id ≡ l .unionId → (q : Quoted text doubleQuoted at (l .name) (58 ∷ t))
       → RoleRead text l kids (q .token .next + 1) rest → TreeRead text (type (afterRole text (q .token .next + 1)) rows) (bareLabel l) kids rest
       → FieldRead id l kids at rows rest
   unfolding fieldAt nameOf
@@ -49,7 +49,7 @@ module _ (text : List ℕ) (type : ℕ → ℕ → Out Tree) where
         };
       }
 
-  pub field-read : (id : ℕ) (l : Label) (kids : Forest Label) (at p rows : ℕ) (rest : List ℕ) → ReadsTree text type l kids → FieldRow l → id ≡ l .id → Stop rest
+  pub field-read : (id : ℕ) (l : Label) (kids : Forest Label) (at p rows : ℕ) (rest : List ℕ) → ReadsTree text type l kids → FieldRow l → id ≡ l .unionId → Stop rest
       → suc (count kids) ≤ rows → Look text at p (fieldText (shownTree l kids) ++ rest) → FieldRead id l kids at rows rest
   unfolding fieldText
   field-read id l kids at p rows rest rd f i st enough k = named (double-read text at p (l .name) (58 ∷ 32 ∷ tail) (f .name) (f .plain) (rw e at k))
@@ -72,7 +72,7 @@ module _ (text : List ℕ) (type : ℕ → ℕ → Out Tree) where
 
   -- ---- [non-null ]type, as a field of a default name
 
-  default-step : (n : Name) (l : Label) (kids : Forest Label) (at rows : ℕ) (rest : List ℕ) → 0 ≡ l .id
+  default-step : (n : Name) (l : Label) (kids : Forest Label) (at rows : ℕ) (rest : List ℕ) → 0 ≡ l .unionId
       → nameOf text nameList (n .home) (n .start) (n .size) ≡ l .name → RoleRead text l kids at rest
       → TreeRead text (type (afterRole text at) rows) (bareLabel l) kids rest → TreeRead text (defaultField text type n at rows) l kids rest
   unfolding defaultField
@@ -90,7 +90,7 @@ module _ (text : List ℕ) (type : ℕ → ℕ → Out Tree) where
     pub role : roleAt text at ≡ l .role
     pub tree : TreeRead text (defaultField text type n at rows) l kids rest
 
-  pub default-read : (n : Name) (l : Label) (kids : Forest Label) (at p rows : ℕ) (rest : List ℕ) → ReadsTree text type l kids → FieldRow l → l .id ≡ 0 → Stop rest
+  pub default-read : (n : Name) (l : Label) (kids : Forest Label) (at p rows : ℕ) (rest : List ℕ) → ReadsTree text type l kids → FieldRow l → l .unionId ≡ 0 → Stop rest
       → nameOf text nameList (n .home) (n .start) (n .size) ≡ l .name → suc (count kids) ≤ rows
       → Look text at p (nullityText l ++ (typeText l (shown kids) ++ rest)) → DefaultRead n l kids at rows rest
   default-read n l kids at p rows rest rd f i st b enough k = typed (role-read text l kids at p rest (f .kind) st (f .role) k)
@@ -133,7 +133,7 @@ module _ (text : List ℕ) (type : ℕ → ℕ → Out Tree) where
   abbrev nameText : Bool → List ℕ → List ℕ
   nameText b name = if b then [] else (bytes ", field: '" ++ (name ++ bytes "'"))
 
-  module _ (l : Label) (kids : Forest Label) (at rows : ℕ) (i : l .id ≡ 0) where
+  module _ (l : Label) (kids : Forest Label) (at rows : ℕ) (i : l .unionId ≡ 0) where
     -- the name is left out: it is `item`
     name-out : (s : List ℕ) → T (same (l .name) (bytes "item")) → RoleRead text l kids at (41 ∷ s)
         → TreeRead text (type (afterRole text at) rows) (bareLabel l) kids (41 ∷ s) → TreeRead text (listField text type at rows) l kids (41 ∷ s)
@@ -167,7 +167,7 @@ module _ (text : List ℕ) (type : ℕ → ℕ → Out Tree) where
   name-stop true name s = tt
   name-stop false name s = tt
 
-  list-named : (l : Label) (kids : Forest Label) (at rows : ℕ) (s : List ℕ) → l .id ≡ 0 → FieldRow l → (b : Bool) → same (l .name) (bytes "item") ≡ b
+  list-named : (l : Label) (kids : Forest Label) (at rows : ℕ) (s : List ℕ) → l .unionId ≡ 0 → FieldRow l → (b : Bool) → same (l .name) (bytes "item") ≡ b
       → RoleRead text l kids at (nameText b (l .name) ++ (41 ∷ s)) → TreeRead text (type (afterRole text at) rows) (bareLabel l) kids (nameText b (l .name) ++ (41 ∷ s))
       → TreeRead text (listField text type at rows) l kids (41 ∷ s)
   list-named l kids at rows s i f true q r t = name-out l kids at rows i s (of-true _ q) r t
@@ -176,7 +176,7 @@ module _ (text : List ℕ) (type : ℕ → ℕ → Out Tree) where
       (name-read (l .name) (t .got .next + 1) (41 ∷ s) (f .name) (f .plain)
       (skip 1 (t .got .next) text _ (t .after) ∙ ap (λ (x : List ℕ). 32 ∷ (bytes "field: '" ++ x)) (append-assoc (l .name) (39 ∷ []) (41 ∷ s))))
 
-  pub list-field-read : (l : Label) (kids : Forest Label) (at p rows : ℕ) (s : List ℕ) → ReadsTree text type l kids → FieldRow l → l .id ≡ 0
+  pub list-field-read : (l : Label) (kids : Forest Label) (at p rows : ℕ) (s : List ℕ) → ReadsTree text type l kids → FieldRow l → l .unionId ≡ 0
       → suc (count kids) ≤ rows → Look text at p (listFieldText (shownTree l kids) ++ (41 ∷ s)) → TreeRead text (listField text type at rows) l kids (41 ∷ s)
   unfolding listFieldText listNameText
   list-field-read l kids at p rows s rd f i enough k =

@@ -120,7 +120,7 @@ module _ (text : List ℕ) where
     union-end at rows rest e = rw (rparen-stands text at rest rparen e, need-rparen text at rest e)
 
     -- id: ("name": type)
-    union-field : (l : Label) (kids : Forest Label) (at rows : ℕ) (t rest : List ℕ) (i : NumberRead text 128 127 at idOf (l .id) (58 ∷ 32 ∷ 40 ∷ t))
+    union-field : (l : Label) (kids : Forest Label) (at rows : ℕ) (t rest : List ℕ) (i : NumberRead text 128 127 at idOf (l .unionId) (58 ∷ 32 ∷ 40 ∷ t))
         → FieldRead text type (idOf (i .token .kind)) l kids (i .token .next + 1 + 1 + 1) rows (41 ∷ rest) → TreeRead text (P.unionField text type at rows) l kids rest
     unfolding P.unionField
     union-field l kids at rows t rest i f =
@@ -159,23 +159,23 @@ module _ (text : List ℕ) where
         (h (u .got .next) (u .after))
 
     abbrev memberText : Label → Forest Label → List ℕ → List ℕ
-    memberText l kids s = digits (l .id) ++ (58 ∷ 32 ∷ 40 ∷ (fieldText (shownTree l kids) ++ (41 ∷ s)))
+    memberText l kids s = digits (l .unionId) ++ (58 ∷ 32 ∷ 40 ∷ (fieldText (shownTree l kids) ++ (41 ∷ s)))
 
     member-text : (l : Label) (kids : Forest Label) (u s : List ℕ)
-        → (digits (l .id) ++ (bytes ": (" ++ (fieldText (shownTree l kids) ++ (bytes ")" ++ u)))) ++ s ≡ memberText l kids (u ++ s)
+        → (digits (l .unionId) ++ (bytes ": (" ++ (fieldText (shownTree l kids) ++ (bytes ")" ++ u)))) ++ s ≡ memberText l kids (u ++ s)
     member-text l kids u s =
-        append-assoc (digits (l .id)) _ s
-        ∙ ap (λ (x : List ℕ). digits (l .id) ++ (58 ∷ 32 ∷ 40 ∷ x)) (append-assoc (fieldText (shownTree l kids)) (41 ∷ u) s)
+        append-assoc (digits (l .unionId)) _ s
+        ∙ ap (λ (x : List ℕ). digits (l .unionId) ++ (58 ∷ 32 ∷ 40 ∷ x)) (append-assoc (fieldText (shownTree l kids)) (41 ∷ u) s)
 
-    member-read : (l : Label) (kids : Forest Label) (at p rows : ℕ) (s : List ℕ) → ReadsTree text type l kids → FieldRow l → l .id < 128
+    member-read : (l : Label) (kids : Forest Label) (at p rows : ℕ) (s : List ℕ) → ReadsTree text type l kids → FieldRow l → l .unionId < 128
         → suc (count kids) ≤ rows → Look text at p (memberText l kids s) → TreeRead text (P.unionField text type at rows) l kids s
     member-read l kids at p rows s rd f small enough k =
-        numbered (number-read text 128 127 idOf (l .id) at p (l .id) (58 ∷ 32 ∷ 40 ∷ t) (omega arith) (omega arith) refl (unfold isSeparator in tt) k)
+        numbered (number-read text 128 127 idOf (l .unionId) at p (l .unionId) (58 ∷ 32 ∷ 40 ∷ t) (omega arith) (omega arith) refl (unfold isSeparator in tt) k)
       where
         t : List ℕ
         t = fieldText (shownTree l kids) ++ (41 ∷ s)
 
-        numbered : NumberRead text 128 127 at idOf (l .id) (58 ∷ 32 ∷ 40 ∷ t) → TreeRead text (P.unionField text type at rows) l kids s
+        numbered : NumberRead text 128 127 at idOf (l .unionId) (58 ∷ 32 ∷ 40 ∷ t) → TreeRead text (P.unionField text type at rows) l kids s
         numbered i =
             let a : ℕ = i .token .next + 1 + 1 + 1 in
             union-field l kids at rows t s i

@@ -54,7 +54,7 @@ module _ (text : List ℕ) where
 
   -- a row without children and without a zone, with numbers that are what the label says
   module _ (l : Label) (kids : Forest Label) (a : T (arityFits noChild (length (roots kids)))) (z : l .zone ≡ []) where
-    plain-row : (o : Out Tree) (param scale next : ℕ) (rest : List ℕ) → param ≡ l .param → scale ≡ l .scale
+    plain-row : (o : Out Tree) (param scale next : ℕ) (rest : List ℕ) → param ≡ l .number → scale ≡ l .scale
         → o ≡ done (record { row = bareRow (l .kind) param scale 0 0; kids = ∅; next = next }) → drop next text ≡ rest → TreeRead text o (bareLabel l) kids rest
     plain-row o param scale next rest p s e d = bare-tree text l kids o param scale ∅ next rest z p s (below-none kids a) e d
 
@@ -65,17 +65,17 @@ module _ (text : List ℕ) where
         → TreeRead text (done (record { row = bareRow (l .kind) 0 0 0 0; kids = ∅; next = at })) (bareLabel l) kids rest
     unfolding rulesOf
     leaf-read h e =
-        let p = h .param in
+        let p = h .number in
         let s = h .scale in
         plain-row l kids (h .arity) (no-zone l (h .zone)) _ 0 0 at rest (omega arith) (omega arith) refl e
 
     -- ---- Time32, Time64, Duration, and Interval
 
-    unit-fits : T (unitFits (l .kind) (l .param)) → (from : ℕ) (s : List ℕ) (u : Found text timeUnit (l .param) from s) → unitAt text (l .kind) from ≡ done (u .token)
+    unit-fits : T (unitFits (l .kind) (l .number)) → (from : ℕ) (s : List ℕ) (u : Found text timeUnit (l .number) from s) → unitAt text (l .kind) from ≡ done (u .token)
     unfolding unitAt
-    unit-fits h from s u = rw (need-found text timeUnit (l .param) from s u, u .value, is-true (unitFits (l .kind) (l .param)) h)
+    unit-fits h from s u = rw (need-found text timeUnit (l .number) from s u, u .value, is-true (unitFits (l .kind) (l .number)) h)
 
-    time-step : (t : List ℕ) → ShapeRow time l kids → drop at text ≡ 40 ∷ t → Found text timeUnit (l .param) (at + 1) (41 ∷ rest)
+    time-step : (t : List ℕ) → ShapeRow time l kids → drop at text ≡ 40 ∷ t → Found text timeUnit (l .number) (at + 1) (41 ∷ rest)
         → TreeRead text (timeAt text (l .kind) at) (bareLabel l) kids rest
     unfolding rulesOf shapeFits timeAt
     time-step t h e u =
@@ -88,16 +88,16 @@ module _ (text : List ℕ) where
     unfolding rulesOf shapeText
     time-read h e =
         time-step _ h e
-        (found-word text timeUnit (l .param) (at + 1) (at + 1) (unitText (l .param)) (41 ∷ rest) (unit-word (l .param) (h .param)) (mark-stop rest)
-        (look-here text (at + 1) _ (skip 1 at text _ e ∙ append-assoc (unitText (l .param)) (41 ∷ []) rest)))
+        (found-word text timeUnit (l .number) (at + 1) (at + 1) (unitText (l .number)) (41 ∷ rest) (unit-word (l .number) (h .number)) (mark-stop rest)
+        (look-here text (at + 1) _ (skip 1 at text _ e ∙ append-assoc (unitText (l .number)) (41 ∷ []) rest)))
 
-    interval-step : (t : List ℕ) → ShapeRow interval l kids → drop at text ≡ 40 ∷ t → Found text intervalUnit (l .param) (at + 1) (41 ∷ rest)
+    interval-step : (t : List ℕ) → ShapeRow interval l kids → drop at text ≡ 40 ∷ t → Found text intervalUnit (l .number) (at + 1) (41 ∷ rest)
         → TreeRead text (intervalAt text (l .kind) at) (bareLabel l) kids rest
     unfolding rulesOf intervalAt
     interval-step t h e u =
         let s = h .scale in
         plain-row l kids (h .arity) (no-zone l (h .zone)) _ (valueOf (u .token .kind)) 0 (u .token .next + 1) rest (u .value) (omega arith)
-        (rw (need-lparen text at t e, need-found text intervalUnit (l .param) (at + 1) (41 ∷ rest) u, closes text _ ∅ (u .token .next) rest (u .after)))
+        (rw (need-lparen text at t e, need-found text intervalUnit (l .number) (at + 1) (41 ∷ rest) u, closes text _ ∅ (u .token .next) rest (u .after)))
         (skip 1 (u .token .next) text (41 ∷ rest) (u .after))
 
     pub interval-read : ShapeRow interval l kids → drop at text ≡ shapeText interval l (shown kids) ++ rest
@@ -105,12 +105,12 @@ module _ (text : List ℕ) where
     unfolding rulesOf shapeText
     interval-read h e =
         interval-step _ h e
-        (found-word text intervalUnit (l .param) (at + 1) (at + 1) (intervalText (l .param)) (41 ∷ rest) (interval-word (l .param) (h .param)) (mark-stop rest)
-        (look-here text (at + 1) _ (skip 1 at text _ e ∙ append-assoc (intervalText (l .param)) (41 ∷ []) rest)))
+        (found-word text intervalUnit (l .number) (at + 1) (at + 1) (intervalText (l .number)) (41 ∷ rest) (interval-word (l .number) (h .number)) (mark-stop rest)
+        (look-here text (at + 1) _ (skip 1 at text _ e ∙ append-assoc (intervalText (l .number)) (41 ∷ []) rest)))
 
     -- ---- FixedSizeBinary
 
-    fixed-step : (t : List ℕ) → ShapeRow fixed l kids → drop at text ≡ 40 ∷ t → NumberRead text 0 (2 ^ 31 - 1) (at + 1) valueOf (l .param) (41 ∷ rest)
+    fixed-step : (t : List ℕ) → ShapeRow fixed l kids → drop at text ≡ 40 ∷ t → NumberRead text 0 (2 ^ 31 - 1) (at + 1) valueOf (l .number) (41 ∷ rest)
         → TreeRead text (fixedSizeBinaryAt text (l .kind) at) (bareLabel l) kids rest
     unfolding rulesOf fixedSizeBinaryAt
     fixed-step t h e n =
@@ -123,10 +123,10 @@ module _ (text : List ℕ) where
         → TreeRead text (fixedSizeBinaryAt text (l .kind) at) (bareLabel l) kids rest
     unfolding rulesOf shapeText
     fixed-read h e =
-        let p : l .param < 2 ^ 31 = h .param in
+        let p : l .number < 2 ^ 31 = h .number in
         fixed-step _ h e
-        (number-read text 0 (2 ^ 31 - 1) valueOf (l .param) (at + 1) (at + 1) (l .param) (41 ∷ rest) (omega arith) (omega arith) refl (mark-stop rest)
-        (look-here text (at + 1) _ (skip 1 at text _ e ∙ append-assoc (digits (l .param)) (41 ∷ []) rest)))
+        (number-read text 0 (2 ^ 31 - 1) valueOf (l .number) (at + 1) (at + 1) (l .number) (41 ∷ rest) (omega arith) (omega arith) refl (mark-stop rest)
+        (look-here text (at + 1) _ (skip 1 at text _ e ∙ append-assoc (digits (l .number)) (41 ∷ []) rest)))
 
   -- ---- decimals of any kind: precision and scale are judged behind the mark
 
@@ -186,12 +186,12 @@ module _ (text : List ℕ) where
   pub decimal-read : (l : Label) (kids : Forest Label) (at : ℕ) (rest : List ℕ) → ShapeRow decimal l kids → drop at text ≡ shapeText decimal l (shown kids) ++ rest
       → TreeRead text (decimalAt text (l .kind) at) (bareLabel l) kids rest
   unfolding rulesOf shapeFits shapeText
-  decimal-read l kids at rest h e = fits (decimal-any (l .kind) (l .param) (l .scale) at rest (h .param) (h .scale) e)
+  decimal-read l kids at rest h e = fits (decimal-any (l .kind) (l .number) (l .scale) at rest (h .number) (h .scale) e)
     where
-      fits : DecimalRead (l .kind) (l .param) (l .scale) at rest → TreeRead text (decimalAt text (l .kind) at) (bareLabel l) kids rest
+      fits : DecimalRead (l .kind) (l .number) (l .scale) at rest → TreeRead text (decimalAt text (l .kind) at) (bareLabel l) kids rest
       fits d =
-          plain-row l kids (h .arity) (no-zone l (h .zone)) _ (l .param) (l .scale) (d .next) rest refl refl
-          (d .reads ∙ rw (is-true (decimalFits (l .kind) (l .param) (l .scale)) (h .shape))) (d .after)
+          plain-row l kids (h .arity) (no-zone l (h .zone)) _ (l .number) (l .scale) (d .next) rest refl refl
+          (d .reads ∙ rw (is-true (decimalFits (l .kind) (l .number) (l .scale)) (h .shape))) (d .after)
 
   -- ---- Timestamp(unit[, "zone"])
 
@@ -246,14 +246,14 @@ module _ (text : List ℕ) where
   zone-stop (c ∷ z) rest = tt
 
   module _ (l : Label) (kids : Forest Label) (at : ℕ) (rest : List ℕ) where
-    timestamp-step : (t t₂ : List ℕ) → ShapeRow timestamp l kids → drop at text ≡ 40 ∷ t → (u : Found text timeUnit (l .param) (at + 1) t₂)
+    timestamp-step : (t t₂ : List ℕ) → ShapeRow timestamp l kids → drop at text ≡ 40 ∷ t → (u : Found text timeUnit (l .number) (at + 1) t₂)
         → ZoneRead (l .zone) (u .token .next) rest → TreeRead text (timestampAt text (l .kind) at) (bareLabel l) kids rest
     unfolding rulesOf timestampAt
     timestamp-step t t₂ h e u z =
         let s = h .scale in
         record {
           got = record { row = bareRow (l .kind) (valueOf (u .token .kind)) 0 (z .got .start) (z .got .size); kids = ∅; next = z .got .next };
-          reads = rw (need-lparen text at t e, need-found text timeUnit (l .param) (at + 1) t₂ u, z .reads);
+          reads = rw (need-lparen text at t e, need-found text timeUnit (l .number) (at + 1) t₂ u, z .reads);
           after = z .after;
           row = bare-row text l (valueOf (u .token .kind)) 0 (z .got .start) (z .got .size) (u .value) (omega arith) (z .bytes);
           below = below-none kids (h .arity);
@@ -263,12 +263,12 @@ module _ (text : List ℕ) where
         → TreeRead text (timestampAt text (l .kind) at) (bareLabel l) kids rest
     unfolding rulesOf shapeText
     timestamp-read h e =
-        zoned (found-word text timeUnit (l .param) (at + 1) (at + 1) (unitText (l .param)) tail (unit-word (l .param) (h .param)) (zone-stop (l .zone) rest)
+        zoned (found-word text timeUnit (l .number) (at + 1) (at + 1) (unitText (l .number)) tail (unit-word (l .number) (h .number)) (zone-stop (l .zone) rest)
         (look-here text (at + 1) _
-        (skip 1 at text _ e ∙ append-assoc (unitText (l .param)) _ rest ∙ ap (λ (r : List ℕ). unitText (l .param) ++ r) (append-assoc (zoneText (l .zone)) (41 ∷ []) rest))))
+        (skip 1 at text _ e ∙ append-assoc (unitText (l .number)) _ rest ∙ ap (λ (r : List ℕ). unitText (l .number) ++ r) (append-assoc (zoneText (l .zone)) (41 ∷ []) rest))))
       where
         tail : List ℕ
         tail = zoneText (l .zone) ++ (41 ∷ rest)
 
-        zoned : Found text timeUnit (l .param) (at + 1) tail → TreeRead text (timestampAt text (l .kind) at) (bareLabel l) kids rest
+        zoned : Found text timeUnit (l .number) (at + 1) tail → TreeRead text (timestampAt text (l .kind) at) (bareLabel l) kids rest
         zoned u = timestamp-step _ tail h e u (zone-read (l .zone) (u .token .next) rest (h .zone) (h .plain) (u .after))

@@ -25,8 +25,8 @@ use Rattle.round_trip.proofs.Fields.{shownTree, FieldRead, field-read, 
 pub record PairRows (m n : Label) : Type 0 where
   pub first : FieldRow m
   pub second : FieldRow n
-  pub firstId : m .id ≡ 0
-  pub secondId : n .id ≡ 0
+  pub firstId : m .unionId ≡ 0
+  pub secondId : n .unionId ≡ 0
   pub nonNull : m .role ≡ 2
 
 module _ (text : List ℕ) (type : ℕ → ℕ → Out Tree) (m n : Label) (kids ks : Forest Label) (at rows : ℕ) where

@@ -56,7 +56,7 @@ module _ (text : List ℕ) (type : ℕ → ℕ → Out Tree) (l : Label) (at row
       → TreeRead text (listField text type (at + 1) rows) m kids (41 ∷ rest) → TreeRead text (listAt text type (l .kind) at rows) (bareLabel l) (node m kids ∅) rest
   unfolding rulesOf listAt
   list-step m kids t h e f =
-      let p = h .param in
+      let p = h .number in
       let s = h .scale in
       bare-tree text l (node m kids ∅) _ 0 0 (single (f .got)) (f .got .next + 1) rest (no-zone l (h .zone)) (omega arith) (omega arith)
       (one-below text _ m kids (41 ∷ rest) f)
@@ -76,7 +76,7 @@ module _ (text : List ℕ) (type : ℕ → ℕ → Out Tree) (l : Label) (at row
   -- ---- FixedSizeList(n x ..)
 
   fixed-list-step : (m : Label) (kids : Forest Label) (t t₂ : List ℕ) → ShapeRow fixedList l (node m kids ∅) → drop at text ≡ 40 ∷ t
-      → (n : NumberRead text 0 (2 ^ 31 - 1) (at + 1) valueOf (l .param) t₂) (x : Found text xWord 0 (n .token .next) (32 ∷ (listFieldText (shownTree m kids) ++ (41 ∷ rest))))
+      → (n : NumberRead text 0 (2 ^ 31 - 1) (at + 1) valueOf (l .number) t₂) (x : Found text xWord 0 (n .token .next) (32 ∷ (listFieldText (shownTree m kids) ++ (41 ∷ rest))))
       → TreeRead text (listField text type (x .token .next) rows) m kids (41 ∷ rest)
       → TreeRead text (fixedSizeListAt text type (l .kind) at rows) (bareLabel l) (node m kids ∅) rest
   unfolding rulesOf fixedSizeListAt fixedListField
@@ -101,22 +101,22 @@ module _ (text : List ℕ) (type : ℕ → ℕ → Out Tree) (l : Label) (at row
   fixed-list-read ∅ rd h enough e = absurd (h .arity)
   fixed-list-read (node m kids (node n ks os)) rd h enough e = absurd (h .arity)
   fixed-list-read (node m kids ∅) rd h enough e =
-      let p : l .param < 2 ^ 31 = h .param in
-      sized (number-read text 0 (2 ^ 31 - 1) valueOf (l .param) (at + 1) (at + 1) (l .param) (32 ∷ 120 ∷ 32 ∷ t) (omega arith) (omega arith) refl tt
-      (look-here text (at + 1) _ (skip 1 at text _ e ∙ append-assoc (digits (l .param)) _ rest
-      ∙ ap (λ (r : List ℕ). digits (l .param) ++ (32 ∷ 120 ∷ 32 ∷ r)) (append-assoc (listFieldText (shownTree m kids)) (41 ∷ []) rest))))
+      let p : l .number < 2 ^ 31 = h .number in
+      sized (number-read text 0 (2 ^ 31 - 1) valueOf (l .number) (at + 1) (at + 1) (l .number) (32 ∷ 120 ∷ 32 ∷ t) (omega arith) (omega arith) refl tt
+      (look-here text (at + 1) _ (skip 1 at text _ e ∙ append-assoc (digits (l .number)) _ rest
+      ∙ ap (λ (r : List ℕ). digits (l .number) ++ (32 ∷ 120 ∷ 32 ∷ r)) (append-assoc (listFieldText (shownTree m kids)) (41 ∷ []) rest))))
     where
       t : List ℕ
       t = listFieldText (shownTree m kids) ++ (41 ∷ rest)
 
-      crossed : (n : NumberRead text 0 (2 ^ 31 - 1) (at + 1) valueOf (l .param) (32 ∷ 120 ∷ 32 ∷ t)) → Found text xWord 0 (n .token .next) (32 ∷ t)
+      crossed : (n : NumberRead text 0 (2 ^ 31 - 1) (at + 1) valueOf (l .number) (32 ∷ 120 ∷ 32 ∷ t)) → Found text xWord 0 (n .token .next) (32 ∷ t)
           → TreeRead text (fixedSizeListAt text type (l .kind) at rows) (bareLabel l) (node m kids ∅) rest
       crossed n x =
           fixed-list-step m kids _ (32 ∷ 120 ∷ 32 ∷ t) h e n x
           (list-field-read text type m kids (x .token .next) (x .token .next + 1) rows rest (rd .0) (field-row m kids (h .below .0)) (field-id m kids (h .below .0)) (omega arith)
           (look-space text (x .token .next) t (x .after)))
 
-      sized : NumberRead text 0 (2 ^ 31 - 1) (at + 1) valueOf (l .param) (32 ∷ 120 ∷ 32 ∷ t)
+      sized : NumberRead text 0 (2 ^ 31 - 1) (at + 1) valueOf (l .number) (32 ∷ 120 ∷ 32 ∷ t)
           → TreeRead text (fixedSizeListAt text type (l .kind) at rows) (bareLabel l) (node m kids ∅) rest
       sized n =
           crossed n (found-word text xWord 0 (n .token .next) (n .token .next + 1) (bytes "x") (32 ∷ t) (word-is xWord 0 (bytes "x") tt) tt
@@ -128,7 +128,7 @@ module _ (text : List ℕ) (type : ℕ → ℕ → Out Tree) (l : Label) (at row
       → FieldsRead text (itemsBy (structItem text type) (suc rows) (at + 1) rows) kids rest → TreeRead text (structAt text type (l .kind) at rows) (bareLabel l) kids rest
   unfolding rulesOf structAt
   struct-step kids t h e f =
-      let p = h .param in
+      let p = h .number in
       let s = h .scale in
       bare-tree text l kids _ 0 0 (f .got .trees) (f .got .next) rest (no-zone l (h .zone)) (omega arith) (omega arith) (f .trees)
       (rw (need-lparen text at t e, f .reads)) (f .after)
@@ -143,7 +143,7 @@ module _ (text : List ℕ) (type : ℕ → ℕ → Out Tree) (l : Label) (at row
 
   -- ---- Union
 
-  union-step : (kids : Forest Label) (t t₂ : List ℕ) → ShapeRow union l kids → drop at text ≡ 40 ∷ t → (m : Found text unionMode (l .param) (at + 1) t₂)
+  union-step : (kids : Forest Label) (t t₂ : List ℕ) → ShapeRow union l kids → drop at text ≡ 40 ∷ t → (m : Found text unionMode (l .number) (at + 1) t₂)
       → FieldsRead text (itemsBy (unionItem text type) (suc rows) (m .token .next) rows) kids rest → TreeRead text (unionAt text type (l .kind) at rows) (bareLabel l) kids rest
   unfolding rulesOf shapeFits unionAt
   union-step kids t t₂ h e m f =
@@ -151,7 +151,7 @@ module _ (text : List ℕ) (type : ℕ → ℕ → Out Tree) (l : Label) (at row
       bare-tree text l kids _ (valueOf (m .token .kind)) 0 (f .got .trees) (f .got .next) rest (no-zone l (h .zone)) (m .value) (omega arith) (f .trees)
       (rw (
         need-lparen text at t e,
-        need-found text unionMode (l .param) (at + 1) t₂ m,
+        need-found text unionMode (l .number) (at + 1) t₂ m,
         f .reads,
         ids-read text (f .got .trees) kids (f .trees),
         is-true (idsFit (idsOf (roots kids))) (h .shape),
@@ -166,13 +166,13 @@ module _ (text : List ℕ) (type : ℕ → ℕ → Out Tree) (l : Label) (at row
       → drop at text ≡ shapeText union l (shown kids) ++ rest → TreeRead text (unionAt text type (l .kind) at rows) (bareLabel l) kids rest
   unfolding rulesOf shapeText
   union-read kids rd h enough e =
-      moded (found-word text unionMode (l .param) (at + 1) (at + 1) (modeText (l .param)) t (mode-word (l .param) (h .param)) (union-stop kids)
-      (look-here text (at + 1) _ (skip 1 at text _ e ∙ append-assoc (modeText (l .param)) _ rest ∙ ap (λ (r : List ℕ). modeText (l .param) ++ r) (append-assoc (unionText (shown kids)) (41 ∷ []) rest))))
+      moded (found-word text unionMode (l .number) (at + 1) (at + 1) (modeText (l .number)) t (mode-word (l .number) (h .number)) (union-stop kids)
+      (look-here text (at + 1) _ (skip 1 at text _ e ∙ append-assoc (modeText (l .number)) _ rest ∙ ap (λ (r : List ℕ). modeText (l .number) ++ r) (append-assoc (unionText (shown kids)) (41 ∷ []) rest))))
     where
       t : List ℕ
       t = unionText (shown kids) ++ (41 ∷ rest)
 
-      moded : Found text unionMode (l .param) (at + 1) t → TreeRead text (unionAt text type (l .kind) at rows) (bareLabel l) kids rest
+      moded : Found text unionMode (l .number) (at + 1) t → TreeRead text (unionAt text type (l .kind) at rows) (bareLabel l) kids rest
       moded m =
           union-step kids _ t h e m
           (union-fields text type kids rd (h .below) (suc rows) (m .token .next) rows rest (omega (arith, roots-count kids)) enough (m .after))
@@ -184,7 +184,7 @@ module _ (text : List ℕ) (type : ℕ → ℕ → Out Tree) (l : Label) (at row
       → TreeRead text (dictionaryAt text type (l .kind) at rows) (bareLabel l) (node m kids (node n ks ∅)) rest
   unfolding rulesOf dictionaryAt
   dictionary-step m n kids ks t t₂ h e g v =
-      let p = h .param in
+      let p = h .number in
       let s = h .scale in
       bare-tree text l (node m kids (node n ks ∅)) _ 0 0 (pair (g .got) (v .got)) (v .got .next + 1) rest (no-zone l (h .zone)) (omega arith) (omega arith)
       (two-below text _ _ m n kids ks (44 ∷ t₂) (41 ∷ rest) g v)
@@ -238,7 +238,7 @@ module _ (text : List ℕ) (type : ℕ → ℕ → Out Tree) (l : Label) (at row
       record { got = g; reads = rw (f .tree .reads, q); after = f .tree .after; row = f .tree .row; below = f .tree .below }
 
   map-step : (m : Label) (kids : Forest Label) (t t₂ : List ℕ) → ShapeRow mapping l (node m kids ∅) → drop at text ≡ 40 ∷ t
-      → (f : TreeRead text (entriesAt text type (at + 1) rows) m kids (44 ∷ t₂)) → Found text mapSorted (l .param) (f .got .next + 1) (41 ∷ rest)
+      → (f : TreeRead text (entriesAt text type (at + 1) rows) m kids (44 ∷ t₂)) → Found text mapSorted (l .number) (f .got .next + 1) (41 ∷ rest)
       → TreeRead text (mapAt text type (l .kind) at rows) (bareLabel l) (node m kids ∅) rest
   unfolding rulesOf mapAt
   map-step m kids t t₂ h e f w =
@@ -249,7 +249,7 @@ module _ (text : List ℕ) (type : ℕ → ℕ → Out Tree) (l : Label) (at row
         need-lparen text at t e,
         f .reads,
         need-comma text (f .got .next) t₂ (f .after),
-        need-found text mapSorted (l .param) (f .got .next + 1) (41 ∷ rest) w,
+        need-found text mapSorted (l .number) (f .got .next + 1) (41 ∷ rest) w,
         closes text _ (single (f .got)) (w .token .next) rest (w .after),
       ))
       (skip 1 (w .token .next) text (41 ∷ rest) (w .after))
@@ -263,16 +263,16 @@ module _ (text : List ℕ) (type : ℕ → ℕ → Out Tree) (l : Label) (at row
       entered (entries-read m kids (at + 1) (44 ∷ 32 ∷ t) (eqb→eq (entriesRefusal (m .role) (m .kind) (rolesOf (roots kids))) 0 (h .shape))
       (field-read text type 0 m kids (at + 1) (at + 1) rows (44 ∷ 32 ∷ t) (rd .0) (field-row m kids (h .below .0)) (sym (field-id m kids (h .below .0))) (comma-stop (32 ∷ t)) (omega arith)
       (look-here text (at + 1) _ (skip 1 at text _ e ∙ append-assoc (fieldText (shownTree m kids)) _ rest
-      ∙ ap (λ (r : List ℕ). fieldText (shownTree m kids) ++ (44 ∷ 32 ∷ r)) (append-assoc (sortedText (l .param)) (41 ∷ []) rest)))))
+      ∙ ap (λ (r : List ℕ). fieldText (shownTree m kids) ++ (44 ∷ 32 ∷ r)) (append-assoc (sortedText (l .number)) (41 ∷ []) rest)))))
     where
       t : List ℕ
-      t = sortedText (l .param) ++ (41 ∷ rest)
+      t = sortedText (l .number) ++ (41 ∷ rest)
 
       entered : TreeRead text (entriesAt text type (at + 1) rows) m kids (44 ∷ 32 ∷ t) → TreeRead text (mapAt text type (l .kind) at rows) (bareLabel l) (node m kids ∅) rest
       entered f =
           let c = f .got .next in
           map-step m kids _ (32 ∷ t) h e f
-          (found-word text mapSorted (l .param) (c + 1) (c + 1 + 1) (sortedText (l .param)) (41 ∷ rest) (sorted-word (l .param) (h .param)) (mark-stop rest)
+          (found-word text mapSorted (l .number) (c + 1) (c + 1 + 1) (sortedText (l .number)) (41 ∷ rest) (sorted-word (l .number) (h .number)) (mark-stop rest)
           (look-space text (c + 1) t (skip 1 c text (44 ∷ 32 ∷ t) (f .after))))
 
   -- ---- RunEndEncoded
@@ -282,7 +282,7 @@ module _ (text : List ℕ) (type : ℕ → ℕ → Out Tree) (l : Label) (at row
       → TreeRead text (runEndEncodedAt text type (l .kind) at rows) (bareLabel l) (node m kids (node n ks ∅)) rest
   unfolding rulesOf runEndEncodedAt
   run-ends-step m n kids ks t h e f =
-      let p = h .param in
+      let p = h .number in
       let s = h .scale in
       bare-tree text l (node m kids (node n ks ∅)) _ 0 0 (f .got .trees) (f .got .next + 1) rest (no-zone l (h .zone)) (omega arith) (omega arith) (f .trees)
       (rw (need-lparen text at t e, f .reads, closes text _ (f .got .trees) (f .got .next) rest (f .after)))

@@ -61,7 +61,7 @@ plain-rows place (node l kids next) h p =
 -- what the shape asks, and what is known of the children
 pub record ShapeRow (s : Shape) (l : Label) (kids : Forest Label) : Type 0 where
   pub arity : T (arityFits ((rulesOf s) .children) (length (roots kids)))
-  pub param : l .param < (rulesOf s) .params
+  pub number : l .number < (rulesOf s) .params
   pub scale : l .scale < (rulesOf s) .scales
   pub zone : T (zoneFits ((rulesOf s) .zoned) (l .zone))
   pub plain : T (all isPlain (l .zone))
@@ -72,7 +72,7 @@ pub shape-row : (place : Place) (l : Label) (kids : Forest Label) → PlainRow p
 shape-row place l kids r b =
     record {
       arity = r .fits .arity;
-      param = r .fits .param;
+      number = r .fits .number;
       scale = r .fits .scale;
       zone = r .fits .zone;
       plain = r .zone;
@@ -95,17 +95,17 @@ pub union-row : (l : Label) (kids : Forest Label) → PlainRow unionField l kids
 unfolding roleFits nameFits
 union-row l kids r = record { kind = r .fits .kind; role = r .fits .role; name = r .fits .name; plain = r .name }
 
-pub field-id : (l : Label) (kids : Forest Label) → PlainRow field l kids → l .id ≡ 0
+pub field-id : (l : Label) (kids : Forest Label) → PlainRow field l kids → l .unionId ≡ 0
 unfolding idFits
-field-id l kids r = eqb→eq (l .id) 0 (r .fits .id)
+field-id l kids r = eqb→eq (l .unionId) 0 (r .fits .unionId)
 
-pub union-id : (l : Label) (kids : Forest Label) → PlainRow unionField l kids → l .id < 128
+pub union-id : (l : Label) (kids : Forest Label) → PlainRow unionField l kids → l .unionId < 128
 unfolding idFits
-union-id l kids r = ltb→lt (l .id) 128 (r .fits .id)
+union-id l kids r = ltb→lt (l .unionId) 128 (r .fits .unionId)
 
 -- a label without what its parent says of it
 abbrev pub bareLabel : Label → Label
-bareLabel l = record { kind = l .kind; role = 0; id = 0; param = l .param; scale = l .scale; name = []; zone = l .zone }
+bareLabel l = record { kind = l .kind; role = 0; unionId = 0; number = l .number; scale = l .scale; name = []; zone = l .zone }
 
 empty-is : (s : List ℕ) → T (isEmpty s) → s ≡ []
 empty-is [] h = refl
@@ -119,6 +119,6 @@ pub bare-is : (l : Label) (kids : Forest Label) → PlainRow bare l kids → bar
 unfolding roleFits idFits nameFits
 bare-is l kids r =
     let role : 0 ≡ l .role = sym (eqb→eq (l .role) 0 (r .fits .role)) in
-    let id : 0 ≡ l .id = sym (eqb→eq (l .id) 0 (r .fits .id)) in
+    let id : 0 ≡ l .unionId = sym (eqb→eq (l .unionId) 0 (r .fits .unionId)) in
     let name : [] ≡ l .name = sym (empty-is (l .name) (r .fits .name)) in
-    λ j. record { kind = l .kind; role = role j; id = id j; param = l .param; scale = l .scale; name = name j; zone = l .zone }
+    λ j. record { kind = l .kind; role = role j; unionId = id j; number = l .number; scale = l .scale; name = name j; zone = l .zone }

@@ -81,12 +81,12 @@ module _ (text : List ℕ) where
   pub roles-read : (f : Forest Row) (g : Forest Label) → labels text nameList f ≡ g → map (λ r. r .role) (roots f) ≡ rolesOf (roots g)
   roles-read f g e = roles-labels f ∙ ap (λ (h : Forest Label). rolesOf (roots h)) e
 
-  ids-labels : (f : Forest Row) → map (λ r. r .id) (roots f) ≡ idsOf (roots (labels text nameList f))
+  ids-labels : (f : Forest Row) → map (λ r. r .unionId) (roots f) ≡ idsOf (roots (labels text nameList f))
   unfolding labels labelOf
   ids-labels ∅ = refl
-  ids-labels (node r k n) = ap (λ (t : List ℕ). r .id ∷ t) (ids-labels n)
+  ids-labels (node r k n) = ap (λ (t : List ℕ). r .unionId ∷ t) (ids-labels n)
 
-  pub ids-read : (f : Forest Row) (g : Forest Label) → labels text nameList f ≡ g → map (λ r. r .id) (roots f) ≡ idsOf (roots g)
+  pub ids-read : (f : Forest Row) (g : Forest Label) → labels text nameList f ≡ g → map (λ r. r .unionId) (roots f) ≡ idsOf (roots g)
   ids-read f g e = ids-labels f ∙ ap (λ (h : Forest Label). idsOf (roots h)) e
 
   -- the word of a type stands at a place, and behind it the rest of its printed text
@@ -152,20 +152,20 @@ module _ (text : List ℕ) where
   unfolding zoneOf
   zone-none = rw (leb·zero (length text))
 
-  pub bare-row : (l : Label) (param scale start size : ℕ) → param ≡ l .param → scale ≡ l .scale → zoneOf text start size ≡ l .zone
+  pub bare-row : (l : Label) (param scale start size : ℕ) → param ≡ l .number → scale ≡ l .scale → zoneOf text start size ≡ l .zone
       → labelOf text nameList (bareRow (l .kind) param scale start size) ≡ bareLabel l
   unfolding labelOf nameOf
-  bare-row l param scale start size p s z = λ j. record { kind = l .kind; role = 0; id = 0; param = p j; scale = s j; name = []; zone = z j }
+  bare-row l param scale start size p s z = λ j. record { kind = l .kind; role = 0; unionId = 0; number = p j; scale = s j; name = []; zone = z j }
 
-  pub as-field : (l : Label) (r : Row) (role id : ℕ) (n : Name) → labelOf text nameList r ≡ bareLabel l → role ≡ l .role → id ≡ l .id
+  pub as-field : (l : Label) (r : Row) (role id : ℕ) (n : Name) → labelOf text nameList r ≡ bareLabel l → role ≡ l .role → id ≡ l .unionId
       → nameOf text nameList (n .home) (n .start) (n .size) ≡ l .name → labelOf text nameList (fieldRow role id n r) ≡ l
   unfolding labelOf
   as-field l r role id n h e i p =
-      λ j. record { kind = (h j) .kind; role = e j; id = i j; param = (h j) .param; scale = (h j) .scale; name = p j; zone = (h j) .zone }
+      λ j. record { kind = (h j) .kind; role = e j; unionId = i j; number = (h j) .number; scale = (h j) .scale; name = p j; zone = (h j) .zone }
 
   -- a type that is no field and has no zone, over children that were read
   pub bare-tree : (l : Label) (kids : Forest Label) (o : Out Tree) (param scale : ℕ) (f : Forest Row) (next : ℕ) (rest : List ℕ) → l .zone ≡ []
-      → param ≡ l .param → scale ≡ l .scale → labels text nameList f ≡ kids
+      → param ≡ l .number → scale ≡ l .scale → labels text nameList f ≡ kids
       → o ≡ done (record { row = bareRow (l .kind) param scale 0 0; kids = f; next = next }) → drop next text ≡ rest → TreeRead o (bareLabel l) kids rest
   bare-tree l kids o param scale f next rest z p s b e d =
       record {

@@ -8,6 +8,7 @@ use lib.ListN.{length}
 use lib.Dec.{eqb}
 use Rattle.tokenizer.specs.Text.{bytes, if_then_else_}
 use Rattle.tokenizer.specs.Answer.{Out, refused, done}
+use Rattle.datatype.specs.Limits.{maxRows}
 use Rattle.datatype.specs.Kind.{kinds}
 use Rattle.datatype.specs.Tree.{Forest, ∅, node, Row, nameList}
 use Rattle.datatype.specs.Table.{tableOf}
@@ -65,7 +66,7 @@ abbrev pub meetsConditions : Out (Forest Row) → Bool
 meetsConditions (refused r) = false
 meetsConditions (done f) = inDemand3 text nameList (tableOf f)
 
-pub conditions-met : meetsConditions (parse text 1024) ≡ true
+pub conditions-met : meetsConditions (parse text maxRows) ≡ true
 unfolding parser.computed printer.computed isPlain allPlain isPlainTree inDemand3
 conditions-met = refl
 
@@ -82,6 +83,6 @@ abbrev pub hasEveryKind : Out (Forest Row) → Bool
 hasEveryKind (refused r) = false
 hasEveryKind (done f) = hasKindsBelow kinds f
 
-pub every-kind : hasEveryKind (parse text 1024) ≡ true
+pub every-kind : hasEveryKind (parse text maxRows) ≡ true
 unfolding parser.computed
 every-kind = refl

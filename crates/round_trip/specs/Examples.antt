@@ -8,6 +8,7 @@ use Prim.Native.String.{String}
 use lib.Dec.{eqb}
 use Rattle.tokenizer.specs.Text.{bytes, same}
 use Rattle.tokenizer.specs.Answer.{Out, refused, done}
+use Rattle.datatype.specs.Limits.{maxText, maxRows}
 use Rattle.datatype.specs.Tree.{Forest, Row, count, nameList}
 use Rattle.datatype.specs.Table.{tableOf}
 use Rattle.row_table.specs.Parents.{parentColumn}
@@ -41,11 +42,11 @@ meets text (refused r) (refusal n) = eqb (r .number) n
 meets text (refused r) (prints s) = false
 meets text (done f) (rows n) = eqb (count f) n
 meets text (done f) (refusal n) = false
-meets text (done f) (prints s) = printsAs (print text nameList (tableOf f) 16384) (bytes s)
+meets text (done f) (prints s) = printsAs (print text nameList (tableOf f) maxText) (bytes s)
 
 abbrev pub allMeet : List Example → Bool
 allMeet [] = true
-allMeet (e ∷ es) = meets (bytes (e .text)) (parse (bytes (e .text)) 1024) (e .expected) && allMeet es
+allMeet (e ∷ es) = meets (bytes (e .text)) (parse (bytes (e .text)) maxRows) (e .expected) && allMeet es
 
 -- The texts that document 01 marks P.
 abbrev pub marked : List Example
@@ -113,10 +114,10 @@ abbrev pub parentsRead : Out (Forest Row) → List ℕ
 parentsRead (refused r) = []
 parentsRead (done f) = parentColumn f
 
-pub struct-parents : parentsRead (parse (bytes "Struct(\"a\": List(Int8), \"b\": Int8)") 1024) ≡ 0 ∷ 0 ∷ 1 ∷ 0 ∷ []
+pub struct-parents : parentsRead (parse (bytes "Struct(\"a\": List(Int8), \"b\": Int8)") maxRows) ≡ 0 ∷ 0 ∷ 1 ∷ 0 ∷ []
 unfolding parser.computed
 struct-parents = refl
 
-pub dictionary-parents : parentsRead (parse (bytes "Dictionary(Dictionary(Int8, Utf8), Int8)") 1024) ≡ 0 ∷ 0 ∷ 1 ∷ 1 ∷ 0 ∷ []
+pub dictionary-parents : parentsRead (parse (bytes "Dictionary(Dictionary(Int8, Utf8), Int8)") maxRows) ≡ 0 ∷ 0 ∷ 1 ∷ 1 ∷ 0 ∷ []
 unfolding parser.computed
 dictionary-parents = refl

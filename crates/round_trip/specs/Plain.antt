@@ -6,6 +6,7 @@ use Prim.Native.Nat.{ℕ}
 use lib.ListN.{length}
 use lib.Dec.{leb, eqb}
 use Rattle.tokenizer.specs.Text.{all, isPrintable}
+use Rattle.datatype.specs.Limits.{maxText}
 use Rattle.datatype.specs.Tree.{Forest, ∅, node, Label}
 use Rattle.datatype.specs.Table.{treeOf}
 use Rattle.row_table.specs.Sound.{isSound}
@@ -28,4 +29,4 @@ printed text names table = display (treeOf text names table)
 
 -- Whether text, name list and row words are a tree that demand 3 speaks of.
 unfoldable pub inDemand3 : List ℕ → List ℕ → List ℕ → Bool
-inDemand3 text names table = isSound text names table && isPlainTree text names table && leb (length (printed text names table)) 16384
+inDemand3 text names table = isSound text names table && isPlainTree text names table && leb (length (printed text names table)) maxText

@@ -11,7 +11,7 @@ use Rattle.tokenizer.specs.Text.{if_then_else_}
 use Rattle.tokenizer.proofs.Basics.{and-r, is-true, of-true}
 use Rattle.datatype.specs.Kind.{Shape, leaf, timestamp, time, interval, fixed, list, fixedList, struct, union, dictionary, decimal, mapping, runEnds, kinds, shapeOf, keyRefusal, entriesRefusal, idsFit}
 use Rattle.datatype.specs.Tree.{Forest, ∅, node, count, roots, Row}
-use Rattle.datatype.specs.Table.{rowWords, sizeAt}
+use Rattle.datatype.specs.Table.{rowWords, rowsAt}
 use Rattle.row_table.specs.Sound.{noChild, oneChild, twoChildren, arityFits, rulesOf}
 use Rattle.row_table.specs.Run.{rowAt, forestAt, Nests}
 use Rattle.row_table.specs.Check.{isDecimal, isList, entriesOk, firstNonNull, overKids, childrenFit}
@@ -50,19 +50,19 @@ module _ (table : List ℕ) (first end : ℕ) (h : Nests table first (end - firs
   child-turn = turn table first end h (omega arith)
 
   abbrev behind : Forest Row
-  behind = forestAt table (first + sizeAt table first) (end - (first + sizeAt table first))
+  behind = forestAt table (first + rowsAt table first) (end - (first + rowsAt table first))
 
   more-roots : Turn table first end → length (roots (forestAt table first (end - first))) ≡ suc (length (roots behind))
   more-roots t = rw (t .is)
 
-  module _ (s : ℕ) (is : s ≡ sizeAt table first) where
+  module _ (s : ℕ) (is : s ≡ rowsAt table first) where
     pub one-2 : eqb (first + s) end ≡ eqb (length (roots (forestAt table first (end - first)))) 1
     one-2 = rw is (go child-turn)
       where
-        go : Turn table first end → eqb (first + sizeAt table first) end ≡ eqb (length (roots (forestAt table first (end - first)))) 1
+        go : Turn table first end → eqb (first + rowsAt table first) end ≡ eqb (length (roots (forestAt table first (end - first)))) 1
         go t =
             let w = t .within in
-            none-is table (first + sizeAt table first) end (t .rest) w ∙ sym (ap (λ (n : ℕ). eqb n 1) (more-roots t) ∙ eqb·suc-suc (length (roots behind)) 0)
+            none-is table (first + rowsAt table first) end (t .rest) w ∙ sym (ap (λ (n : ℕ). eqb n 1) (more-roots t) ∙ eqb·suc-suc (length (roots behind)) 0)
 
     pub two-2 : (r : Bool) → r ≡ eqb (length (roots (forestAt table (first + s) (end - (first + s))))) 1 → r ≡ eqb (length (roots (forestAt table first (end - first)))) 2
     two-2 r e = go child-turn (rw is at e)
@@ -112,7 +112,7 @@ module _ (table : List ℕ) (first end : ℕ) (h : Nests table first (end - firs
   key-at v u = go (child-turn table first end h l two-some)
     where
       tail : Forest Row
-      tail = forestAt table (first + sizeAt table first) (end - (first + sizeAt table first))
+      tail = forestAt table (first + rowsAt table first) (end - (first + rowsAt table first))
 
       keyed : (r : Row) (k n : Forest Row) → eqb (length (roots (node r k n))) 2 ≡ true → eqb (keyRefusal (map (λ c. c .role) (roots (node r k n)))) 0 ≡ eqb (r .role) 2
       keyed r k n e = key-first (r .role) (map (λ c. c .role) (roots n)) (ap (λ (m : ℕ). eqb (suc m) 2) (length-map (roots n) (λ c. c .role)) ∙ e)
@@ -121,7 +121,7 @@ module _ (table : List ℕ) (first end : ℕ) (h : Nests table first (end - firs
       role-is = unfold rowAt in sym u
 
       go : Turn table first end → eqb (keyRefusal (map (λ c. c .role) (roots (forestAt table first (end - first))))) 0 ≡ eqb v 2
-      go t = rw (t .is) (keyed (rowAt table first) (forestAt table (first + 1) (first + sizeAt table first - (first + 1))) tail (rw (t .is) at two)) ∙ ap (λ (m : ℕ). eqb m 2) role-is
+      go t = rw (t .is) (keyed (rowAt table first) (forestAt table (first + 1) (first + rowsAt table first - (first + 1))) tail (rw (t .is) at two)) ∙ ap (λ (m : ℕ). eqb m 2) role-is
 
   pub non-null-at : (v : ℕ) → v ≡ getD table (rowWords * first + 2) 0 → eqb v 2 ≡ firstNonNull (forestAt table first (end - first))
   unfolding rowAt
@@ -138,7 +138,7 @@ module _ (table : List ℕ) (first end : ℕ) (h : Nests table first (end - firs
   kidsAt s = forestAt table (first + 1) (first + s - (first + 1))
 
   -- the entries are judged by their role, their kind and the roles of their fields
-  entries-are : Turn table first end → entriesOk (forestAt table first (end - first)) ≡ eqb (entriesRefusal roleAt kindAt (map (λ c. c .role) (roots (kidsAt (sizeAt table first))))) 0
+  entries-are : Turn table first end → entriesOk (forestAt table first (end - first)) ≡ eqb (entriesRefusal roleAt kindAt (map (λ c. c .role) (roots (kidsAt (rowsAt table first))))) 0
   unfolding rowAt
   entries-are t = rw (t .is)
 
@@ -151,7 +151,7 @@ module _ (table : List ℕ) (first end : ℕ) (h : Nests table first (end - firs
     unfolding entriesRefusal
     entries-3 k f d = sym (entries-are (child-turn table first end h l some) ∙ rw (← e, two, ← f, ne-eqb k 32 d))
 
-    module _ (k : ℕ) (f : k ≡ kindAt) (str : k ≡ 32) (s : ℕ) (is : s ≡ sizeAt table first) where
+    module _ (k : ℕ) (f : k ≡ kindAt) (str : k ≡ 32) (s : ℕ) (is : s ≡ rowsAt table first) where
       entries-key : entriesOk (forestAt table first (end - first)) ≡ eqb (keyRefusal (map (λ c. c .role) (roots (kidsAt s)))) 0
       unfolding entriesRefusal
       entries-key = entries-are (child-turn table first end h l some) ∙ rw (← e, two, ← f, str, is)
@@ -269,7 +269,7 @@ module _ (k : ℕ) (f : Forest Row) where
   unfolding childrenFit rulesOf shapeOf arityFits
   kids-struct e = rw e
 
-  pub kids-union : (r : Bool) → k ≡ 33 → r ≡ idsFit (map (λ c. c .id) (roots f)) → r ≡ childrenFit k f
+  pub kids-union : (r : Bool) → k ≡ 33 → r ≡ idsFit (map (λ c. c .unionId) (roots f)) → r ≡ childrenFit k f
   unfolding childrenFit rulesOf shapeOf arityFits
   kids-union r e q = rw e q
 

@@ -73,50 +73,50 @@ field-role role t =
 
 module _ (text : List ℕ) (r : Row) where
   abbrev inText : Bool
-  inText = eqb (r .home) 1 && partFits text (r .start) (r .size)
+  inText = eqb (r .home) 1 && partFits text (r .nameStart) (r .nameLength)
 
   abbrev inList : Bool
-  inList = eqb (r .home) 2 && isListed (r .start) (r .size)
+  inList = eqb (r .home) 2 && isListed (r .nameStart) (r .nameLength)
 
   abbrev nameAt : List ℕ
-  nameAt = nameOf text nameList (r .home) (r .start) (r .size)
+  nameAt = nameOf text nameList (r .home) (r .nameStart) (r .nameLength)
 
   abbrev first : Bool
-  first = eqb (r .home) 1 && leb 1 (r .size) && leb (r .start + r .size) (length text)
+  first = eqb (r .home) 1 && leb 1 (r .nameLength) && leb (r .nameStart + r .nameLength) (length text)
 
   text-name : T inText → T first × T (isName nameAt)
   unfolding partFits nameOf
   text-name t =
       let h : Bool = eqb (r .home) 1 in
-      let a : Bool = leb 1 (r .size) in
-      let b : Bool = leb (r .start + r .size) (length text) in
-      let c : Bool = isUtf8 (part text (r .start) (r .size)) in
+      let a : Bool = leb 1 (r .nameLength) in
+      let b : Bool = leb (r .nameStart + r .nameLength) (length text) in
+      let c : Bool = isUtf8 (part text (r .nameStart) (r .nameLength)) in
       let u : T (a && b && c) = and-r h (a && b && c) t in
       let ta : T a = and-l a b (and-l (a && b) c u) in
       let tb : T b = and-r a b (and-l (a && b) c u) in
-      let l = part-long text (r .start) (r .size) (leb→le (r .start + r .size) (length text) tb) in (
+      let l = part-long text (r .nameStart) (r .nameLength) (leb→le (r .nameStart + r .nameLength) (length text) tb) in (
         both (h && a) b (both h a (and-l h (a && b && c) t) ta) tb,
-        rw (eqb→eq (r .home) 1 (and-l h (a && b && c) t), is-name (part text (r .start) (r .size)) (omega (arith, leb→le 1 (r .size) ta))) (and-r (a && b) c u),
+        rw (eqb→eq (r .home) 1 (and-l h (a && b && c) t), is-name (part text (r .nameStart) (r .nameLength)) (omega (arith, leb→le 1 (r .nameLength) ta))) (and-r (a && b) c u),
       )
 
   name-text : T first → T (isName nameAt) → T inText
   unfolding partFits nameOf
   name-text t n =
       let h : Bool = eqb (r .home) 1 in
-      let a : Bool = leb 1 (r .size) in
-      let b : Bool = leb (r .start + r .size) (length text) in
-      let c : Bool = isUtf8 (part text (r .start) (r .size)) in
+      let a : Bool = leb 1 (r .nameLength) in
+      let b : Bool = leb (r .nameStart + r .nameLength) (length text) in
+      let c : Bool = isUtf8 (part text (r .nameStart) (r .nameLength)) in
       let th : T h = and-l h a (and-l (h && a) b t) in
       let ta : T a = and-r h a (and-l (h && a) b t) in
       let tb : T b = and-r (h && a) b t in
-      let l = part-long text (r .start) (r .size) (leb→le (r .start + r .size) (length text) tb) in
-      both h (a && b && c) th (both (a && b) c (both a b ta tb) (rw (eqb→eq (r .home) 1 th, is-name (part text (r .start) (r .size)) (omega (arith, leb→le 1 (r .size) ta))) at n))
+      let l = part-long text (r .nameStart) (r .nameLength) (leb→le (r .nameStart + r .nameLength) (length text) tb) in
+      both h (a && b && c) th (both (a && b) c (both a b ta tb) (rw (eqb→eq (r .home) 1 th, is-name (part text (r .nameStart) (r .nameLength)) (omega (arith, leb→le 1 (r .nameLength) ta))) at n))
 
   list-name : T inList → T (isName nameAt)
   unfolding nameOf
   list-name t =
       let h : Bool = eqb (r .home) 2 in
-      rw (eqb→eq (r .home) 2 (and-l h (isListed (r .start) (r .size)) t)) (listed-name (r .start) (r .size) (and-r h (isListed (r .start) (r .size)) t))
+      rw (eqb→eq (r .home) 2 (and-l h (isListed (r .nameStart) (r .nameLength)) t)) (listed-name (r .nameStart) (r .nameLength) (and-r h (isListed (r .nameStart) (r .nameLength)) t))
 
   -- a field's name stands where it may and is a name
   field-in : T (eqb (r .role) 1 || eqb (r .role) 2) → T (inText || inList) → T (namePlaced text r) × T (isName nameAt)
@@ -135,15 +135,15 @@ module _ (text : List ℕ) (r : Row) where
       (λ u. or-r inText inList u) (rw (field-role (r .role) role) at p)
 
   abbrev nameTest : Place → Bool
-  nameTest place = nameOk text place (r .role) (r .home) (r .start) (r .size)
+  nameTest place = nameOk text place (r .role) (r .home) (r .nameStart) (r .nameLength)
 
   bare-in : T (nameTest bare) → T (namePlaced text r) × T (roleFits bare (r .role)) × T (nameFits bare nameAt)
   unfolding nameOk namePlaced roleFits nameFits nameOf
   bare-in t =
       let a : Bool = eqb (r .role) 0 in
       let b : Bool = eqb (r .home) 0 in
-      let c : Bool = eqb (r .start) 0 in
-      let d : Bool = eqb (r .size) 0 in
+      let c : Bool = eqb (r .nameStart) 0 in
+      let d : Bool = eqb (r .nameLength) 0 in
       let abc : T (a && b && c) = and-l (a && b && c) d t in
       let ab : T (a && b) = and-l (a && b) c abc in (
         rw (is-true a (and-l a b ab)) (both (b && c) d (both b c (and-r a b ab) (and-r (a && b) c abc)) (and-r (a && b && c) d t)),
@@ -156,8 +156,8 @@ module _ (text : List ℕ) (r : Row) where
   bare-out p q =
       let a : Bool = eqb (r .role) 0 in
       let b : Bool = eqb (r .home) 0 in
-      let c : Bool = eqb (r .start) 0 in
-      let d : Bool = eqb (r .size) 0 in
+      let c : Bool = eqb (r .nameStart) 0 in
+      let d : Bool = eqb (r .nameLength) 0 in
       let t : T (b && c && d) = rw (is-true a q) at p in
       both (a && b && c) d (both (a && b) c (both a b q (and-l b c (and-l (b && c) d t))) (and-r b c (and-l (b && c) d t))) (and-r (b && c) d t)
 
@@ -182,57 +182,57 @@ module _ (text : List ℕ) (r : Row) where
   -- ---- zones
 
   abbrev zoneAt : List ℕ
-  zoneAt = zoneOf text (r .zoneStart) (r .zoneSize)
+  zoneAt = zoneOf text (r .zoneStart) (r .zoneLength)
 
   -- no zone is no fault
-  zone-none : (zoned : Bool) → eqb (r .zoneSize) 0 ≡ true → T (zoneFits zoned zoneAt)
+  zone-none : (zoned : Bool) → eqb (r .zoneLength) 0 ≡ true → T (zoneFits zoned zoneAt)
   unfolding zoneOf
-  zone-none zoned e = rw (eqb-true (r .zoneSize) 0 e, if-same (leb (r .zoneStart + 0) (length text)) (take 0 (drop (r .zoneStart) text))) (empty-zone zoned)
+  zone-none zoned e = rw (eqb-true (r .zoneLength) 0 e, if-same (leb (r .zoneStart + 0) (length text)) (take 0 (drop (r .zoneStart) text))) (empty-zone zoned)
 
   -- a zone is not empty
-  zone-some : (zoned : Bool) → eqb (r .zoneSize) 0 ≡ false → T (leb (r .zoneStart + r .zoneSize) (length text)) → T (zoneFits zoned zoneAt)
-      → T (zoned && partFits text (r .zoneStart) (r .zoneSize))
+  zone-some : (zoned : Bool) → eqb (r .zoneLength) 0 ≡ false → T (leb (r .zoneStart + r .zoneLength) (length text)) → T (zoneFits zoned zoneAt)
+      → T (zoned && partFits text (r .zoneStart) (r .zoneLength))
   unfolding zoneOf partFits zoneFits
-  zone-some true e b z = both (leb 1 (r .zoneSize) && leb (r .zoneStart + r .zoneSize) (length text)) (isUtf8 zoneAt) (both (leb 1 (r .zoneSize)) (leb (r .zoneStart + r .zoneSize) (length text)) (le→leb 1 (r .zoneSize) (not-zero (r .zoneSize) e)) b) z
+  zone-some true e b z = both (leb 1 (r .zoneLength) && leb (r .zoneStart + r .zoneLength) (length text)) (isUtf8 zoneAt) (both (leb 1 (r .zoneLength)) (leb (r .zoneStart + r .zoneLength) (length text)) (le→leb 1 (r .zoneLength) (not-zero (r .zoneLength) e)) b) z
   zone-some false e b z =
-      let l = part-long text (r .zoneStart) (r .zoneSize) (leb→le (r .zoneStart + r .zoneSize) (length text) b) in
-      let m = not-zero (r .zoneSize) e in
-      rw (not-empty (part text (r .zoneStart) (r .zoneSize)) (omega arith)) at z
+      let l = part-long text (r .zoneStart) (r .zoneLength) (leb→le (r .zoneStart + r .zoneLength) (length text) b) in
+      let m = not-zero (r .zoneLength) e in
+      rw (not-empty (part text (r .zoneStart) (r .zoneLength)) (omega arith)) at z
 
-  some-zone : (zoned : Bool) → T (zoned && partFits text (r .zoneStart) (r .zoneSize)) → T (leb (r .zoneStart + r .zoneSize) (length text)) × T (zoneFits zoned zoneAt)
+  some-zone : (zoned : Bool) → T (zoned && partFits text (r .zoneStart) (r .zoneLength)) → T (leb (r .zoneStart + r .zoneLength) (length text)) × T (zoneFits zoned zoneAt)
   unfolding zoneOf partFits zoneFits
   some-zone true t =
-      let a : Bool = leb 1 (r .zoneSize) in
-      let b : Bool = leb (r .zoneStart + r .zoneSize) (length text) in
-      let c : Bool = isUtf8 (part text (r .zoneStart) (r .zoneSize)) in
+      let a : Bool = leb 1 (r .zoneLength) in
+      let b : Bool = leb (r .zoneStart + r .zoneLength) (length text) in
+      let c : Bool = isUtf8 (part text (r .zoneStart) (r .zoneLength)) in
       (and-r a b (and-l (a && b) c t), and-r (a && b) c t)
   some-zone false t = absurd t
 
-  pub zone-in : (zoned : Bool) → T (zoneOk text zoned (r .zoneStart) (r .zoneSize)) → T (zonePlaced text r) × T (zoneFits zoned zoneAt)
+  pub zone-in : (zoned : Bool) → T (zoneOk text zoned (r .zoneStart) (r .zoneLength)) → T (zonePlaced text r) × T (zoneFits zoned zoneAt)
   unfolding zoneOk zonePlaced
-  zone-in zoned t = go (eqb (r .zoneSize) 0) refl t
+  zone-in zoned t = go (eqb (r .zoneLength) 0) refl t
     where
-      go : (b : Bool) → eqb (r .zoneSize) 0 ≡ b → T (if b then eqb (r .zoneStart) 0 else (zoned && partFits text (r .zoneStart) (r .zoneSize)))
-          → T (if b then eqb (r .zoneStart) 0 else leb (r .zoneStart + r .zoneSize) (length text)) × T (zoneFits zoned zoneAt)
+      go : (b : Bool) → eqb (r .zoneLength) 0 ≡ b → T (if b then eqb (r .zoneStart) 0 else (zoned && partFits text (r .zoneStart) (r .zoneLength)))
+          → T (if b then eqb (r .zoneStart) 0 else leb (r .zoneStart + r .zoneLength) (length text)) × T (zoneFits zoned zoneAt)
       go true e t = (t, zone-none zoned e)
       go false e t = some-zone zoned t
 
-  pub zone-out : (zoned : Bool) → T (zonePlaced text r) → T (zoneFits zoned zoneAt) → T (zoneOk text zoned (r .zoneStart) (r .zoneSize))
+  pub zone-out : (zoned : Bool) → T (zonePlaced text r) → T (zoneFits zoned zoneAt) → T (zoneOk text zoned (r .zoneStart) (r .zoneLength))
   unfolding zoneOk zonePlaced
-  zone-out zoned p z = go (eqb (r .zoneSize) 0) refl p
+  zone-out zoned p z = go (eqb (r .zoneLength) 0) refl p
     where
-      go : (b : Bool) → eqb (r .zoneSize) 0 ≡ b → T (if b then eqb (r .zoneStart) 0 else leb (r .zoneStart + r .zoneSize) (length text))
-          → T (if b then eqb (r .zoneStart) 0 else (zoned && partFits text (r .zoneStart) (r .zoneSize)))
+      go : (b : Bool) → eqb (r .zoneLength) 0 ≡ b → T (if b then eqb (r .zoneStart) 0 else leb (r .zoneStart + r .zoneLength) (length text))
+          → T (if b then eqb (r .zoneStart) 0 else (zoned && partFits text (r .zoneStart) (r .zoneLength)))
       go true e t = t
       go false e t = zone-some zoned e t z
 
 -- ---- shapes
 
 -- the labels of a run of siblings have the ids and roles of its rows
-ids-same : (text names : List ℕ) (f : Forest Row) → idsOf (roots (labels text names f)) ≡ map (λ c. c .id) (roots f)
+ids-same : (text names : List ℕ) (f : Forest Row) → idsOf (roots (labels text names f)) ≡ map (λ c. c .unionId) (roots f)
 unfolding labels labelOf
 ids-same text names ∅ = refl
-ids-same text names (node r kids next) = ap (λ (l : List ℕ). r .id ∷ l) (ids-same text names next)
+ids-same text names (node r kids next) = ap (λ (l : List ℕ). r .unionId ∷ l) (ids-same text names next)
 
 roles-same : (text names : List ℕ) (f : Forest Row) → rolesOf (roots (labels text names f)) ≡ map (λ c. c .role) (roots f)
 unfolding labels labelOf
@@ -256,7 +256,7 @@ first-same text names (node r kids next) = refl
 
 -- what a shape asks besides is asked of the row alone and of its children
 shape-parts : (text names : List ℕ) (s : Shape) (r : Row) (kids : Forest Row)
-    → shapeFits s (labelOf text names r) (labels text names kids) ≡ (ownShape s (r .kind) (r .param) (r .scale) && overKids s kids)
+    → shapeFits s (labelOf text names r) (labels text names kids) ≡ (ownShape s (r .kind) (r .number) (r .scale) && overKids s kids)
 unfolding shapeFits labelOf
 shape-parts text names leaf r kids = refl
 shape-parts text names timestamp r kids = refl
@@ -279,10 +279,10 @@ ruleset split = (and-l, and-r)
 -- the clauses of a row alone, and those of its children
 pub record Own (text : List ℕ) (place : Place) (r : Row) : Type 0 where
   pub kind : T (ltb (r .kind) kinds)
-  pub numbers : T (numbersFit (r .kind) (r .param) (r .scale))
-  pub id : T (idFits place (r .id))
-  pub name : T (nameOk text place (r .role) (r .home) (r .start) (r .size))
-  pub zone : T (zoneOk text ((rulesOf (shapeOf (r .kind))) .zoned) (r .zoneStart) (r .zoneSize))
+  pub numbers : T (numbersFit (r .kind) (r .number) (r .scale))
+  pub unionId : T (idFits place (r .unionId))
+  pub name : T (nameOk text place (r .role) (r .home) (r .nameStart) (r .nameLength))
+  pub zone : T (zoneOk text ((rulesOf (shapeOf (r .kind))) .zoned) (r .zoneStart) (r .zoneLength))
 
 five : (a b c d e : Bool) → T (a && b && c && d && e) → T a × T b × T c × T d × T e
 five a b c d e t = (search split depth 6, search split depth 6, search split depth 6, search split depth 6, search split depth 6)
@@ -306,32 +306,32 @@ module _ (text : List ℕ) (place : Place) (r : Row) (kids : Forest Row) where
   pub own-of : T (ownFits text place r) → Own text place r
   unfolding ownFits
   own-of t =
-      let w = five (ltb (r .kind) kinds) (numbersFit (r .kind) (r .param) (r .scale)) (idFits place (r .id)) (nameOk text place (r .role) (r .home) (r .start) (r .size)) (zoneOk text ((rulesOf (shapeOf (r .kind))) .zoned) (r .zoneStart) (r .zoneSize)) t in
-      record { kind = w .0; numbers = w .1; id = w .2; name = w .3; zone = w .4 }
+      let w = five (ltb (r .kind) kinds) (numbersFit (r .kind) (r .number) (r .scale)) (idFits place (r .unionId)) (nameOk text place (r .role) (r .home) (r .nameStart) (r .nameLength)) (zoneOk text ((rulesOf (shapeOf (r .kind))) .zoned) (r .zoneStart) (r .zoneLength)) t in
+      record { kind = w .0; numbers = w .1; unionId = w .2; name = w .3; zone = w .4 }
 
   of-own : Own text place r → T (ownFits text place r)
   unfolding ownFits
-  of-own o = all-five (ltb (r .kind) kinds) (numbersFit (r .kind) (r .param) (r .scale)) (idFits place (r .id)) (nameOk text place (r .role) (r .home) (r .start) (r .size)) (zoneOk text ((rulesOf (shapeOf (r .kind))) .zoned) (r .zoneStart) (r .zoneSize)) (o .kind) (o .numbers) (o .id) (o .name) (o .zone)
+  of-own o = all-five (ltb (r .kind) kinds) (numbersFit (r .kind) (r .number) (r .scale)) (idFits place (r .unionId)) (nameOk text place (r .role) (r .home) (r .nameStart) (r .nameLength)) (zoneOk text ((rulesOf (shapeOf (r .kind))) .zoned) (r .zoneStart) (r .zoneLength)) (o .kind) (o .numbers) (o .unionId) (o .name) (o .zone)
 
   -- together they are the clauses of the row's label
   row-in : Own text place r → T (childrenFit (r .kind) kids) → RowFits place label below
   unfolding labelOf numbersFit childrenFit
   row-in o c =
       let rules = rulesOf (shapeOf (r .kind)) in
-      let n = three (ltb (r .param) (rules .params)) (ltb (r .scale) (rules .scales)) (ownShape (shapeOf (r .kind)) (r .kind) (r .param) (r .scale)) (o .numbers) in
+      let n = three (ltb (r .number) (rules .params)) (ltb (r .scale) (rules .scales)) (ownShape (shapeOf (r .kind)) (r .kind) (r .number) (r .scale)) (o .numbers) in
       let w = name-in text r place (o .name) in
       record {
         kind = ltb→lt (r .kind) kinds (o .kind);
         arity = rw (roots-same text nameList kids) (and-l (arityFits (rules .children) (length (roots kids))) (overKids (shapeOf (r .kind)) kids) c);
         role = w .1;
-        id = o .id;
-        param = ltb→lt (r .param) (rules .params) (n .0);
+        unionId = o .unionId;
+        number = ltb→lt (r .number) (rules .params) (n .0);
         scale = ltb→lt (r .scale) (rules .scales) (n .1);
         name = w .2;
         zone = zone-in text r (rules .zoned) (o .zone) .1;
         shape =
             rw (shape-parts text nameList (shapeOf (r .kind)) r kids)
-            (both (ownShape (shapeOf (r .kind)) (r .kind) (r .param) (r .scale)) (overKids (shapeOf (r .kind)) kids) (n .2) (and-r (arityFits (rules .children) (length (roots kids))) (overKids (shapeOf (r .kind)) kids) c));
+            (both (ownShape (shapeOf (r .kind)) (r .kind) (r .number) (r .scale)) (overKids (shapeOf (r .kind)) kids) (n .2) (and-r (arityFits (rules .children) (length (roots kids))) (overKids (shapeOf (r .kind)) kids) c));
       }
 
   own-out : T (namePlaced text r) → T (zonePlaced text r) → RowFits place label below → Own text place r
@@ -341,11 +341,11 @@ module _ (text : List ℕ) (place : Place) (r : Row) (kids : Forest Row) where
       record {
         kind = lt→ltb (r .kind) kinds (f .kind);
         numbers =
-            all-three (ltb (r .param) (rules .params)) (ltb (r .scale) (rules .scales)) (ownShape (shapeOf (r .kind)) (r .kind) (r .param) (r .scale))
-            (lt→ltb (r .param) (rules .params) (f .param))
+            all-three (ltb (r .number) (rules .params)) (ltb (r .scale) (rules .scales)) (ownShape (shapeOf (r .kind)) (r .kind) (r .number) (r .scale))
+            (lt→ltb (r .number) (rules .params) (f .number))
             (lt→ltb (r .scale) (rules .scales) (f .scale))
-            (and-l (ownShape (shapeOf (r .kind)) (r .kind) (r .param) (r .scale)) (overKids (shapeOf (r .kind)) kids) (rw (shape-parts text nameList (shapeOf (r .kind)) r kids) at (f .shape)));
-        id = f .id;
+            (and-l (ownShape (shapeOf (r .kind)) (r .kind) (r .number) (r .scale)) (overKids (shapeOf (r .kind)) kids) (rw (shape-parts text nameList (shapeOf (r .kind)) r kids) at (f .shape)));
+        unionId = f .unionId;
         name = name-out text r place p (f .role) (f .name);
         zone = zone-out text r (rules .zoned) z (f .zone);
       }
@@ -355,7 +355,7 @@ module _ (text : List ℕ) (place : Place) (r : Row) (kids : Forest Row) where
   kids-out f =
       both (arityFits ((rulesOf (shapeOf (r .kind))) .children) (length (roots kids))) (overKids (shapeOf (r .kind)) kids)
       (rw (roots-same text nameList kids) at (f .arity))
-      (and-r (ownShape (shapeOf (r .kind)) (r .kind) (r .param) (r .scale)) (overKids (shapeOf (r .kind)) kids) (rw (shape-parts text nameList (shapeOf (r .kind)) r kids) at (f .shape)))
+      (and-r (ownShape (shapeOf (r .kind)) (r .kind) (r .number) (r .scale)) (overKids (shapeOf (r .kind)) kids) (rw (shape-parts text nameList (shapeOf (r .kind)) r kids) at (f .shape)))
 
 -- ---- a run
 

@@ -125,20 +125,20 @@ module _ (text names text′ names′ : List ℕ) (r r′ : Row) (c c′ : ℕ) 
       let e = s .words in
       let kind : r .kind ≡ r′ .kind = ap (λ (l : List ℕ). getD l 0 0) e in
       let role : r .role ≡ r′ .role = ap (λ (l : List ℕ). getD l 2 0) e in
-      let id : r .id ≡ r′ .id = ap (λ (l : List ℕ). getD l 3 0) e in
-      let param : r .param ≡ r′ .param = ap (λ (l : List ℕ). getD l 4 0) e in
+      let id : r .unionId ≡ r′ .unionId = ap (λ (l : List ℕ). getD l 3 0) e in
+      let param : r .number ≡ r′ .number = ap (λ (l : List ℕ). getD l 4 0) e in
       let scale : r .scale ≡ r′ .scale = ap (λ (l : List ℕ). getD l 5 0) e in
       let name = s .name in
       let zone = s .zone in (
         ap (λ (l : List ℕ). getD l 1 0) e,
-        λ j. record { kind = kind j; role = role j; id = id j; param = param j; scale = scale j; name = name j; zone = zone j },
+        λ j. record { kind = kind j; role = role j; unionId = id j; number = param j; scale = scale j; name = name j; zone = zone j },
       )
 
   same-words : c ≡ c′ → labelOf text names r ≡ labelOf text′ names′ r′ → SameRow text names text′ names′ (wordsOf r c) (wordsOf r′ c′)
   unfolding wordsOf rowOf labelOf
   same-words e l =
       record {
-        words = λ j. (l j) .kind ∷ e j ∷ (l j) .role ∷ (l j) .id ∷ (l j) .param ∷ (l j) .scale ∷ [];
+        words = λ j. (l j) .kind ∷ e j ∷ (l j) .role ∷ (l j) .unionId ∷ (l j) .number ∷ (l j) .scale ∷ [];
         name = λ j. (l j) .name;
         zone = λ j. (l j) .zone;
       }

@@ -12,7 +12,7 @@ use Rattle.tokenizer.specs.Text.{if_then_else_}
 use Rattle.tokenizer.proofs.Basics.{and-l, and-r, of-true}
 use Rattle.datatype.specs.Kind.{has, idsFit}
 use Rattle.datatype.specs.Tree.{roots}
-use Rattle.datatype.specs.Table.{rowWords, sizeAt}
+use Rattle.datatype.specs.Table.{rowWords, rowsAt}
 use Rattle.row_table.specs.Run.{rowAt, forestAt, Nests}
 use Rattle.row_table.specs.Ids.{bit, isKept, keepId, freshIds}
 use Rattle.datatype.proofs.Tests.{iff-eq, allBelow, below-at}
@@ -205,7 +205,7 @@ fresh-ids xs = sym (fresh-parts [] xs ∙ ap (λ (t : Bool). idsFit xs && t) (no
 
 -- the ids of the trees from row at to row end
 abbrev idsAt : List ℕ → ℕ → ℕ → List ℕ
-idsAt table at end = map (λ c. c .id) (roots (forestAt table at (end - at)))
+idsAt table at end = map (λ c. c .unionId) (roots (forestAt table at (end - at)))
 
 -- what the loop holds: the ids met, and that the rest decides
 pub record IdsSo (table : List ℕ) (first end : ℕ) (seen : List ℕ) (at : ℕ) : Type 0 where
@@ -232,7 +232,7 @@ module _ (table : List ℕ) (first end : ℕ) where
 
       -- the first tree's id is looked at, and then the rest
       next : (id : ℕ) → id ≡ getD table (rowWords * at + 3) 0 → Turn table at end
-          → idsFit (idsAt table first end) ≡ (ltb id 128 && not (has id (i .ids)) && freshIds (id ∷ i .ids) (idsAt table (at + sizeAt table at) end))
+          → idsFit (idsAt table first end) ≡ (ltb id 128 && not (has id (i .ids)) && freshIds (id ∷ i .ids) (idsAt table (at + rowsAt table at) end))
       unfolding freshIds rowAt
       next id e t = i .so ∙ rw (t .is, e)
 
@@ -244,10 +244,10 @@ module _ (table : List ℕ) (first end : ℕ) where
           pub ids-twice : isKept seen id ≡ true → false ≡ idsFit (idsAt table first end)
           ids-twice k = sym (next id e ids-turn ∙ rw (lt-ltb id 128 h, ← i .keeps .same id h, k))
 
-          pub ids-again : (seen′ : List ℕ) (s : ℕ) → isKept seen id ≡ false → seen′ ≡ keepId seen id → s ≡ sizeAt table at → IdsSo table first end seen′ (at + s)
+          pub ids-again : (seen′ : List ℕ) (s : ℕ) → isKept seen id ≡ false → seen′ ≡ keepId seen id → s ≡ rowsAt table at → IdsSo table first end seen′ (at + s)
           ids-again seen′ s k c q = rw q (go ids-turn)
             where
-              go : Turn table at end → IdsSo table first end seen′ (at + sizeAt table at)
+              go : Turn table at end → IdsSo table first end seen′ (at + rowsAt table at)
               go t =
                   record {
                     ids = id ∷ i .ids;

@@ -11,7 +11,7 @@ use borrow.Author.Tests.{le-leb, lt-leb}
 use Rattle.tokenizer.specs.Text.{if_then_else_}
 use Rattle.tokenizer.proofs.Basics.{and-l, and-r, of-true}
 use Rattle.datatype.specs.Tree.{Forest, ∅, node, count, depth, Row, labels}
-use Rattle.datatype.specs.Table.{rowWords, join, viewOf, treeOf, sizeAt}
+use Rattle.datatype.specs.Table.{rowWords, join, viewOf, treeOf, rowsAt}
 use Rattle.row_table.specs.Sound.{isSound, levelsUpTo, levelsOf, depthOf, depthMeans}
 use Rattle.row_table.specs.declared.Depth.the-variants.{Levels, Refused}
 use Rattle.row_table.specs.Run.{rowAt, runAt}
@@ -77,8 +77,8 @@ module _ (table : List ℕ) (most start end : ℕ) (room : rowWords * end ≤ le
     past : levelsUpTo most (runAt table at (end - at)) ≡ suc most → suc most ≡ levelsUpTo most (runAt table start (end - start))
     past h = let so = i .so in let s = i .small in omega arith
 
-    module _ (l : at < end) (size : ℕ) (is : size ≡ sizeAt table at) where
-      unnested : (1 ≤ sizeAt table at → sizeAt table at ≤ end - at → ⊥) → levelsUpTo most (runAt table at (end - at)) ≡ suc most
+    module _ (l : at < end) (size : ℕ) (is : size ≡ rowsAt table at) where
+      unnested : (1 ≤ rowsAt table at → rowsAt table at ≤ end - at → ⊥) → levelsUpTo most (runAt table at (end - at)) ≡ suc most
       unnested h = rw (run-none table at (end - at) (omega arith) (omega arith) h) (unfold levelsUpTo in refl)
 
       pub levels-empty : size ≡ 0 → most + 1 ≡ levelsUpTo most (runAt table start (end - start))
@@ -111,21 +111,21 @@ module _ (table : List ℕ) (most start end : ℕ) (room : rowWords * end ≤ le
 
     -- no level is allowed, and there is a row
     pub levels-none : at < end → most ≡ 0 → 1 ≡ levelsUpTo most (runAt table start (end - start))
-    levels-none l z = go (leb 1 (sizeAt table at) && leb (sizeAt table at) (end - at)) refl
+    levels-none l z = go (leb 1 (rowsAt table at) && leb (rowsAt table at) (end - at)) refl
       where
         one : levelsUpTo most (runAt table at (end - at)) ≡ suc most → 1 ≡ levelsUpTo most (runAt table start (end - start))
         one h = let p = past h in omega arith
 
-        go : (b : Bool) → (leb 1 (sizeAt table at) && leb (sizeAt table at) (end - at)) ≡ b → 1 ≡ levelsUpTo most (runAt table start (end - start))
+        go : (b : Bool) → (leb 1 (rowsAt table at) && leb (rowsAt table at) (end - at)) ≡ b → 1 ≡ levelsUpTo most (runAt table start (end - start))
         go true e =
             let t = of-true _ e in
-            let a = leb→le 1 (sizeAt table at) (and-l (leb 1 (sizeAt table at)) (leb (sizeAt table at) (end - at)) t) in
-            let b = leb→le (sizeAt table at) (end - at) (and-r (leb 1 (sizeAt table at)) (leb (sizeAt table at) (end - at)) t) in
-            one (rw (z, run-step table at (end - at) (omega arith) (omega arith) a b) (some-level most (rowAt table at) (runAt table (at + 1) (sizeAt table at - 1)) (runAt table (at + sizeAt table at) (end - at - sizeAt table at))))
-        go false e = one (unnested l (sizeAt table at) refl (λ a b. clash a b))
+            let a = leb→le 1 (rowsAt table at) (and-l (leb 1 (rowsAt table at)) (leb (rowsAt table at) (end - at)) t) in
+            let b = leb→le (rowsAt table at) (end - at) (and-r (leb 1 (rowsAt table at)) (leb (rowsAt table at) (end - at)) t) in
+            one (rw (z, run-step table at (end - at) (omega arith) (omega arith) a b) (some-level most (rowAt table at) (runAt table (at + 1) (rowsAt table at - 1)) (runAt table (at + rowsAt table at) (end - at - rowsAt table at))))
+        go false e = one (unnested l (rowsAt table at) refl (λ a b. clash a b))
           where
-            clash : 1 ≤ sizeAt table at → sizeAt table at ≤ end - at → ⊥
-            clash a b = true≢false (sym (rw (le-leb 1 (sizeAt table at) a, le-leb (sizeAt table at) (end - at) b)) ∙ e)
+            clash : 1 ≤ rowsAt table at → rowsAt table at ≤ end - at → ⊥
+            clash a b = true≢false (sym (rw (le-leb 1 (rowsAt table at) a, le-leb (rowsAt table at) (end - at) b)) ∙ e)
 
 -- ---- a table
 

@@ -10,7 +10,7 @@ use native.Mathlib.Omega.{arith}
 use lib.ListN.{length}
 use Rattle.tokenizer.proofs.Basics.{of-true}
 use Rattle.datatype.specs.Tree.{count, depth}
-use Rattle.datatype.specs.Table.{rowWords, sizeAt}
+use Rattle.datatype.specs.Table.{rowWords, rowsAt}
 use Rattle.row_table.specs.Sound.{isSound}
 use Rattle.row_table.specs.Run.{forestAt, Nests}
 use Rattle.row_table.proofs.Runs.{Turn, turn}
@@ -19,14 +19,14 @@ use Rattle.row_table.proofs.SoundTree.{SoundTree, sound-tree, sound-cou
 module _ (table : List ℕ) (level at end : ℕ) (nests : Nests table at (end - at)) (flat : depth (forestAt table at (end - at)) ≤ level) (l : at < end) where
   -- the levels here are those of the first tree and of the rest
   levels-here : Turn table at end
-      → depth (forestAt table at (end - at)) ≡ max (suc (depth (forestAt table (at + 1) (at + sizeAt table at - (at + 1))))) (depth (forestAt table (at + sizeAt table at) (end - (at + sizeAt table at))))
+      → depth (forestAt table at (end - at)) ≡ max (suc (depth (forestAt table (at + 1) (at + rowsAt table at - (at + 1))))) (depth (forestAt table (at + rowsAt table at) (end - (at + rowsAt table at))))
   levels-here t = rw (t .is)
 
-  module _ (s : ℕ) (is : s ≡ sizeAt table at) where
+  module _ (s : ℕ) (is : s ≡ rowsAt table at) where
     pub walk-call : (level - 1 < level) × (Nests table (at + 1) (at + s - (at + 1)) × (at + 1 ≤ at + s) × (depth (forestAt table (at + 1) (at + s - (at + 1))) ≤ level - 1))
     walk-call = rw is (go (turn table at end nests l))
       where
-        go : Turn table at end → (level - 1 < level) × (Nests table (at + 1) (at + sizeAt table at - (at + 1)) × (at + 1 ≤ at + sizeAt table at) × (depth (forestAt table (at + 1) (at + sizeAt table at - (at + 1))) ≤ level - 1))
+        go : Turn table at end → (level - 1 < level) × (Nests table (at + 1) (at + rowsAt table at - (at + 1)) × (at + 1 ≤ at + rowsAt table at) × (depth (forestAt table (at + 1) (at + rowsAt table at - (at + 1))) ≤ level - 1))
         go t =
             let d = levels-here t in
             let w = t .some-rows in
@@ -35,7 +35,7 @@ module _ (table : List ℕ) (level at end : ℕ) (nests : Nests table at (end - 
     pub walk-rest : (at + s ≤ end) × Nests table (at + s) (end - (at + s)) × (depth (forestAt table (at + s) (end - (at + s))) ≤ level)
     walk-rest = rw is (go (turn table at end nests l))
       where
-        go : Turn table at end → (at + sizeAt table at ≤ end) × Nests table (at + sizeAt table at) (end - (at + sizeAt table at)) × (depth (forestAt table (at + sizeAt table at) (end - (at + sizeAt table at))) ≤ level)
+        go : Turn table at end → (at + rowsAt table at ≤ end) × Nests table (at + rowsAt table at) (end - (at + rowsAt table at)) × (depth (forestAt table (at + rowsAt table at) (end - (at + rowsAt table at))) ≤ level)
         go t = let d = levels-here t in (t .within, t .rest, omega arith)
 
 pub tree-call : (text names table : List ℕ) → isSound text names table ≡ true

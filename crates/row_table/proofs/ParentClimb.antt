@@ -12,7 +12,7 @@ use borrow.Author.Tests.{lt-ltb, le-ltb}
 use Rattle.tokenizer.proofs.Basics.{if-same}
 use Rattle.row_table.specs.Parents.{holder, parentAt}
 use Rattle.row_table.specs.Climb.{Climbs}
-use Rattle.datatype.specs.Table.{sizeAt, parentWordAt}
+use Rattle.datatype.specs.Table.{rowsAt, parentWordAt}
 
 module _ (table : List ℕ) (i : ℕ) where
   pub holder-none : holder table i 0 ≡ 0
@@ -21,20 +21,20 @@ module _ (table : List ℕ) (i : ℕ) where
 
   pub holder-first : holder table i 1 ≡ 0
   unfolding holder
-  holder-first = if-same (ltb i (0 + sizeAt table 0)) 0
+  holder-first = if-same (ltb i (0 + rowsAt table 0)) 0
 
-  pub holder-yes : (p : ℕ) → i < p + sizeAt table p → holder table i (suc p) ≡ p
+  pub holder-yes : (p : ℕ) → i < p + rowsAt table p → holder table i (suc p) ≡ p
   unfolding holder
-  holder-yes p h = rw (lt-ltb i (p + sizeAt table p) h)
+  holder-yes p h = rw (lt-ltb i (p + rowsAt table p) h)
 
-  pub holder-no : (p : ℕ) → p + sizeAt table p ≤ i → holder table i (suc p) ≡ holder table i p
+  pub holder-no : (p : ℕ) → p + rowsAt table p ≤ i → holder table i (suc p) ≡ holder table i p
   unfolding holder
-  holder-no p h = rw (le-ltb i (p + sizeAt table p) h)
+  holder-no p h = rw (le-ltb i (p + rowsAt table p) h)
 
   pub holder-low : (p : ℕ) → holder table i (suc p) ≤ p
   holder-low zero = omega (arith, holder-first)
   holder-low (suc p) =
-      elim (decLt i (suc p + sizeAt table (suc p))) [
+      elim (decLt i (suc p + rowsAt table (suc p))) [
         | yes h ↦ omega (arith, holder-yes (suc p) h)
         | no h ↦ omega (arith, holder-no (suc p) (omega arith), holder-low p)
       ]
@@ -42,12 +42,12 @@ module _ (table : List ℕ) (i : ℕ) where
 pub climb : (table : List ℕ) (i j k : ℕ) → j ≤ i → holder table i k ≡ holder table i (suc (holder table j k))
 climb table i j zero h = rw (holder-none table j, holder-none table i, holder-first table i)
 climb table i j (suc k) h =
-    elim (decLt j (k + sizeAt table k)) [
+    elim (decLt j (k + rowsAt table k)) [
       | yes l ↦ rw (holder-yes table j k l)
       | no l ↦ rw (holder-no table j k (omega arith), holder-no table i k (omega arith)) (climb table i j k h)
     ]
 
-pub holder-same : (table table′ : List ℕ) (i k : ℕ) → ((q : ℕ) → q < k → sizeAt table q ≡ sizeAt table′ q) → holder table i k ≡ holder table′ i k
+pub holder-same : (table table′ : List ℕ) (i k : ℕ) → ((q : ℕ) → q < k → rowsAt table q ≡ rowsAt table′ q) → holder table i k ≡ holder table′ i k
 unfolding holder
 holder-same table table′ i zero h = refl
 holder-same table table′ i (suc k) h = rw (h k (omega arith), holder-same table table′ i k (λ q l. h q (omega arith)))
@@ -72,7 +72,7 @@ module _ (table : List ℕ) (i : ℕ) where
     pub climb-end : p ≤ 0 → 0 ≡ parentAt table i
     climb-end h = let e : p ≡ 0 = omega arith in sym (c .so ∙ ap (λ (n : ℕ). holder table i (suc n)) e ∙ holder-first table i)
 
-    pub climb-found : (size : ℕ) → size ≡ sizeAt table p → i - p < size → p ≡ parentAt table i
+    pub climb-found : (size : ℕ) → size ≡ rowsAt table p → i - p < size → p ≡ parentAt table i
     climb-found size is h =
         let b = c .below in
         sym (c .so ∙ holder-yes table i p (omega arith))
@@ -87,7 +87,7 @@ module _ (table : List ℕ) (i : ℕ) where
           let low : holder table p p ≤ p - 1 = rw e at (holder-low table p (p - 1)) in
           omega (arith, is-parent)
 
-      pub climb-on : 0 < p → (size : ℕ) → size ≡ sizeAt table p → size ≤ i - p → ClimbSo table i q
+      pub climb-on : 0 < p → (size : ℕ) → size ≡ rowsAt table p → size ≤ i - p → ClimbSo table i q
       climb-on h size s l =
           let b = c .below in
           let e : holder table i (suc p) ≡ holder table i (suc q) =

@@ -12,7 +12,7 @@ use lib.ListN.{length}
 use lib.Dec.{T, eqb, eqb→eq}
 use Rattle.tokenizer.proofs.Basics.{and-l, and-r}
 use Rattle.datatype.specs.Tree.{Forest, ∅, node, count, mapForest, Row, Label, labelOf, labels}
-use Rattle.datatype.specs.Table.{rowWords, sizeAt, parentWordAt}
+use Rattle.datatype.specs.Table.{rowWords, rowsAt, parentWordAt}
 use Rattle.row_table.specs.Parents.{parentColumn, parentsFrom, parentsOf, parentedFrom, parented, withParent, parentsRight, parentAt}
 use Rattle.row_table.specs.Climb.{fitFrom, parentsFit}
 use Rattle.row_table.proofs.ParentClimb.{holder-same}
@@ -34,7 +34,7 @@ fit-at table (suc n) i k h l u =
     here = eqb (parentWordAt table i) (parentAt table i)
 
 module _ (table table′ : List ℕ) (fit : T (parentsFit table)) (fit′ : T (parentsFit table′)) where
-  pub words-fix : length table ≡ length table′ → ((k : ℕ) → k < length table / rowWords → sizeAt table k ≡ sizeAt table′ k)
+  pub words-fix : length table ≡ length table′ → ((k : ℕ) → k < length table / rowWords → rowsAt table k ≡ rowsAt table′ k)
       → (k : ℕ) → k < length table / rowWords → parentWordAt table k ≡ parentWordAt table′ k
   words-fix e same k h =
       fit-at table (length table / rowWords) 0 k (unfold parentsFit in fit) (omega arith) (omega arith)

@@ -11,7 +11,7 @@ use lib.ListN.{length, getD, set, length-set}
 use lib.Seq.{getD-set-same, getD-set-other}
 use lib.Dec.{eqb}
 use borrow.Author.Tests.{eq-eqb, ne-eqb}
-use Rattle.datatype.specs.Table.{rowWords, rowsLent, sizeAt, parentWordAt}
+use Rattle.datatype.specs.Table.{rowWords, rowsLent, rowsAt, parentWordAt}
 use Rattle.row_table.specs.Parents.{parentAt, parentsSet, withParents}
 use Rattle.row_table.specs.Climb.{Climbs, fitFrom, parentsFit}
 use Rattle.row_table.proofs.ParentClimb.{holder-none, holder-low, holder-same}
@@ -22,7 +22,7 @@ module _ (table : List ℕ) where
   set-length zero = refl
   set-length (suc i) = length-set (parentsSet table i) (rowWords * i + 11) (parentAt table i) ∙ set-length i
 
-  pub set-size : (n k : ℕ) → sizeAt (parentsSet table n) k ≡ sizeAt table k
+  pub set-size : (n k : ℕ) → rowsAt (parentsSet table n) k ≡ rowsAt table k
   unfolding parentsSet
   set-size zero k = refl
   set-size (suc i) k = getD-set-other (parentsSet table i) (rowWords * i + 11) (rowWords * k + 1) (parentAt table i) 0 (λ e. omega arith) ∙ set-size i k

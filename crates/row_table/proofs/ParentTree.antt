@@ -11,7 +11,7 @@ use lib.ListN.{length, drop, getD, set, length-append}
 use lib.Seq.{getD-drop}
 use Rattle.tokenizer.proofs.Basics.{skip, skip-word}
 use Rattle.datatype.specs.Tree.{Forest, ∅, node, count, Row}
-use Rattle.datatype.specs.Table.{rowWords, wordsOf, tableOf, viewOf, rowsLent, sizeAt, parentWordAt}
+use Rattle.datatype.specs.Table.{rowWords, wordsOf, tableOf, viewOf, rowsLent, rowsAt, parentWordAt}
 use Rattle.row_table.specs.Parents.{parentedFrom, parented, withParent, tableWith, holder, parentAt, parentsSet, withParents}
 use Rattle.datatype.proofs.Table.{length-table, view-table, table-view}
 use Rattle.row_table.proofs.ParentClimb.{holder-none, holder-yes, holder-no}
@@ -22,7 +22,7 @@ Stands table i f rest = drop (rowWords * i) table ≡ tableOf f ++ rest
 
 module _ (table : List ℕ) where
   module _ (i : ℕ) (r : Row) (kids next : Forest Row) (rest : List ℕ) (s : Stands table i (node r kids next) rest) where
-    pub row-size : sizeAt table i ≡ suc (count kids)
+    pub row-size : rowsAt table i ≡ suc (count kids)
     unfolding tableOf wordsOf
     row-size = sym (getD-drop (rowWords * i) table 1 0) ∙ ap (λ (l : List ℕ). getD l 1 0) s
 

@@ -18,7 +18,7 @@ use borrow.Author.Tests.{le-leb}
 use Rattle.tokenizer.specs.Text.{if_then_else_}
 use Rattle.tokenizer.proofs.Basics.{and-l, and-r, of-true}
 use Rattle.datatype.specs.Tree.{Forest, ∅, node, count, Row}
-use Rattle.datatype.specs.Table.{rowWords, rowOf, subtreeOf, tableOf, join, viewWith, viewOf, sizeAt}
+use Rattle.datatype.specs.Table.{rowWords, rowOf, rowsWord, tableOf, join, viewWith, viewOf, rowsAt}
 use Rattle.row_table.specs.Run.{rowAt, runAt, isRun, runOr, forestAt, Nests}
 use Rattle.datatype.proofs.Table.{length-table, view-table, table-view, view-enough}
 
@@ -43,17 +43,17 @@ stretch-end a m b l = rw (drop-take b m (drop a l), drop-drop b a l)
 
 -- the view of words that are some, with the parts viewed on their own
 view-step : (w : ℕ) (ws : List ℕ)
-    → viewOf (w ∷ ws) ≡ (if leb 1 (subtreeOf (w ∷ ws)) && leb (rowWords * subtreeOf (w ∷ ws)) (length (w ∷ ws)) then join (rowOf (w ∷ ws)) (viewOf (take (rowWords * (subtreeOf (w ∷ ws) - 1)) (drop rowWords (w ∷ ws)))) (viewOf (drop (rowWords * (subtreeOf (w ∷ ws) - 1)) (drop rowWords (w ∷ ws)))) else none)
+    → viewOf (w ∷ ws) ≡ (if leb 1 (rowsWord (w ∷ ws)) && leb (rowWords * rowsWord (w ∷ ws)) (length (w ∷ ws)) then join (rowOf (w ∷ ws)) (viewOf (take (rowWords * (rowsWord (w ∷ ws) - 1)) (drop rowWords (w ∷ ws)))) (viewOf (drop (rowWords * (rowsWord (w ∷ ws) - 1)) (drop rowWords (w ∷ ws)))) else none)
 unfolding viewOf viewWith
 view-step w ws =
     let behind = drop rowWords (w ∷ ws) in
-    let size = rowWords * (subtreeOf (w ∷ ws) - 1) in
+    let size = rowWords * (rowsWord (w ∷ ws) - 1) in
     rw (
       view-enough (length ws) (length (take size behind)) (take size behind) (omega (arith, length-take size behind, length-drop rowWords (w ∷ ws))) (omega arith),
       view-enough (length ws) (length (drop size behind)) (drop size behind) (omega (arith, length-drop size behind, length-drop rowWords (w ∷ ws))) (omega arith),
     )
 
-view-fits : (ws : List ℕ) (s : ℕ) → subtreeOf ws ≡ s → 1 ≤ s → rowWords * s ≤ length ws
+view-fits : (ws : List ℕ) (s : ℕ) → rowsWord ws ≡ s → 1 ≤ s → rowWords * s ≤ length ws
     → viewOf ws ≡ join (rowOf ws) (viewOf (take (rowWords * (s - 1)) (drop rowWords ws))) (viewOf (drop (rowWords * (s - 1)) (drop rowWords ws)))
 view-fits [] s e l h = absurd (omega arith)
 view-fits (w ∷ ws) s e l h = view-step w ws ∙ rw (e, le-leb 1 s l, le-leb (rowWords * s) (length (w ∷ ws)) h)
@@ -65,7 +65,7 @@ not-both a b c d h = go (leb a b && leb c d) refl
     go true e = absurd (h (leb→le a b (and-l (leb a b) (leb c d) (of-true _ e))) (leb→le c d (and-r (leb a b) (leb c d) (of-true _ e))))
     go false e = e
 
-view-unfit : (ws : List ℕ) (s : ℕ) → subtreeOf ws ≡ s → 1 ≤ length ws → (1 ≤ s → rowWords * s ≤ length ws → ⊥) → viewOf ws ≡ none
+view-unfit : (ws : List ℕ) (s : ℕ) → rowsWord ws ≡ s → 1 ≤ length ws → (1 ≤ s → rowWords * s ≤ length ws → ⊥) → viewOf ws ≡ none
 view-unfit [] s e l h = absurd (omega arith)
 view-unfit (w ∷ ws) s e l h = view-step w ws ∙ rw (e, not-both 1 s (rowWords * s) (length (w ∷ ws)) h)
 
@@ -113,20 +113,20 @@ module _ (table : List ℕ) (i n : ℕ) (room : rowWords * (i + n) ≤ length ta
       rw (e, d, drop-drop (rowWords * (s - 1)) rowWords (words table i n), stretch-end (rowWords * i) (rowWords * n) (rowWords + rowWords * (s - 1)) table)
 
   -- the first row's subtree fits: the run is its row over the run of its children, and the run behind it
-  pub run-step : 1 ≤ sizeAt table i → sizeAt table i ≤ n
-      → runAt table i n ≡ join (rowAt table i) (runAt table (i + 1) (sizeAt table i - 1)) (runAt table (i + sizeAt table i) (n - sizeAt table i))
+  pub run-step : 1 ≤ rowsAt table i → rowsAt table i ≤ n
+      → runAt table i n ≡ join (rowAt table i) (runAt table (i + 1) (rowsAt table i - 1)) (runAt table (i + rowsAt table i) (n - rowsAt table i))
   unfolding runAt words
   run-step l h =
       let long = words-long in
-      view-fits (words table i n) (sizeAt table i) (words-at 1 (omega arith)) l (omega arith)
-      ∙ rw (row-is, below-is (sizeAt table i) l h, behind-is (sizeAt table i) l h)
+      view-fits (words table i n) (rowsAt table i) (words-at 1 (omega arith)) l (omega arith)
+      ∙ rw (row-is, below-is (rowsAt table i) l h, behind-is (rowsAt table i) l h)
 
   -- else there is none
-  pub run-none : (1 ≤ sizeAt table i → sizeAt table i ≤ n → ⊥) → runAt table i n ≡ none
+  pub run-none : (1 ≤ rowsAt table i → rowsAt table i ≤ n → ⊥) → runAt table i n ≡ none
   unfolding runAt words
   run-none h =
       let long = words-long in
-      view-unfit (words table i n) (sizeAt table i) (words-at 1 (omega arith)) (omega arith) (λ l k. h l (omega arith))
+      view-unfit (words table i n) (rowsAt table i) (words-at 1 (omega arith)) (omega arith) (λ l k. h l (omega arith))
 
 -- no rows are the run of no trees
 pub no-rows : (table : List ℕ) (i : ℕ) → runAt table i 0 ≡ some ∅
@@ -155,23 +155,23 @@ forest-none table i = forest-of table i 0 ∅ (no-rows table i)
 
 -- a run that nests and is not empty: its first row, the run of that row's children, and the run behind its subtree
 pub record Split (table : List ℕ) (i n : ℕ) : Type 0 where
-  pub some-rows : 1 ≤ sizeAt table i
-  pub within : sizeAt table i ≤ n
-  pub kids : Nests table (i + 1) (sizeAt table i - 1)
-  pub rest : Nests table (i + sizeAt table i) (n - sizeAt table i)
-  pub is : forestAt table i n ≡ node (rowAt table i) (forestAt table (i + 1) (sizeAt table i - 1)) (forestAt table (i + sizeAt table i) (n - sizeAt table i))
+  pub some-rows : 1 ≤ rowsAt table i
+  pub within : rowsAt table i ≤ n
+  pub kids : Nests table (i + 1) (rowsAt table i - 1)
+  pub rest : Nests table (i + rowsAt table i) (n - rowsAt table i)
+  pub is : forestAt table i n ≡ node (rowAt table i) (forestAt table (i + 1) (rowsAt table i - 1)) (forestAt table (i + rowsAt table i) (n - rowsAt table i))
 
 join-run : (r : Row) (a b : Option (Forest Row)) → T (isRun (join r a b)) → T (isRun a) × T (isRun b) × (runOr (join r a b) ≡ node r (runOr a) (runOr b))
 join-run r none b t = absurd t
 join-run r (some k) none t = absurd t
 join-run r (some k) (some n) t = (tt, tt, refl)
 
-split-fits : (table : List ℕ) (i n : ℕ) → Nests table i n → 1 ≤ n → 1 ≤ sizeAt table i → sizeAt table i ≤ n → Split table i n
+split-fits : (table : List ℕ) (i n : ℕ) → Nests table i n → 1 ≤ n → 1 ≤ rowsAt table i → rowsAt table i ≤ n → Split table i n
 unfolding forestAt
 split-fits table i n h p l k =
     let e = run-step table i n (h .room) p l k in
     let room : rowWords * (i + n) ≤ length table = h .room in
-    let j = join-run (rowAt table i) (runAt table (i + 1) (sizeAt table i - 1)) (runAt table (i + sizeAt table i) (n - sizeAt table i)) (subst (λ (o : Option (Forest Row)). T (isRun o)) e (h .whole)) in
+    let j = join-run (rowAt table i) (runAt table (i + 1) (rowsAt table i - 1)) (runAt table (i + rowsAt table i) (n - rowsAt table i)) (subst (λ (o : Option (Forest Row)). T (isRun o)) e (h .whole)) in
     record {
       some-rows = l;
       within = k;
@@ -181,32 +181,32 @@ split-fits table i n h p l k =
     }
 
 pub split : (table : List ℕ) (i n : ℕ) → Nests table i n → 1 ≤ n → Split table i n
-split table i n h p = go (leb 1 (sizeAt table i) && leb (sizeAt table i) n) refl
+split table i n h p = go (leb 1 (rowsAt table i) && leb (rowsAt table i) n) refl
   where
-    go : (b : Bool) → (leb 1 (sizeAt table i) && leb (sizeAt table i) n) ≡ b → Split table i n
+    go : (b : Bool) → (leb 1 (rowsAt table i) && leb (rowsAt table i) n) ≡ b → Split table i n
     go true e =
         let t = of-true _ e in
-        split-fits table i n h p (leb→le 1 (sizeAt table i) (and-l (leb 1 (sizeAt table i)) (leb (sizeAt table i) n) t)) (leb→le (sizeAt table i) n (and-r (leb 1 (sizeAt table i)) (leb (sizeAt table i) n) t))
+        split-fits table i n h p (leb→le 1 (rowsAt table i) (and-l (leb 1 (rowsAt table i)) (leb (rowsAt table i) n) t)) (leb→le (rowsAt table i) n (and-r (leb 1 (rowsAt table i)) (leb (rowsAt table i) n) t))
     go false e = absurd (subst (λ (o : Option (Forest Row)). T (isRun o)) (run-none table i n (h .room) p (λ l k. clash l k e)) (h .whole))
       where
-        clash : 1 ≤ sizeAt table i → sizeAt table i ≤ n → (leb 1 (sizeAt table i) && leb (sizeAt table i) n) ≡ false → ⊥
-        clash l k e = let z : true ≡ false = sym (rw (le-leb 1 (sizeAt table i) l, le-leb (sizeAt table i) n k)) ∙ e in true≢false z
+        clash : 1 ≤ rowsAt table i → rowsAt table i ≤ n → (leb 1 (rowsAt table i) && leb (rowsAt table i) n) ≡ false → ⊥
+        clash l k e = let z : true ≡ false = sym (rw (le-leb 1 (rowsAt table i) l, le-leb (rowsAt table i) n k)) ∙ e in true≢false z
 
 -- the same in a loop's terms: a run from row at to row end, and its first tree, from row at to row at + its size
 pub record Turn (table : List ℕ) (at end : ℕ) : Type 0 where
-  pub some-rows : 1 ≤ sizeAt table at
-  pub within : at + sizeAt table at ≤ end
-  pub kids : Nests table (at + 1) (at + sizeAt table at - (at + 1))
-  pub rest : Nests table (at + sizeAt table at) (end - (at + sizeAt table at))
-  pub is : forestAt table at (end - at) ≡ node (rowAt table at) (forestAt table (at + 1) (at + sizeAt table at - (at + 1))) (forestAt table (at + sizeAt table at) (end - (at + sizeAt table at)))
+  pub some-rows : 1 ≤ rowsAt table at
+  pub within : at + rowsAt table at ≤ end
+  pub kids : Nests table (at + 1) (at + rowsAt table at - (at + 1))
+  pub rest : Nests table (at + rowsAt table at) (end - (at + rowsAt table at))
+  pub is : forestAt table at (end - at) ≡ node (rowAt table at) (forestAt table (at + 1) (at + rowsAt table at - (at + 1))) (forestAt table (at + rowsAt table at) (end - (at + rowsAt table at)))
 
 pub turn : (table : List ℕ) (at end : ℕ) → Nests table at (end - at) → at < end → Turn table at end
 turn table at end h l = go (split table at (end - at) h (omega arith))
   where
-    kids-size : at + sizeAt table at - (at + 1) ≡ sizeAt table at - 1
+    kids-size : at + rowsAt table at - (at + 1) ≡ rowsAt table at - 1
     kids-size = omega arith
 
-    rest-size : end - (at + sizeAt table at) ≡ end - at - sizeAt table at
+    rest-size : end - (at + rowsAt table at) ≡ end - at - rowsAt table at
     rest-size = omega arith
 
     go : Split table at (end - at) → Turn table at end

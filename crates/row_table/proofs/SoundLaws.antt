@@ -13,7 +13,7 @@ use Rattle.tokenizer.specs.Utf8.{isUtf8}
 use Rattle.tokenizer.proofs.Basics.{of-true}
 use Rattle.datatype.specs.Kind.{kinds, shapeOf}
 use Rattle.datatype.specs.Tree.{Forest, ∅, node, count, depth, Row, nameList, labels}
-use Rattle.datatype.specs.Table.{rowWords, wordsOf, tableOf, join, viewOf, sizeAt}
+use Rattle.datatype.specs.Table.{rowWords, wordsOf, tableOf, join, viewOf, rowsAt}
 use Rattle.row_table.specs.Sound.{Place, bare, idFits, rulesOf, rowsFit, placed, isSound}
 use Rattle.row_table.specs.Run.{rowAt, runAt, isRun, runOr, forestAt, Nests}
 use Rattle.row_table.specs.Check.{placeOf, belowOf, numbersFit, nameOk, zoneOk, ownFits, childrenFit, runFits}
@@ -54,20 +54,20 @@ module _ (text : List ℕ) (place : Place) (r : Row) (k : ℕ) (ek : k ≡ r .ki
   pub row-1 : kinds ≤ k → false ≡ ownFits text place r
   row-1 h = false-of (ownFits text place r) (λ t. let u = ltb→lt (r .kind) kinds (own-of text place r ∅ t .kind) in omega arith)
 
-  pub row-2 : (p s : ℕ) → p ≡ r .param → s ≡ r .scale → numbersFit k p s ≡ false → false ≡ ownFits text place r
-  row-2 p s a b e = false-of (ownFits text place r) (λ t. clash (numbersFit (r .kind) (r .param) (r .scale)) (rw (← ek, ← a, ← b) e) (own-of text place r ∅ t .numbers))
+  pub row-2 : (p s : ℕ) → p ≡ r .number → s ≡ r .scale → numbersFit k p s ≡ false → false ≡ ownFits text place r
+  row-2 p s a b e = false-of (ownFits text place r) (λ t. clash (numbersFit (r .kind) (r .number) (r .scale)) (rw (← ek, ← a, ← b) e) (own-of text place r ∅ t .numbers))
 
-  pub row-3 : (id : ℕ) → id ≡ r .id → idFits place id ≡ false → false ≡ ownFits text place r
-  row-3 id a e = false-of (ownFits text place r) (λ t. clash (idFits place (r .id)) (rw (← a) e) (own-of text place r ∅ t .id))
+  pub row-3 : (id : ℕ) → id ≡ r .unionId → idFits place id ≡ false → false ≡ ownFits text place r
+  row-3 id a e = false-of (ownFits text place r) (λ t. clash (idFits place (r .unionId)) (rw (← a) e) (own-of text place r ∅ t .unionId))
 
-  pub row-4 : (role home start size : ℕ) → role ≡ r .role → home ≡ r .home → start ≡ r .start → size ≡ r .size → nameOk text place role home start size ≡ false
+  pub row-4 : (role home start size : ℕ) → role ≡ r .role → home ≡ r .home → start ≡ r .nameStart → size ≡ r .nameLength → nameOk text place role home start size ≡ false
       → false ≡ ownFits text place r
   row-4 role home start size a b c d e =
-      false-of (ownFits text place r) (λ t. clash (nameOk text place (r .role) (r .home) (r .start) (r .size)) (rw (← a, ← b, ← c, ← d) e) (own-of text place r ∅ t .name))
+      false-of (ownFits text place r) (λ t. clash (nameOk text place (r .role) (r .home) (r .nameStart) (r .nameLength)) (rw (← a, ← b, ← c, ← d) e) (own-of text place r ∅ t .name))
 
-  pub row-5 : (p s id role home start size zs zz : ℕ) (z : Bool) → k < kinds → p ≡ r .param → s ≡ r .scale → numbersFit k p s ≡ true → id ≡ r .id → idFits place id ≡ true
-      → role ≡ r .role → home ≡ r .home → start ≡ r .start → size ≡ r .size → nameOk text place role home start size ≡ true
-      → zs ≡ r .zoneStart → zz ≡ r .zoneSize → z ≡ zoneOk text ((rulesOf (shapeOf k)) .zoned) zs zz → z ≡ ownFits text place r
+  pub row-5 : (p s id role home start size zs zz : ℕ) (z : Bool) → k < kinds → p ≡ r .number → s ≡ r .scale → numbersFit k p s ≡ true → id ≡ r .unionId → idFits place id ≡ true
+      → role ≡ r .role → home ≡ r .home → start ≡ r .nameStart → size ≡ r .nameLength → nameOk text place role home start size ≡ true
+      → zs ≡ r .zoneStart → zz ≡ r .zoneLength → z ≡ zoneOk text ((rulesOf (shapeOf k)) .zoned) zs zz → z ≡ ownFits text place r
   unfolding ownFits
   row-5 p s id role home start size zs zz z h a b en c ei d e f g em i j q =
       rw (← ek, ← a, ← b, ← c, ← d, ← e, ← f, ← g, ← i, ← j, lt-ltb k kinds h, en, ei, em) q
@@ -140,7 +140,7 @@ module _ (text : List ℕ) (place : Place) (level : ℕ) (table : List ℕ) (at 
       by-run none q = nothing
       by-run (some f) q = no-level text place f (let c = run-is table at (end - at) f room-here q .size in omega arith)
 
-  module _ (s : ℕ) (is : s ≡ sizeAt table at) where
+  module _ (s : ℕ) (is : s ≡ rowsAt table at) where
     turn-none : (1 ≤ s → s ≤ end - at → ⊥) → here ≡ false
     unfolding runFits
     turn-none h = rw (run-none table at (end - at) room-here (omega arith) (rw is at h))
@@ -208,12 +208,12 @@ module _ (text : List ℕ) (place : Place) (level : ℕ) (table : List ℕ) (at 
 
   -- a row that does not fit, whatever its size
   pub turn-row : (level ≡ 0 → ⊥) → ownFits text place (rowAt table at) ≡ false → here ≡ false
-  turn-row l e = by-size (eqb (sizeAt table at) 0) refl (leb (sizeAt table at) (end - at)) refl
+  turn-row l e = by-size (eqb (rowsAt table at) 0) refl (leb (rowsAt table at) (end - at)) refl
     where
-      by-size : (x : Bool) → eqb (sizeAt table at) 0 ≡ x → (y : Bool) → leb (sizeAt table at) (end - at) ≡ y → here ≡ false
-      by-size true x y f = turn-empty (sizeAt table at) refl (eqb-true (sizeAt table at) 0 x)
-      by-size false x true y = sized-row (sizeAt table at) refl (eqb-false (sizeAt table at) 0 x) (leb-true (sizeAt table at) (end - at) y) l e
-      by-size false x false y = turn-long (sizeAt table at) refl (leb-false (sizeAt table at) (end - at) y)
+      by-size : (x : Bool) → eqb (rowsAt table at) 0 ≡ x → (y : Bool) → leb (rowsAt table at) (end - at) ≡ y → here ≡ false
+      by-size true x y f = turn-empty (rowsAt table at) refl (eqb-true (rowsAt table at) 0 x)
+      by-size false x true y = sized-row (rowsAt table at) refl (eqb-false (rowsAt table at) 0 x) (leb-true (rowsAt table at) (end - at) y) l e
+      by-size false x false y = turn-long (rowsAt table at) refl (leb-false (rowsAt table at) (end - at) y)
 
   module _ (k : ℕ) (ek : k ≡ getD table (rowWords * at + 0) 0) where
     pub turn-kind : ownFits text place (rowAt table at) ≡ true → k < kinds
@@ -221,7 +221,7 @@ module _ (text : List ℕ) (place : Place) (level : ℕ) (table : List ℕ) (at 
     turn-kind o = rw ek (ltb→lt ((rowAt table at) .kind) kinds (own-of text place (rowAt table at) ∅ (of-true _ o) .kind))
 
     -- a row of one
-    module _ (s : ℕ) (is : s ≡ sizeAt table at) (one : s ≡ 1) (some-level : level ≡ 0 → ⊥) where
+    module _ (s : ℕ) (is : s ≡ rowsAt table at) (one : s ≡ 1) (some-level : level ≡ 0 → ⊥) where
       some-rows : s ≡ 0 → ⊥
       some-rows e = omega arith
 
@@ -271,11 +271,11 @@ module _ (text names table : List ℕ) where
   sound-left e = no (λ s. let u = sound-count text names table s in omega arith)
 
   -- the root's subtree
-  root-size : (s : SoundTree text names table) → sizeAt table 0 ≡ suc (count (s .kids))
+  root-size : (s : SoundTree text names table) → rowsAt table 0 ≡ suc (count (s .kids))
   unfolding tableOf wordsOf
   root-size s = ap (λ (t : List ℕ). getD t 1 0) (sym (table-view table (node (s .root) (s .kids) ∅) (s .view)))
 
-  pub sound-root : (n : ℕ) → n ≡ sizeAt table 0 → (n ≡ rows → ⊥) → false ≡ sound
+  pub sound-root : (n : ℕ) → n ≡ rowsAt table 0 → (n ≡ rows → ⊥) → false ≡ sound
   sound-root n e d = no (λ s. let u = sound-count text names table s in let v = root-size s in d (omega arith))
 
   pub sound-utf8 : isUtf8 text ≡ false → false ≡ sound
@@ -284,7 +284,7 @@ module _ (text names table : List ℕ) where
   pub sound-parents : parentsFit table ≡ false → false ≡ sound
   sound-parents e = no (λ s. clash (parentsFit table) e (rw (parents-view table (node (s .root) (s .kids) ∅) (s .view)) (s .parents)))
 
-  module _ (short : length text ≤ 16384) (listed : same names nameList ≡ true) (some-rows : rows ≡ 0 → ⊥) (few : rows ≤ 1024) (whole : length table ≡ rowWords * rows) (n : ℕ) (is : n ≡ sizeAt table 0) (root : n ≡ rows) (good : isUtf8 text ≡ true) (parents : parentsFit table ≡ true) where
+  module _ (short : length text ≤ 16384) (listed : same names nameList ≡ true) (some-rows : rows ≡ 0 → ⊥) (few : rows ≤ 1024) (whole : length table ≡ rowWords * rows) (n : ℕ) (is : n ≡ rowsAt table 0) (root : n ≡ rows) (good : isUtf8 text ≡ true) (parents : parentsFit table ≡ true) where
     names-are : names ≡ nameList
     names-are = same-eq names nameList (of-true _ listed)
 

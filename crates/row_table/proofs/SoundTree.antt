@@ -29,8 +29,8 @@ pub record RowFits (place : Place) (l : Label) (kids : Forest Label) : Type 0 wh
   pub kind : l .kind < kinds
   pub arity : T (arityFits ((rulesOf (shapeOf (l .kind))) .children) (length (roots kids)))
   pub role : T (roleFits place (l .role))
-  pub id : T (idFits place (l .id))
-  pub param : l .param < (rulesOf (shapeOf (l .kind))) .params
+  pub unionId : T (idFits place (l .unionId))
+  pub number : l .number < (rulesOf (shapeOf (l .kind))) .params
   pub scale : l .scale < (rulesOf (shapeOf (l .kind))) .scales
   pub name : T (nameFits place (l .name))
   pub zone : T (zoneFits ((rulesOf (shapeOf (l .kind))) .zoned) (l .zone))
@@ -83,8 +83,8 @@ rulesAt l = rulesOf (shapeOf (l .kind))
 module _ (place : Place) (l : Label) (kids : Forest Label) where
   abbrev Clauses : Type 0
   Clauses =
-      Nine (ltb (l .kind) kinds) (arityFits ((rulesAt l) .children) (length (roots kids))) (roleFits place (l .role)) (idFits place (l .id))
-      (ltb (l .param) ((rulesAt l) .params)) (ltb (l .scale) ((rulesAt l) .scales)) (nameFits place (l .name))
+      Nine (ltb (l .kind) kinds) (arityFits ((rulesAt l) .children) (length (roots kids))) (roleFits place (l .role)) (idFits place (l .unionId))
+      (ltb (l .number) ((rulesAt l) .params)) (ltb (l .scale) ((rulesAt l) .scales)) (nameFits place (l .name))
       (zoneFits ((rulesAt l) .zoned) (l .zone)) (shapeFits (shapeOf (l .kind)) l kids)
 
   from-clauses : Clauses → RowFits place l kids
@@ -93,8 +93,8 @@ module _ (place : Place) (l : Label) (kids : Forest Label) where
         kind = ltb→lt (l .kind) kinds (n .t1);
         arity = n .t2;
         role = n .t3;
-        id = n .t4;
-        param = ltb→lt (l .param) ((rulesAt l) .params) (n .t5);
+        unionId = n .t4;
+        number = ltb→lt (l .number) ((rulesAt l) .params) (n .t5);
         scale = ltb→lt (l .scale) ((rulesAt l) .scales) (n .t6);
         name = n .t7;
         zone = n .t8;
@@ -107,8 +107,8 @@ module _ (place : Place) (l : Label) (kids : Forest Label) where
         t1 = lt→ltb (l .kind) kinds (r .kind);
         t2 = r .arity;
         t3 = r .role;
-        t4 = r .id;
-        t5 = lt→ltb (l .param) ((rulesAt l) .params) (r .param);
+        t4 = r .unionId;
+        t5 = lt→ltb (l .number) ((rulesAt l) .params) (r .number);
         t6 = lt→ltb (l .scale) ((rulesAt l) .scales) (r .scale);
         t7 = r .name;
         t8 = r .zone;
@@ -117,11 +117,11 @@ module _ (place : Place) (l : Label) (kids : Forest Label) where
 
   pub row-fits : T (rowFits place l kids) → RowFits place l kids
   unfolding rowFits
-  row-fits t = from-clauses (nine (ltb (l .kind) kinds) (arityFits ((rulesAt l) .children) (length (roots kids))) (roleFits place (l .role)) (idFits place (l .id)) (ltb (l .param) ((rulesAt l) .params)) (ltb (l .scale) ((rulesAt l) .scales)) (nameFits place (l .name)) (zoneFits ((rulesAt l) .zoned) (l .zone)) (shapeFits (shapeOf (l .kind)) l kids) t)
+  row-fits t = from-clauses (nine (ltb (l .kind) kinds) (arityFits ((rulesAt l) .children) (length (roots kids))) (roleFits place (l .role)) (idFits place (l .unionId)) (ltb (l .number) ((rulesAt l) .params)) (ltb (l .scale) ((rulesAt l) .scales)) (nameFits place (l .name)) (zoneFits ((rulesAt l) .zoned) (l .zone)) (shapeFits (shapeOf (l .kind)) l kids) t)
 
   pub fits-row : RowFits place l kids → T (rowFits place l kids)
   unfolding rowFits
-  fits-row r = all-nine (ltb (l .kind) kinds) (arityFits ((rulesAt l) .children) (length (roots kids))) (roleFits place (l .role)) (idFits place (l .id)) (ltb (l .param) ((rulesAt l) .params)) (ltb (l .scale) ((rulesAt l) .scales)) (nameFits place (l .name)) (zoneFits ((rulesAt l) .zoned) (l .zone)) (shapeFits (shapeOf (l .kind)) l kids) (to-clauses r)
+  fits-row r = all-nine (ltb (l .kind) kinds) (arityFits ((rulesAt l) .children) (length (roots kids))) (roleFits place (l .role)) (idFits place (l .unionId)) (ltb (l .number) ((rulesAt l) .params)) (ltb (l .scale) ((rulesAt l) .scales)) (nameFits place (l .name)) (zoneFits ((rulesAt l) .zoned) (l .zone)) (shapeFits (shapeOf (l .kind)) l kids) (to-clauses r)
 
 -- ---- a run of rows that fit
 

@@ -12,7 +12,7 @@ use borrow.Author.Tests.{le-leb, lt-leb, lt-ltb, le-ltb}
 use Rattle.tokenizer.specs.Text.{if_then_else_}
 use Rattle.datatype.specs.Kind.{has, idsFit}
 use Rattle.datatype.specs.Tree.{Forest, ∅, node, roots, Row}
-use Rattle.datatype.specs.Table.{rowWords, sizeAt}
+use Rattle.datatype.specs.Table.{rowWords, rowsAt}
 use Rattle.row_table.specs.Run.{rowAt, forestAt, Nests}
 use Rattle.row_table.specs.Ids.{isKept, keepId, freshIds}
 use Rattle.row_table.specs.UnionFields.{siblingIds, allFit, typeIdsFit}
@@ -59,7 +59,7 @@ module _ (table : List ℕ) (first end : ℕ) where
       one-less = let e = m .enough in omega arith
 
       turned : siblingIds (m .left) table at end
-          ≡ (if leb (rowWords * (at + 1)) (length table) && leb 1 (sizeAt table at) then Option·map (λ ids. getD table (rowWords * at + 3) 0 ∷ ids) (siblingIds (m .left - 1) table (at + sizeAt table at) end) else none)
+          ≡ (if leb (rowWords * (at + 1)) (length table) && leb 1 (rowsAt table at) then Option·map (λ ids. getD table (rowWords * at + 3) 0 ∷ ids) (siblingIds (m .left - 1) table (at + rowsAt table at) end) else none)
       unfolding siblingIds
       turned = ap (λ (f : ℕ). siblingIds f table at end) one-less ∙ rw (lt-leb end at l)
 
@@ -70,7 +70,7 @@ module _ (table : List ℕ) (first end : ℕ) where
         pub met-row : rowWords * (at + 1) ≤ length table
         met-row = omega arith
 
-        module _ (s : ℕ) (q : s ≡ sizeAt table at) where
+        module _ (s : ℕ) (q : s ≡ rowsAt table at) where
           pub met-empty : s ≡ 0 → false ≡ typeIdsFit table first end
           met-empty z = sym (m .so ∙ rw (turned, le-leb (rowWords * (at + 1)) (length table) met-row, ← q, z))
 
@@ -100,13 +100,13 @@ module _ (table : List ℕ) (first end : ℕ) where
 -- ---- where the rows nest, they are the ids of the trees
 
 abbrev rootIds : List ℕ → ℕ → ℕ → List ℕ
-rootIds table at end = map (λ r. r .id) (roots (forestAt table at (end - at)))
+rootIds table at end = map (λ r. r .unionId) (roots (forestAt table at (end - at)))
 
 sibling-step : (f : ℕ) (table : List ℕ) (at end : ℕ) → rowWords * (at + 1) ≤ length table → at < end → Turn table at end
-    → siblingIds f table (at + sizeAt table at) end ≡ some (rootIds table (at + sizeAt table at) end) → siblingIds (suc f) table at end ≡ some (rootIds table at end)
+    → siblingIds f table (at + rowsAt table at) end ≡ some (rootIds table (at + rowsAt table at) end) → siblingIds (suc f) table at end ≡ some (rootIds table at end)
 unfolding siblingIds rowAt
 sibling-step f table at end m l t i =
-    rw (lt-leb end at l, le-leb (rowWords * (at + 1)) (length table) m, le-leb 1 (sizeAt table at) (t .some-rows), i, t .is)
+    rw (lt-leb end at l, le-leb (rowWords * (at + 1)) (length table) m, le-leb 1 (rowsAt table at) (t .some-rows), i, t .is)
 
 sibling-roots : (f : ℕ) (table : List ℕ) (at end : ℕ) → Nests table at (end - at) → at ≤ end → end - at ≤ f → siblingIds f table at end ≡ some (rootIds table at end)
 unfolding siblingIds
@@ -126,8 +126,8 @@ sibling-roots (suc f) table at end n l h = elim (decLt at end) [ yes k ↦ more 
         let m = n .room in
         let w = t .within in
         let o = t .some-rows in
-        sibling-step f table at end (omega arith) k t (ih (at + sizeAt table at) (t .rest) (t .within) (omega arith))
+        sibling-step f table at end (omega arith) k t (ih (at + rowsAt table at) (t .rest) (t .within) (omega arith))
 
-pub type-ids-fit : (table : List ℕ) (first end : ℕ) → Nests table first (end - first) → first ≤ end → typeIdsFit table first end ≡ idsFit (map (λ r. r .id) (roots (forestAt table first (end - first))))
+pub type-ids-fit : (table : List ℕ) (first end : ℕ) → Nests table first (end - first) → first ≤ end → typeIdsFit table first end ≡ idsFit (map (λ r. r .unionId) (roots (forestAt table first (end - first))))
 unfolding typeIdsFit
 type-ids-fit table first end n l = rw (sibling-roots (end - first) table first end n l (omega arith))

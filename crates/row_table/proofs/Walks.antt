@@ -11,7 +11,7 @@ use lib.ListN.{getD}
 use lib.Dec.{T}
 use Rattle.tokenizer.proofs.Basics.{and-l, and-r}
 use Rattle.datatype.specs.Tree.{Forest, node, Row, Label, nameOf, zoneOf, labelOf, labels}
-use Rattle.datatype.specs.Table.{rowWords, sizeAt}
+use Rattle.datatype.specs.Table.{rowWords, rowsAt}
 use Rattle.row_table.specs.Sound.{Place, namePlaced, zonePlaced, placed, rowsFit}
 use Rattle.row_table.specs.Run.{rowAt, forestAt}
 use Rattle.row_table.proofs.Runs.{Turn}
@@ -19,10 +19,10 @@ use Rattle.row_table.proofs.SoundTree.{RowFits, rulesAt, rows-fit}
 
 module _ (text names table : List ℕ) (at end : ℕ) (t : Turn table at end) where
   abbrev kidsRun : Forest Row
-  kidsRun = forestAt table (at + 1) (at + sizeAt table at - (at + 1))
+  kidsRun = forestAt table (at + 1) (at + rowsAt table at - (at + 1))
 
   abbrev restRun : Forest Row
-  restRun = forestAt table (at + sizeAt table at) (end - (at + sizeAt table at))
+  restRun = forestAt table (at + rowsAt table at) (end - (at + rowsAt table at))
 
   abbrev label : Label
   label = labelOf text names (rowAt table at)
@@ -59,11 +59,11 @@ module _ (text names table : List ℕ) (i : ℕ) where
   unfolding labelOf rowAt
   role-word = refl
 
-  pub id-word : (labelOf text names (rowAt table i)) .id ≡ getD table (rowWords * i + 3) 0
+  pub id-word : (labelOf text names (rowAt table i)) .unionId ≡ getD table (rowWords * i + 3) 0
   unfolding labelOf rowAt
   id-word = refl
 
-  pub param-word : (labelOf text names (rowAt table i)) .param ≡ getD table (rowWords * i + 4) 0
+  pub param-word : (labelOf text names (rowAt table i)) .number ≡ getD table (rowWords * i + 4) 0
   unfolding labelOf rowAt
   param-word = refl
 

@@ -73,10 +73,10 @@ numbersFit k param scale =
 unfoldable pub ownFits : List ℕ → Place → Row → Bool
 ownFits text place r =
     ltb (r .kind) kinds
-    && numbersFit (r .kind) (r .param) (r .scale)
-    && idFits place (r .id)
-    && nameOk text place (r .role) (r .home) (r .start) (r .size)
-    && zoneOk text ((rulesOf (shapeOf (r .kind))) .zoned) (r .zoneStart) (r .zoneSize)
+    && numbersFit (r .kind) (r .number) (r .scale)
+    && idFits place (r .unionId)
+    && nameOk text place (r .role) (r .home) (r .nameStart) (r .nameLength)
+    && zoneOk text ((rulesOf (shapeOf (r .kind))) .zoned) (r .zoneStart) (r .zoneLength)
 
 -- Map's entries: a non-null Struct of two whose first is non-null.
 abbrev pub entriesOk : Forest Row → Bool
@@ -98,7 +98,7 @@ overKids fixed kids = true
 overKids list kids = true
 overKids fixedList kids = true
 overKids struct kids = true
-overKids union kids = idsFit (map (λ c. c .id) (roots kids))
+overKids union kids = idsFit (map (λ c. c .unionId) (roots kids))
 overKids dictionary kids = true
 overKids decimal kids = true
 overKids mapping kids = entriesOk kids

@@ -6,7 +6,7 @@ use lib.ListN.{length, set}
 use lib.Dec.{ltb, eqb}
 use Rattle.tokenizer.specs.Text.{if_then_else_}
 use Rattle.datatype.specs.Tree.{Forest, ∅, node, count, Row}
-use Rattle.datatype.specs.Table.{rowWords, tableOf, rowsLent, sizeAt}
+use Rattle.datatype.specs.Table.{rowWords, tableOf, rowsLent, rowsAt}
 
 -- ---- of a run of trees
 
@@ -29,14 +29,14 @@ withParent p r =
     record {
       kind = r .kind;
       role = r .role;
-      id = r .id;
-      param = r .param;
+      unionId = r .unionId;
+      number = r .number;
       scale = r .scale;
       home = r .home;
-      start = r .start;
-      size = r .size;
+      nameStart = r .nameStart;
+      nameLength = r .nameLength;
       zoneStart = r .zoneStart;
-      zoneSize = r .zoneSize;
+      zoneLength = r .zoneLength;
       parent = p;
     }
 
@@ -64,7 +64,7 @@ unfoldable pub holder : List ℕ → ℕ → ℕ → ℕ
 holder table i zero = 0
 holder table i (suc p) =
     let before = holder table i p in
-    if ltb i (p + sizeAt table p) then p else before
+    if ltb i (p + rowsAt table p) then p else before
 
 -- The parent of row i: the last row before it whose subtree holds it; 0 for the root.
 abbrev pub parentAt : List ℕ → ℕ → ℕ

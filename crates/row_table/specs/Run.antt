@@ -15,14 +15,14 @@ rowAt table i =
     record {
       kind = getD table (rowWords * i + 0) 0;
       role = getD table (rowWords * i + 2) 0;
-      id = getD table (rowWords * i + 3) 0;
-      param = getD table (rowWords * i + 4) 0;
+      unionId = getD table (rowWords * i + 3) 0;
+      number = getD table (rowWords * i + 4) 0;
       scale = getD table (rowWords * i + 5) 0;
       home = getD table (rowWords * i + 6) 0;
-      start = getD table (rowWords * i + 7) 0;
-      size = getD table (rowWords * i + 8) 0;
+      nameStart = getD table (rowWords * i + 7) 0;
+      nameLength = getD table (rowWords * i + 8) 0;
       zoneStart = getD table (rowWords * i + 9) 0;
-      zoneSize = getD table (rowWords * i + 10) 0;
+      zoneLength = getD table (rowWords * i + 10) 0;
       parent = getD table (rowWords * i + 11) 0;
     }
 

@@ -8,6 +8,7 @@ use lib.Dec.{leb, ltb, eqb}
 use Rattle.tokenizer.specs.Text.{if_then_else_, same, isEmpty}
 use Rattle.tokenizer.specs.Answer.{Out, done, refuse}
 use Rattle.tokenizer.specs.Utf8.{isUtf8}
+use Rattle.datatype.specs.Limits.{maxText, maxRows, maxLevels}
 use Rattle.datatype.specs.Kind.{Shape, leaf, timestamp, time, interval, fixed, list, fixedList, struct, union, dictionary, decimal, mapping, runEnds, kinds, shapeOf, unitFits, decimalFits, entriesRefusal, idsFit}
 use Rattle.datatype.specs.Tree.{Forest, ∅, node, count, roots, depth, Row, Label, nameList, labels}
 use Rattle.datatype.specs.Table.{viewOf, treeOf}
@@ -95,7 +96,7 @@ abbrev pub rolesOf : List Label → List ℕ
 rolesOf ls = map (λ l. l .role) ls
 
 abbrev pub idsOf : List Label → List ℕ
-idsOf ls = map (λ l. l .id) ls
+idsOf ls = map (λ l. l .unionId) ls
 
 -- Map's child is a non-null Struct of two whose first is non-null.
 abbrev pub entriesFit : Forest Label → Bool
@@ -112,7 +113,7 @@ runEndsFit (node l kids next) = eqb (l .role) 2
 unfoldable pub shapeFits : Shape → Label → Forest Label → Bool
 shapeFits leaf l kids = true
 shapeFits timestamp l kids = true
-shapeFits time l kids = unitFits (l .kind) (l .param)
+shapeFits time l kids = unitFits (l .kind) (l .number)
 shapeFits interval l kids = true
 shapeFits fixed l kids = true
 shapeFits list l kids = true
@@ -120,7 +121,7 @@ shapeFits fixedList l kids = true
 shapeFits struct l kids = true
 shapeFits union l kids = idsFit (idsOf (roots kids))
 shapeFits dictionary l kids = true
-shapeFits decimal l kids = decimalFits (l .kind) (l .param) (l .scale)
+shapeFits decimal l kids = decimalFits (l .kind) (l .number) (l .scale)
 shapeFits mapping l kids = entriesFit kids
 shapeFits runEnds l kids = runEndsFit kids
 
@@ -131,8 +132,8 @@ rowFits place l kids =
     ltb (l .kind) kinds
     && arityFits ((rulesOf shape) .children) (length (roots kids))
     && roleFits place (l .role)
-    && idFits place (l .id)
-    && ltb (l .param) ((rulesOf shape) .params)
+    && idFits place (l .unionId)
+    && ltb (l .number) ((rulesOf shape) .params)
     && ltb (l .scale) ((rulesOf shape) .scales)
     && nameFits place (l .name)
     && zoneFits ((rulesOf shape) .zoned) (l .zone)
@@ -153,12 +154,12 @@ isListed start size = (eqb start 0 && eqb size 4) || (eqb start 4 && eqb size 8)
 -- or home 2 and one of the three parts.
 unfoldable pub namePlaced : List ℕ → Row → Bool
 namePlaced text r =
-    if eqb (r .role) 0 then eqb (r .home) 0 && eqb (r .start) 0 && eqb (r .size) 0
-    else ((eqb (r .home) 1 && leb 1 (r .size) && leb (r .start + r .size) (length text)) || (eqb (r .home) 2 && isListed (r .start) (r .size)))
+    if eqb (r .role) 0 then eqb (r .home) 0 && eqb (r .nameStart) 0 && eqb (r .nameLength) 0
+    else ((eqb (r .home) 1 && leb 1 (r .nameLength) && leb (r .nameStart + r .nameLength) (length text)) || (eqb (r .home) 2 && isListed (r .nameStart) (r .nameLength)))
 
 -- A zone lies inside the text; with length 0 there is none, and its start is 0.
 unfoldable pub zonePlaced : List ℕ → Row → Bool
-zonePlaced text r = if eqb (r .zoneSize) 0 then eqb (r .zoneStart) 0 else leb (r .zoneStart + r .zoneSize) (length text)
+zonePlaced text r = if eqb (r .zoneLength) 0 then eqb (r .zoneStart) 0 else leb (r .zoneStart + r .zoneLength) (length text)
 
 unfoldable pub placed : List ℕ → Forest Row → Bool
 placed text ∅ = true
@@ -171,11 +172,11 @@ placed text (node r kids next) = namePlaced text r && zonePlaced text r && place
 unfoldable pub viewSound : List ℕ → List ℕ → Option (Forest Row) → Bool
 viewSound text names none = false
 viewSound text names (some f) =
-    eqb (length (roots f)) 1 && leb (count f) 1024 && leb (depth f) 64 && placed text f && rowsFit bare (labels text names f) && parentsRight 0 0 f
+    eqb (length (roots f)) 1 && leb (count f) maxRows && leb (depth f) maxLevels && placed text f && rowsFit bare (labels text names f) && parentsRight 0 0 f
 
 -- Whether text, name list and row words are a sound tree.
 unfoldable pub isSound : List ℕ → List ℕ → List ℕ → Bool
-isSound text names table = leb (length text) 16384 && isUtf8 text && same names nameList && viewSound text names (viewOf table)
+isSound text names table = leb (length text) maxText && isUtf8 text && same names nameList && viewSound text names (viewOf table)
 
 -- ---- levels
 
@@ -186,7 +187,7 @@ levelsUpTo most (some f) = min (depth f) (suc most)
 
 -- How many levels the rows of a table have, by their subtrees alone: 0 where they do not nest, or have more than 64.
 unfoldable pub levelsOf : List ℕ → ℕ
-levelsOf table = let n = levelsUpTo 64 (viewOf table) in if leb n 64 then n else 0
+levelsOf table = let n = levelsUpTo maxLevels (viewOf table) in if leb n maxLevels then n else 0
 
 -- The depth of a sound tree, else 17.
 

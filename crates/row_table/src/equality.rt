@@ -10,10 +10,10 @@ use datatype::Field;
 use datatype::equal_bytes;
 use datatype::equal_words;
 use datatype::rows::HOME;
+use datatype::rows::NAME_LENGTH;
+use datatype::rows::NAME_START;
 use datatype::rows::ROW_WORDS;
-use datatype::rows::SIZE;
-use datatype::rows::START;
-use datatype::rows::ZONE_SIZE;
+use datatype::rows::ZONE_LENGTH;
 use datatype::rows::ZONE_START;
 use datatype::zone;
 
@@ -24,8 +24,8 @@ fn name_at<'a>(text: &'a [u8], names: &'a [u8], rows: &[u32], i: usize) -> &'a [
 {
     let field = Field {
         home: word(rows, i, HOME),
-        start: word(rows, i, START),
-        size: word(rows, i, SIZE),
+        start: word(rows, i, NAME_START),
+        size: word(rows, i, NAME_LENGTH),
     };
     field.name(text, names)
 }
@@ -35,7 +35,7 @@ fn zone_at<'a>(text: &'a [u8], rows: &[u32], i: usize) -> &'a [u8]
     requires { ⌜ rowWords * (i + 1) ≤ length (now rows) ⌝ }
     ensures { λ r. ⌜ now r ≡ zoneOf (now (text .entry)) (getD (now (rows .entry)) (rowWords * i + 9) 0) (getD (now (rows .entry)) (rowWords * i + 10) 0) ⌝ }
 {
-    zone(text, word(rows, i, ZONE_START), word(rows, i, ZONE_SIZE))
+    zone(text, word(rows, i, ZONE_START), word(rows, i, ZONE_LENGTH))
 }
 
 // Whether row i of one tree and row i of the other say the same.

@@ -11,7 +11,7 @@ ghost use Rattle.row_table.specs.Ids.{bit, isKept, keepId};
 use crate::rows::subtree;
 use crate::rows::wide;
 use crate::rows::word;
-use datatype::rows::ID;
+use datatype::rows::UNION_ID;
 
 // Two to the power k.
 fn power(k: usize) -> u8
@@ -48,12 +48,12 @@ pub(crate) fn keep(seen: &mut [u8; 16], id: usize)
 // Whether the union ids of siblings, rows first to end, are from 0 to 127 and distinct.
 pub(crate) fn ids_fit(rows: &[u32], first: usize, end: usize) -> bool
     requires { ⌜ Nests (now rows) first (end - first) × (first ≤ end) ⌝ }
-    ensures { λ r. ⌜ r ≡ idsFit (map (λ c. c .id) (roots (forestAt (now (rows .entry)) first (end - first)))) ⌝ }
+    ensures { λ r. ⌜ r ≡ idsFit (map (λ c. c .unionId) (roots (forestAt (now (rows .entry)) first (end - first)))) ⌝ }
 {
     let mut seen = [0u8; 16];
     let mut at = first;
     while at < end {
-        let id = wide(word(rows, at, ID));
+        let id = wide(word(rows, at, UNION_ID));
         if 128 <= id {
             return false;
         }

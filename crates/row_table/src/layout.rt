@@ -17,6 +17,7 @@ use datatype::kind::RUN_END_ENCODED;
 use datatype::kind::UINT64;
 use datatype::rows::KIND;
 use datatype::rows::ROW_WORDS;
+use tokenizer::refusal;
 
 // Whether a row that is asked something (0 anything, 1 a dictionary key, 2 run ends) may have a kind.
 fn kind_allowed(asked: u32, kind: u32) -> bool
@@ -69,5 +70,5 @@ pub fn verdict(text: &[u8], names: &[u8], rows: &[u32]) -> Verdict
     if is_sound(text, names, rows) {
         return scan_rows(rows);
     }
-    Verdict::Refused(17)
+    Verdict::Refused(refusal::NOT_SOUND)
 }

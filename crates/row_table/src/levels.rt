@@ -2,6 +2,7 @@
 ghost use mathlib.Core.Path.{_≡_};
 ghost use Prim.Native.Nat.{_+_, _-_, _*_, _≤_, max};
 ghost use lib.ListN.{length};
+ghost use Rattle.datatype.specs.Limits.{maxLevels};
 ghost use Rattle.datatype.specs.Table.{rowWords};
 ghost use Rattle.row_table.specs.Sound.{levelsUpTo, levelsOf, depthOf, depthMeans};
 ghost use Rattle.row_table.specs.Run.{runAt};
@@ -10,6 +11,7 @@ use crate::rows::subtree;
 use crate::sound::is_sound;
 use datatype::rows::MAX_LEVELS;
 use datatype::rows::ROW_WORDS;
+use tokenizer::refusal;
 
 // The greater of two numbers.
 fn greater(a: usize, b: usize) -> usize
@@ -23,7 +25,7 @@ fn greater(a: usize, b: usize) -> usize
 
 // How many levels rows start to end have, where they nest and have at most so many; one more than these else.
 fn levels(rows: &[u32], most: usize, start: usize, end: usize) -> usize
-    requires { ⌜ (rowWords * end ≤ length (now rows)) × (start ≤ end) × (most ≤ 64) ⌝ }
+    requires { ⌜ (rowWords * end ≤ length (now rows)) × (start ≤ end) × (most ≤ maxLevels) ⌝ }
     ensures { λ r. ⌜ r ≡ levelsUpTo most (runAt (now (rows .entry)) start (end - start)) ⌝ }
 {
     let mut deepest = 0;
@@ -71,5 +73,5 @@ pub fn depth(text: &[u8], names: &[u8], rows: &[u32]) -> Depth
     if is_sound(text, names, rows) {
         return Depth::Levels(levels_of(rows));
     }
-    Depth::Refused(17)
+    Depth::Refused(refusal::NOT_SOUND)
 }

@@ -91,13 +91,13 @@ fn is_listed(start: u32, size: u32) -> bool
     ensures { λ r. ⌜ r ≡ isListed start size ⌝ }
 {
     if start == Field::LIST_FIELD_START {
-        return size == Field::LIST_FIELD_SIZE;
+        return size == Field::LIST_FIELD_LENGTH;
     }
     if start == Field::REE_RUN_ENDS_START {
-        return size == Field::REE_RUN_ENDS_SIZE;
+        return size == Field::REE_RUN_ENDS_LENGTH;
     }
     if start == Field::REE_VALUES_START {
-        return size == Field::REE_VALUES_SIZE;
+        return size == Field::REE_VALUES_LENGTH;
     }
     false
 }

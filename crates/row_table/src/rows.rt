@@ -2,9 +2,9 @@
 ghost use mathlib.Core.Path.{_≡_};
 ghost use Prim.Native.Nat.{_+_, _*_, _≤_, _<_};
 ghost use lib.ListN.{length, getD};
-ghost use Rattle.datatype.specs.Table.{rowWords, sizeAt};
+ghost use Rattle.datatype.specs.Table.{rowWords, rowsAt};
 use datatype::rows::ROW_WORDS;
-use datatype::rows::SUBTREE;
+use datatype::rows::ROWS;
 
 // A word as a number of the machine's width.
 pub(crate) fn wide(x: u32) -> usize
@@ -24,7 +24,7 @@ pub(crate) fn word(rows: &[u32], i: usize, k: usize) -> u32
 // How many rows the subtree of row i has, itself included.
 pub(crate) fn subtree(rows: &[u32], i: usize) -> usize
     requires { ⌜ rowWords * (i + 1) ≤ length (now rows) ⌝ }
-    ensures { λ r. ⌜ r ≡ sizeAt (now (rows .entry)) i ⌝ }
+    ensures { λ r. ⌜ r ≡ rowsAt (now (rows .entry)) i ⌝ }
 {
-    wide(word(rows, i, SUBTREE))
+    wide(word(rows, i, ROWS))
 }

@@ -20,18 +20,18 @@ use crate::rules::below;
 use crate::rules::numbers_fit;
 use datatype::kind::KINDS;
 use datatype::rows::HOME;
-use datatype::rows::ID;
 use datatype::rows::KIND;
 use datatype::rows::MAX_LEVELS;
 use datatype::rows::MAX_ROWS;
 use datatype::rows::MAX_TEXT;
-use datatype::rows::PARAM;
+use datatype::rows::NAME_LENGTH;
+use datatype::rows::NAME_START;
+use datatype::rows::NUMBER;
 use datatype::rows::ROLE;
 use datatype::rows::ROW_WORDS;
 use datatype::rows::SCALE;
-use datatype::rows::SIZE;
-use datatype::rows::START;
-use datatype::rows::ZONE_SIZE;
+use datatype::rows::UNION_ID;
+use datatype::rows::ZONE_LENGTH;
 use datatype::rows::ZONE_START;
 
 // Whether the union id is one of a row in a place.
@@ -56,10 +56,10 @@ fn row_fits(text: &[u8], rows: &[u32], place: u32, i: usize) -> bool
     if KINDS <= kind {
         return false;
     }
-    if !numbers_fit(kind, word(rows, i, PARAM), word(rows, i, SCALE)) {
+    if !numbers_fit(kind, word(rows, i, NUMBER), word(rows, i, SCALE)) {
         return false;
     }
-    if !id_fits(place, word(rows, i, ID)) {
+    if !id_fits(place, word(rows, i, UNION_ID)) {
         return false;
     }
     let role = word(rows, i, ROLE);
@@ -69,8 +69,8 @@ fn row_fits(text: &[u8], rows: &[u32], place: u32, i: usize) -> bool
         place,
         role,
         home,
-        word(rows, i, START),
-        word(rows, i, SIZE),
+        word(rows, i, NAME_START),
+        word(rows, i, NAME_LENGTH),
     ) {
         return false;
     }
@@ -78,7 +78,7 @@ fn row_fits(text: &[u8], rows: &[u32], place: u32, i: usize) -> bool
         text,
         kind,
         word(rows, i, ZONE_START),
-        word(rows, i, ZONE_SIZE),
+        word(rows, i, ZONE_LENGTH),
     )
 }
 

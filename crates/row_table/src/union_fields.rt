@@ -4,9 +4,9 @@ ghost use Rattle.row_table.specs.UnionFields.{typeIdsFit};
 use crate::ids::is_kept;
 use crate::ids::keep;
 use crate::rows::word;
-use datatype::rows::ID;
 use datatype::rows::ROW_WORDS;
-use datatype::rows::SUBTREE;
+use datatype::rows::ROWS;
+use datatype::rows::UNION_ID;
 
 // Whether the union ids of the rows that stand side by side from row `first` up to row `end` are 0 to 127 and distinct.
 pub fn try_new(rows: &[u32], first: usize, end: usize) -> bool
@@ -18,11 +18,11 @@ pub fn try_new(rows: &[u32], first: usize, end: usize) -> bool
         if rows.len() / ROW_WORDS <= at {
             return false;
         }
-        let size = word(rows, at, SUBTREE);
+        let size = word(rows, at, ROWS);
         if size == 0 {
             return false;
         }
-        let id = word(rows, at, ID);
+        let id = word(rows, at, UNION_ID);
         if 128 <= id {
             return false;
         }

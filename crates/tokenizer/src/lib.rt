@@ -1,5 +1,6 @@
 // Tokens of a type text: the work of the Rust's `Tokenizer`.
 mod number;
+pub mod refusal;
 mod tokenizer;
 mod utf8;
 mod words;

@@ -9,6 +9,7 @@ ghost use lib.ListN.{length, drop};
 ghost use Rattle.tokenizer.specs.Token.{token, isSeparator, wordOf, wordKind, escapedAfter, untilQuote, stringToken, tokenAt};
 ghost use Rattle.tokenizer.specs.Places.{afterSpaces};
 ghost use Rattle.tokenizer.specs.Ends.{wordEnd, closes, quoteEnd};
+use crate::refusal;
 
 // The first place at or behind `from` that holds no space.
 pub fn skip_spaces(text: &[u8], from: usize) -> usize
@@ -16,7 +17,7 @@ pub fn skip_spaces(text: &[u8], from: usize) -> usize
 {
     let mut i = from;
     while i < text.len() {
-        if text[i] != 32 {
+        if text[i] != b' ' {
             return i;
         }
         i += 1;
@@ -28,19 +29,19 @@ pub fn skip_spaces(text: &[u8], from: usize) -> usize
 pub fn is_separator(b: u8) -> bool
     ensures { λ r. ⌜ r ≡ isSeparator b ⌝ }
 {
-    if b == 40 {
+    if b == b'(' {
         return true;
     }
-    if b == 41 {
+    if b == b')' {
         return true;
     }
-    if b == 44 {
+    if b == b',' {
         return true;
     }
-    if b == 58 {
+    if b == b':' {
         return true;
     }
-    b == 32
+    b == b' '
 }
 
 // The place behind the word that starts at `from`.
@@ -71,7 +72,7 @@ fn ends_string(quote: u8, escaped: bool, b: u8) -> bool
 fn escaped_after(quote: u8, escaped: bool, b: u8) -> bool
     ensures { λ r. ⌜ r ≡ escapedAfter quote escaped b ⌝ }
 {
-    if b == 92 {
+    if b == b'\\' {
         return true;
     }
     if b == quote {
@@ -102,10 +103,10 @@ fn escaped_end(text: &[u8], from: usize, quote: u8) -> usize
 fn is_plain(quote: u8, b: u8) -> bool
     ensures { λ r. ⌜ (r ≡ true → (closes quote false b ≡ false) × (escapedAfter quote false b ≡ false)) ⌝ }
 {
-    if b > 92 {
+    if b > b'\\' {
         return b != quote;
     }
-    if b == 92 {
+    if b == b'\\' {
         return false;
     }
     b != quote
@@ -177,10 +178,10 @@ fn quoted_string(text: &[u8], at: usize, quote: u8, kind: TokenKind) -> Token
     let letters = past_letters(text, start, quote);
     let end = quote_end(text, letters, quote);
     if end >= text.len() {
-        return token_of(TokenKind::Refused(6), at, 0);
+        return token_of(TokenKind::Refused(refusal::STRING_NEVER_ENDS), at, 0);
     }
     if end <= start {
-        return token_of(TokenKind::Refused(7), at, 0);
+        return token_of(TokenKind::Refused(refusal::STRING_EMPTY), at, 0);
     }
     Token {
         kind: kind,
@@ -206,15 +207,15 @@ pub fn next_token(text: &[u8], from: usize) -> Token
 {
     let at = skip_spaces(text, from);
     if at >= text.len() {
-        return token_of(TokenKind::Refused(5), at, 0);
+        return token_of(TokenKind::Refused(refusal::TEXT_ENDS), at, 0);
     }
     match text[at] {
-        40 => token_of(TokenKind::LParen, at, 1),
-        41 => token_of(TokenKind::RParen, at, 1),
-        44 => token_of(TokenKind::Comma, at, 1),
-        58 => token_of(TokenKind::Colon, at, 1),
-        34 => quoted_string(text, at, 34, TokenKind::DoubleQuotedString),
-        39 => quoted_string(text, at, 39, TokenKind::SingleQuotedString),
+        b'(' => token_of(TokenKind::LParen, at, 1),
+        b')' => token_of(TokenKind::RParen, at, 1),
+        b',' => token_of(TokenKind::Comma, at, 1),
+        b':' => token_of(TokenKind::Colon, at, 1),
+        b'"' => quoted_string(text, at, b'"', TokenKind::DoubleQuotedString),
+        b'\'' => quoted_string(text, at, b'\'', TokenKind::SingleQuotedString),
         _ => word_token(text, at),
     }
 }

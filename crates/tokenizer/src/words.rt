@@ -12,6 +12,7 @@ ghost use Rattle.tokenizer.specs.Words.{words, find};
 ghost use Rattle.tokenizer.specs.Token.{wordKind};
 ghost use Rattle.tokenizer.specs.Keys.{packed, keyKind};
 ghost use Rattle.tokenizer.specs.declared.TokenKind.the-variants.{Refused};
+use crate::refusal;
 
 // A byte as a number of 64 bits.
 fn wide(b: u8) -> u64
@@ -41,7 +42,7 @@ fn only(tail: u64, own: u64, kind: TokenKind) -> TokenKind
     if tail == own {
         return kind;
     }
-    TokenKind::Refused(8)
+    TokenKind::Refused(refusal::UNKNOWN_WORD)
 }
 
 // The listed words of one byte.
@@ -53,7 +54,7 @@ fn of_one(head: u64) -> TokenKind
         0x73 => TokenKind::TimeUnit(0),
         // x
         0x78 => TokenKind::X,
-        _ => TokenKind::Refused(8),
+        _ => TokenKind::Refused(refusal::UNKNOWN_WORD),
     }
 }
 
@@ -68,7 +69,7 @@ fn of_two(head: u64) -> TokenKind
         0x7573 => TokenKind::TimeUnit(2),
         // ns
         0x6E73 => TokenKind::TimeUnit(3),
-        _ => TokenKind::Refused(8),
+        _ => TokenKind::Refused(refusal::UNKNOWN_WORD),
     }
 }
 
@@ -81,7 +82,7 @@ fn of_three(head: u64) -> TokenKind
         0x4D6170 => TokenKind::DataType(39),
         // µs
         0xC2B573 => TokenKind::TimeUnit(2),
-        _ => TokenKind::Refused(8),
+        _ => TokenKind::Refused(refusal::UNKNOWN_WORD),
     }
 }
 
@@ -102,7 +103,7 @@ fn of_four(head: u64) -> TokenKind
         0x536F6D65 => TokenKind::Some,
         // None
         0x4E6F6E65 => TokenKind::None,
-        _ => TokenKind::Refused(8),
+        _ => TokenKind::Refused(refusal::UNKNOWN_WORD),
     }
 }
 
@@ -125,7 +126,7 @@ fn of_five(head: u64) -> TokenKind
         0x44656E7365 => TokenKind::UnionMode(1),
         // field
         0x6669656C64 => TokenKind::Field,
-        _ => TokenKind::Refused(8),
+        _ => TokenKind::Refused(refusal::UNKNOWN_WORD),
     }
 }
 
@@ -158,7 +159,7 @@ fn of_six(head: u64) -> TokenKind
         0x537061727365 => TokenKind::UnionMode(0),
         // sorted
         0x736F72746564 => TokenKind::MapSorted(1),
-        _ => TokenKind::Refused(8),
+        _ => TokenKind::Refused(refusal::UNKNOWN_WORD),
     }
 }
 
@@ -177,7 +178,7 @@ fn of_seven(head: u64) -> TokenKind
         0x466C6F61743634 => TokenKind::DataType(12),
         // DayTime
         0x44617954696D65 => TokenKind::IntervalUnit(1),
-        _ => TokenKind::Refused(8),
+        _ => TokenKind::Refused(refusal::UNKNOWN_WORD),
     }
 }
 
@@ -200,7 +201,7 @@ fn of_eight(head: u64) -> TokenKind
         0x6E756C6C61626C65 => TokenKind::Nullability(1),
         // non-null
         0x6E6F6E2D6E756C6C => TokenKind::Nullability(2),
-        _ => TokenKind::Refused(8),
+        _ => TokenKind::Refused(refusal::UNKNOWN_WORD),
     }
 }
 
@@ -221,7 +222,7 @@ fn of_nine(head: u64, tail: u64) -> TokenKind
         0x446563696D616C36 => only(tail, 0x34, TokenKind::DataType(36)),
         // YearMonth
         0x596561724D6F6E74 => only(tail, 0x68, TokenKind::IntervalUnit(0)),
-        _ => TokenKind::Refused(8),
+        _ => TokenKind::Refused(refusal::UNKNOWN_WORD),
     }
 }
 
@@ -240,7 +241,7 @@ fn of_ten(head: u64, tail: u64) -> TokenKind
         0x446563696D616C32 => only(tail, 0x3536, TokenKind::DataType(38)),
         // Nanosecond
         0x4E616E6F7365636F => only(tail, 0x6E64, TokenKind::TimeUnit(3)),
-        _ => TokenKind::Refused(8),
+        _ => TokenKind::Refused(refusal::UNKNOWN_WORD),
     }
 }
 
@@ -255,7 +256,7 @@ fn of_eleven(head: u64, tail: u64) -> TokenKind
         0x4D696C6C69736563 => only(tail, 0x6F6E64, TokenKind::TimeUnit(1)),
         // Microsecond
         0x4D6963726F736563 => only(tail, 0x6F6E64, TokenKind::TimeUnit(2)),
-        _ => TokenKind::Refused(8),
+        _ => TokenKind::Refused(refusal::UNKNOWN_WORD),
     }
 }
 
@@ -266,7 +267,7 @@ fn of_twelve(head: u64, tail: u64) -> TokenKind
     match head {
         // MonthDayNano
         0x4D6F6E7468446179 => only(tail, 0x4E616E6F, TokenKind::IntervalUnit(2)),
-        _ => TokenKind::Refused(8),
+        _ => TokenKind::Refused(refusal::UNKNOWN_WORD),
     }
 }
 
@@ -281,7 +282,7 @@ fn of_thirteen(head: u64, tail: u64) -> TokenKind
         0x4C617267654C6973 => only(tail, 0x7456696577, TokenKind::DataType(31)),
         // RunEndEncoded
         0x52756E456E64456E => only(tail, 0x636F646564, TokenKind::DataType(40)),
-        _ => TokenKind::Refused(8),
+        _ => TokenKind::Refused(refusal::UNKNOWN_WORD),
     }
 }
 
@@ -292,7 +293,7 @@ fn of_fifteen(head: u64, tail: u64) -> TokenKind
     match head {
         // FixedSizeBinary
         0x466978656453697A => only(tail, 0x6542696E617279, TokenKind::DataType(21)),
-        _ => TokenKind::Refused(8),
+        _ => TokenKind::Refused(refusal::UNKNOWN_WORD),
     }
 }
 
@@ -310,7 +311,7 @@ fn short_word(n: usize, head: u64) -> TokenKind
         6 => of_six(head),
         7 => of_seven(head),
         8 => of_eight(head),
-        _ => TokenKind::Refused(8),
+        _ => TokenKind::Refused(refusal::UNKNOWN_WORD),
     }
 }
 
@@ -327,7 +328,7 @@ fn long_word(n: usize, head: u64, tail: u64) -> TokenKind
         12 => of_twelve(head, tail),
         13 => of_thirteen(head, tail),
         15 => of_fifteen(head, tail),
-        _ => TokenKind::Refused(8),
+        _ => TokenKind::Refused(refusal::UNKNOWN_WORD),
     }
 }
 
@@ -337,7 +338,7 @@ fn find_word(word: &[u8]) -> TokenKind
 {
     let n = word.len();
     if n > 15 {
-        return TokenKind::Refused(8);
+        return TokenKind::Refused(refusal::UNKNOWN_WORD);
     }
     if n <= 8 {
         return short_word(n, pack(word));
@@ -352,10 +353,10 @@ pub(crate) fn word_kind(word: &[u8]) -> TokenKind
     ensures { λ r. ⌜ r ≡ wordKind (now (word .entry)) ⌝ }
 {
     if word.len() == 0 {
-        return TokenKind::Refused(8);
+        return TokenKind::Refused(refusal::UNKNOWN_WORD);
     }
     let first = word[0];
-    if first == 45 {
+    if first == b'-' {
         return number_kind(&word[1..], true);
     }
     if is_digit(first) {

@@ -19,7 +19,7 @@ use Rattle.datatype_display.specs.Display.{display}
 use Rattle.datatype_display.specs.Print.{quotedAscii, print, lengthOf, printAnswer, written, printBytes, printedMeans}
 use Rattle.datatype_display.specs.declared.Printed.{Printed}
 use Rattle.datatype_display.specs.declared.Printed.the-variants as printing
-use Rattle.type_line.specs.Line.{noLine}
+use Rattle.type_line.specs.Line.{noLine, answerBytes}
 use Rattle.type_line.specs.Steps.{Answers, okHead, HeadLength, Framed, treeLine, tableLine}
 
 -- ---- the printer's answer
@@ -124,7 +124,7 @@ framed-answers head s back out r after f at past =
           ∙ sym (append-assoc head (s ++ (10 ∷ [])) (drop (length (head ++ (s ++ (10 ∷ [])))) out));
     }
 
-module _ (text table out : List ℕ) (rows levels h : ℕ) (head : HeadLength rows levels h) (room : 16396 ≤ length out)
+module _ (text table out : List ℕ) (rows levels h : ℕ) (head : HeadLength rows levels h) (room : answerBytes ≤ length out)
     (lent part back : List ℕ) (isLent : lent ≡ lentPart out h) (isBack : back ≡ backIn out h part) where
   lent-room : 16384 ≤ length lent
   lent-room =

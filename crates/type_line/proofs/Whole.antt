@@ -19,7 +19,7 @@ use Rattle.datatype_parse.specs.declared.Parsed.{Parsed}
 use Rattle.datatype_parse.specs.declared.Parsed.the-variants as parsed
 use Rattle.datatype_display.specs.Display.{digits}
 use Rattle.datatype_display.specs.Print.{print}
-use Rattle.type_line.specs.Line.{noLine, okLine, lineWords, lineAnswer, lineAnswered, lineRows, lineOut, answeredMeans}
+use Rattle.type_line.specs.Line.{noLine, okLine, lineWords, lineAnswer, lineAnswered, lineRows, lineOut, answeredMeans, answerBytes}
 use Rattle.type_line.specs.Steps.{Answers, okHead, treeLine, tableLine}
 use Rattle.type_line.specs.declared.Answered.{Answered}
 use Rattle.type_line.specs.declared.Answered.the-variants.{Bytes, NoRoom}
@@ -72,19 +72,19 @@ module _ (line rows out : List ℕ) where
   unfolding answeredMeans lineAnswered lineRows lineOut
   few-words h = let e = lt-leb lineWords (length rows) h in (rw e, (rw e, rw e))
 
-  pub few-bytes : lineWords ≤ length rows → length out < 16396 → Answering NoRoom rows out
+  pub few-bytes : lineWords ≤ length rows → length out < answerBytes → Answering NoRoom rows out
   unfolding answeredMeans lineAnswered lineRows lineOut
   few-bytes k h =
       let d = le-leb lineWords (length rows) k in
-      let e = lt-leb 16396 (length out) h in
+      let e = lt-leb answerBytes (length out) h in
       (rw (d, e), (rw (d, e), rw (d, e)))
 
-  module _ (words : lineWords ≤ length rows) (room : 16396 ≤ length out) where
+  module _ (words : lineWords ≤ length rows) (room : answerBytes ≤ length out) where
     with-room : (r : ℕ) (rows′ out′ : List ℕ) → rows′ ≡ parseRows line rows → Answers (lineAnswer line) out r out′ → Answering (Bytes r) rows′ out′
     unfolding answeredMeans lineAnswered lineRows lineOut
     with-room r rows′ out′ p a =
         let d = le-leb lineWords (length rows) words in
-        let e = le-leb 16396 (length out) room in
+        let e = le-leb answerBytes (length out) room in
         (rw (d, e, a .counted), (rw (d, e, p), rw (d, e, a .stored)))
 
     module _ (q : Parsed) (rows′ : List ℕ) (e : parsedMeans q ≡ parseAnswer line rows) (p : rows′ ≡ parseRows line rows) (n : ℕ) where

@@ -10,7 +10,7 @@ use Rattle.tokenizer.specs.Text.{bytes}
 use Rattle.datatype.proofs.Sets.{sets-append}
 use Rattle.datatype_display.specs.Display.{digits}
 use Rattle.datatype_display.proofs.Digits.{digits-one, digits-more}
-use Rattle.type_line.specs.Line.{noLine}
+use Rattle.type_line.specs.Line.{noLine, answerBytes}
 use Rattle.type_line.specs.Steps.{Put, Answers, okHead, HeadLength, Framed}
 
 -- ---- digits
@@ -79,7 +79,7 @@ put-answers s before r after h p = let e = p .place in record { counted = omega 
 
 -- ---- the line of a refusal
 
-no-short : (n : ℕ) → n < 4294967296 → length (noLine (record { number = n })) ≤ 16396
+no-short : (n : ℕ) → n < 4294967296 → length (noLine (record { number = n })) ≤ answerBytes
 no-short n h =
     let d = digits-at-most 9 n (omega arith) in
     let e = length-append (bytes "no ") (digits n ++ bytes "\n") in
@@ -87,7 +87,7 @@ no-short n h =
     omega arith
 
 module _ (n : ℕ) (before : List ℕ) (a b r : ℕ) (out₁ out₂ after : List ℕ) where
-  pub no-answers : n < 4294967296 → 16396 ≤ length before → Put before 0 (110 ∷ 111 ∷ 32 ∷ []) a out₁ → Put out₁ a (digits n) b out₂ → Put out₂ b (10 ∷ []) r after
+  pub no-answers : n < 4294967296 → answerBytes ≤ length before → Put before 0 (110 ∷ 111 ∷ 32 ∷ []) a out₁ → Put out₁ a (digits n) b out₂ → Put out₂ b (10 ∷ []) r after
       → Answers (noLine (record { number = n })) before r after
   no-answers h k p q s =
       let l = no-short n h in

@@ -7,6 +7,7 @@ use lib.ListN.{length, drop}
 use lib.Dec.{leb, eqb}
 use Rattle.tokenizer.specs.Text.{bytes, if_then_else_}
 use Rattle.tokenizer.specs.Answer.{Refusal, Out, refused, done}
+use Rattle.datatype.specs.Limits.{maxText, maxRows}
 use Rattle.datatype.specs.Tree.{Forest, Row, count, depth, nameList}
 use Rattle.datatype.specs.Table.{rowWords, tableOf}
 use Rattle.datatype_parse.specs.Parse.{parse, parseRows}
@@ -27,11 +28,11 @@ okLine f (done printed) = bytes "ok " ++ (digits (count f) ++ (bytes " " ++ (dig
 -- The reader with 1,024 rows, then the printer with 16,384 output bytes.
 abbrev pub readLine : List ℕ → Out (Forest Row) → List ℕ
 readLine text (refused r) = noLine r
-readLine text (done f) = okLine f (print text nameList (tableOf f) 16384)
+readLine text (done f) = okLine f (print text nameList (tableOf f) maxText)
 
 -- What is printed for one line, whose newline is cut off.
 unfoldable pub lineAnswer : List ℕ → List ℕ
-lineAnswer text = readLine text (parse text 1024)
+lineAnswer text = readLine text (parse text maxRows)
 
 -- The lines of the input: a last one without a newline counts unless it is empty.
 abbrev pub longer : ℕ → List (List ℕ) → List (List ℕ)
@@ -54,12 +55,15 @@ output input = answers (linesOf input)
 
 -- The words that 1,024 rows take.
 abbrev pub lineWords : ℕ
-lineWords = rowWords * 1024
+lineWords = rowWords * maxRows
 
--- Whether the buffers hold the rows and the answer of every line: 1,024 rows; `ok 1024 64 `, a printed text of 16,384
--- bytes, and a newline.
+-- The bytes that the longest answer takes: `ok 1024 64 `, a printed text and a newline.
+abbrev pub answerBytes : ℕ
+answerBytes = 11 + maxText + 1
+
+-- Whether the buffers hold the rows and the answer of every line.
 abbrev pub roomFor : List ℕ → List ℕ → Bool
-roomFor rows out = leb lineWords (length rows) && leb 16396 (length out)
+roomFor rows out = leb lineWords (length rows) && leb answerBytes (length out)
 
 -- What is answered: how many bytes are printed for the line; nothing where there is no room.
 unfoldable pub lineAnswered : List ℕ → List ℕ → List ℕ → Option ℕ

@@ -6,6 +6,7 @@ use lib.ListN.{length, take, drop}
 use lib.Seq.{sets}
 use Rattle.tokenizer.specs.Text.{bytes}
 use Rattle.tokenizer.specs.Answer.{Out, refused, done}
+use Rattle.datatype.specs.Limits.{maxText}
 use Rattle.datatype.specs.Tree.{depth, nameList}
 use Rattle.datatype.specs.Table.{rowWords, treeOf}
 use Rattle.datatype_display.specs.Display.{digits}
@@ -42,4 +43,4 @@ treeLine rows levels (done printed) = okHead rows levels ++ (printed ++ bytes "\
 
 -- The answer to a text that was read into a table.
 unfoldable pub tableLine : List ℕ → List ℕ → List ℕ
-tableLine text table = treeLine (length table / rowWords) (depth (treeOf text nameList table)) (print text nameList table 16384)
+tableLine text table = treeLine (length table / rowWords) (depth (treeOf text nameList table)) (print text nameList table maxText)

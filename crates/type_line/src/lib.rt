@@ -6,6 +6,7 @@ mod tree;
 mod write;
 
 use datatype::rows::MAX_ROWS;
+use datatype::rows::MAX_TEXT;
 use datatype::rows::ROW_WORDS;
 use datatype_parse::Parsed;
 
@@ -13,7 +14,7 @@ use datatype_parse::Parsed;
 pub const LINE_WORDS: usize = ROW_WORDS * MAX_ROWS;
 
 // The bytes that the longest answer takes: `ok 1024 64 `, a printed text of 16,384 bytes, and a newline.
-pub const ANSWER_BYTES: usize = 16396;
+pub const ANSWER_BYTES: usize = 11 + MAX_TEXT + 1;
 
 // The bytes of a line's answer; or the buffers lent are too small for some line, and nothing was done.
 pub enum Answered {

@@ -4,8 +4,9 @@ ghost use mathlib.Core.List.{[], _∷_};
 ghost use Prim.Native.Nat.{_+_, _≤_, _<_};
 ghost use lib.ListN.{length};
 ghost use Rattle.datatype_display.specs.Display.{digits};
-ghost use Rattle.type_line.specs.Line.{noLine};
+ghost use Rattle.type_line.specs.Line.{noLine, answerBytes};
 ghost use Rattle.type_line.specs.Steps.{Put, Answers, Framed, HeadLength, okHead};
+ghost use Rattle.datatype.specs.Limits.{maxRows, maxLevels};
 
 // Writes one byte at a place, and answers the place behind it.
 fn put_byte(out: &mut [u8], at: usize, c: u8) -> usize
@@ -41,7 +42,7 @@ fn put_word(out: &mut [u8], a: u8, b: u8) -> usize
 
 // `no` and the number.
 pub(crate) fn put_no(out: &mut [u8], n: u32) -> usize
-    requires { ⌜ 16396 ≤ length (now out) ⌝ }
+    requires { ⌜ answerBytes ≤ length (now out) ⌝ }
     ensures { λ r. ⌜ Answers (noLine (record { number = n })) (now (out .entry)) r (now (out .exit)) ⌝ }
 {
     let a = put_word(out, b'n', b'o');
@@ -68,7 +69,7 @@ fn digit_count(n: usize) -> usize
 
 // How many bytes stand before the printed text.
 pub(crate) fn head_length(rows: usize, levels: usize) -> usize
-    requires { ⌜ (rows ≤ 1024) × (levels ≤ 64) ⌝ }
+    requires { ⌜ (rows ≤ maxRows) × (levels ≤ maxLevels) ⌝ }
     ensures { λ r. ⌜ HeadLength rows levels r ⌝ }
 {
     5 + digit_count(rows) + digit_count(levels)

@@ -12,7 +12,7 @@ use types.Run.{OneOf}
 use denote.Enum.Declared.{tagOf}
 use borrow.Author.Tests.{le-leb}
 use Rattle.tokenizer.specs.Text.{bytes, if_then_else_}
-use Rattle.type_line.specs.Line.{lineAnswer, lineWords, linesOf, answers, output, beforeNewline, lineEnd, lineAnswered, lineOut, answeredMeans}
+use Rattle.type_line.specs.Line.{lineAnswer, lineWords, linesOf, answers, output, beforeNewline, lineEnd, lineAnswered, lineOut, answeredMeans, answerBytes}
 use Rattle.type_line.specs.declared.Answered.{Answered}
 use Rattle.type_line.specs.declared.Answered.the-variants.{Bytes, NoRoom}
 use Rattle.type_line.proofs.Answered.{the-type as answered-type}
@@ -149,7 +149,7 @@ no-room-of : (r : Answered) → OneOf (1 ∷ []) (tagOf answered-type r) → r �
 no-room-of (Bytes n) o = absurd (omega arith)
 no-room-of NoRoom o = refl
 
-module _ (line rows out lent part : List ℕ) (wrote : ℕ) (words : lineWords ≤ length rows) (room : wrote + 16396 ≤ length out)
+module _ (line rows out lent part : List ℕ) (wrote : ℕ) (words : lineWords ≤ length rows) (room : wrote + answerBytes ≤ length out)
     (isLent : lent ≡ take (length out - wrote) (drop wrote out)) (r : Answered) (a : answeredMeans r ≡ lineAnswered line rows lent) where
   lent-length : length lent ≡ length out - wrote
   lent-length =
@@ -159,8 +159,8 @@ module _ (line rows out lent part : List ℕ) (wrote : ℕ) (words : lineWords �
   lent-all : lent ≡ drop wrote out
   lent-all = let d = length-drop wrote out in isLent ∙ take-all (length out - wrote) (drop wrote out) (omega arith)
 
-  enough : (A : Type 0) (x y : A) → (if (leb lineWords (length rows) && leb 16396 (length lent)) then x else y) ≡ x
-  enough A x y = let l = lent-length in rw (le-leb lineWords (length rows) words, le-leb 16396 (length lent) (omega arith))
+  enough : (A : Type 0) (x y : A) → (if (leb lineWords (length rows) && leb answerBytes (length lent)) then x else y) ≡ x
+  enough A x y = let l = lent-length in rw (le-leb lineWords (length rows) words, le-leb answerBytes (length lent) (omega arith))
 
   module _ (o : part ≡ lineOut line rows lent) (k : length part ≡ length lent) where
     answer-size : (n : ℕ) → r ≡ Bytes n → n ≡ length (lineAnswer line)
@@ -312,7 +312,7 @@ nothing-left s h = let w = before-within s in record { partial = omega arith; sh
 pub left-none : (input : List ℕ) (from : ℕ) → length input ≤ from → Unfinished (drop from input)
 left-none input from h = nothing-left (drop from input) (let l = length-drop from input in omega arith)
 
-pub halts-short : (input out : List ℕ) (p : Place) → length out - 16396 < p .wrote → 16396 ≤ length out → Halts input p out
+pub halts-short : (input out : List ℕ) (p : Place) → length out - answerBytes < p .wrote → answerBytes ≤ length out → Halts input p out
 halts-short input out p h k = record { left = λ l. absurd (omega arith) }
 
 pub halts-left : (input out : List ℕ) (p : Place) → Unfinished (drop (p .from) input) → Halts input p out

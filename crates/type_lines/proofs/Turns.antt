@@ -12,7 +12,7 @@ use lib.ListN.{length, take, drop, length-append, length-drop, take-append-drop,
 use lib.Seq.{length-take-le, take-at, take-take}
 use types.Run.{OneOf}
 use denote.Enum.Declared.{tagOf}
-use Rattle.type_line.specs.Line.{output}
+use Rattle.type_line.specs.Line.{output, answerBytes}
 use Rattle.type_lines.specs.Run.{outputFrom, printedAt, Room, Inside, Behind, Goes, Unfinished, Halts, Moved, Ends}
 use Rattle.type_lines.specs.Turns.{readIn, writtenIn, leftIn, ahead, Running, Turned, GoesOn, Handed, Reads, ReadOn, LastLine, Turns, start, turn, History, Ended, Closes, Ran}
 use Rattle.type_lines.specs.declared.Place.{Place}
@@ -108,7 +108,7 @@ module _ (t : Turn) (input rows out : List ℕ) (r : Running input t rows out) w
         let c = counted (t .filled) input (r .fits) in
         drop-of-length-le (take (t .filled) input) {i = t .filled - 0} (omega arith)
 
-    pub turn-wrote : (wrote : ℕ) → wrote ≡ q .wrote → length out′ - 16396 < wrote → GoesOn t input out (More (wroteTurn wrote)) input out′
+    pub turn-wrote : (wrote : ℕ) → wrote ≡ q .wrote → length out′ - answerBytes < wrote → GoesOn t input out (More (wroteTurn wrote)) input out′
     unfolding GoesOn ahead
     turn-wrote wrote e k = (
       record {
@@ -194,7 +194,7 @@ module _ (t : Turn) (input rows out : List ℕ) (r : Running input t rows out) w
       turn-read wrote e input₂ Failed d = tt
 
 -- the output has room for another answer, so that only an unfinished line is left
-pub halts-unfinished : (input : List ℕ) (p : Place) (out : List ℕ) → Halts input p out → (wrote : ℕ) → wrote ≡ p .wrote → 16396 ≤ length out → wrote ≤ length out - 16396
+pub halts-unfinished : (input : List ℕ) (p : Place) (out : List ℕ) → Halts input p out → (wrote : ℕ) → wrote ≡ p .wrote → answerBytes ≤ length out → wrote ≤ length out - answerBytes
     → Unfinished (drop (p .from) input)
 halts-unfinished input p out h wrote e k l = h .left (omega arith)
 

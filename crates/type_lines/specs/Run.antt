@@ -4,8 +4,9 @@ use mathlib.Core.Bool.{Bool, true, false}
 use mathlib.Core.List.{List, _++_}
 use Prim.Native.Nat.{ℕ, suc, _+_, _-_, _≤_, _<_}
 use lib.ListN.{length, take, drop}
-use Rattle.type_line.specs.Line.{lineAnswer, lineWords, output, beforeNewline}
+use Rattle.type_line.specs.Line.{lineAnswer, lineWords, output, beforeNewline, answerBytes}
 use Rattle.type_lines.specs.declared.Place.{Place}
+use Rattle.datatype.specs.Limits.{maxText}
 
 -- ---- what is printed
 
@@ -27,7 +28,7 @@ lineAt from wrote = record { from = from; wrote = wrote; skip = false }
 -- They hold the rows and an answer.
 pub record Room (rows out : List ℕ) : Type 0 where
   pub words : lineWords ≤ length rows
-  pub bytes : 16396 ≤ length out
+  pub bytes : answerBytes ≤ length out
 
 -- A place lies in the input and in the output.
 pub record Inside (input : List ℕ) (p : Place) (out : List ℕ) : Type 0 where
@@ -56,11 +57,11 @@ pub record Goes (input : List ℕ) (p : Place) (out : List ℕ) (q : Place) (out
 -- What is left is part of one line, and not too long for a text.
 pub record Unfinished (s : List ℕ) : Type 0 where
   pub partial : beforeNewline s ≡ length s
-  pub short : length s ≤ 16384
+  pub short : length s ≤ maxText
 
 -- The output is short of room for an answer, or only an unfinished line is left.
 pub record Halts (input : List ℕ) (p : Place) (out : List ℕ) : Type 0 where
-  pub left : p .wrote + 16396 ≤ length out → Unfinished (drop (p .from) input)
+  pub left : p .wrote + answerBytes ≤ length out → Unfinished (drop (p .from) input)
 
 -- Where the input ends, the output holds all that is still to be printed.
 pub record Ends (line : List ℕ) (skip : Bool) (out : List ℕ) (next : ℕ) (out′ : List ℕ) : Type 0 where

@@ -13,6 +13,7 @@ use Rattle.type_lines.specs.declared.Written.{Written}
 use Rattle.type_lines.specs.declared.Written.the-variants.{All, NotAll}
 use Rattle.type_lines.specs.declared.Ending.{Ending}
 use Rattle.type_lines.specs.declared.Ending.the-variants.{Done, Broken, Limit}
+use Rattle.datatype.specs.Limits.{maxText}
 
 -- ---- a turn
 
@@ -33,7 +34,7 @@ ahead t input rest = outputFrom (t .skip) (drop (t .from) (take (t .filled) inpu
 
 -- The buffers are large enough, and the place lies in the bytes read.
 pub record Running (input : List ℕ) (t : Turn) (rows out : List ℕ) : Type 0 where
-  pub large : 16384 < length input
+  pub large : maxText < length input
   pub room : Room rows out
   pub fits : t .filled ≤ length input
   pub place : t .from ≤ t .filled

@@ -2,7 +2,7 @@
 ghost use mathlib.Core.Path.{_≡_};
 ghost use Prim.Native.Nat.{_+_, _≤_};
 ghost use lib.ListN.{length, drop};
-ghost use Rattle.type_line.specs.Line.{lineWords, beforeNewline};
+ghost use Rattle.type_line.specs.Line.{lineWords, beforeNewline, answerBytes};
 ghost use Rattle.type_lines.specs.Run.{Room, lineAt, Inside, Goes, Halts, Unfinished, Wrote, Ends, Moved};
 use crate::Place;
 use datatype::rows::MAX_TEXT;
@@ -11,7 +11,7 @@ use type_line::Answered;
 
 // Answers a line behind the answers that are in the output, and gives the place behind its answer.
 fn answer_at(line: &[u8], rows: &mut [u32], out: &mut [u8], wrote: usize) -> usize
-    requires { ⌜ (lineWords ≤ length (now rows)) × (wrote + 16396 ≤ length (now out)) ⌝ }
+    requires { ⌜ (lineWords ≤ length (now rows)) × (wrote + answerBytes ≤ length (now out)) ⌝ }
     ensures { λ r. ⌜ Wrote (now (line .entry)) (now (out .entry)) wrote r (now (out .exit)) ⌝ }
 {
     match type_line::answer_line(line, rows, &mut out[wrote..]) {
@@ -23,7 +23,7 @@ fn answer_at(line: &[u8], rows: &mut [u32], out: &mut [u8], wrote: usize) -> usi
 // A line whose end is not read yet waits for it, unless it is too long for a text: then it is answered, and the rest of
 // it is skipped.
 fn answer_part(input: &[u8], from: usize, wrote: usize, rows: &mut [u32], out: &mut [u8]) -> Place
-    requires { ⌜ (lineWords ≤ length (now rows)) × (wrote + 16396 ≤ length (now out)) × (from ≤ length (now input)) × (beforeNewline (drop from (now input)) ≡ length (drop from (now input))) ⌝ }
+    requires { ⌜ (lineWords ≤ length (now rows)) × (wrote + answerBytes ≤ length (now out)) × (from ≤ length (now input)) × (beforeNewline (drop from (now input)) ≡ length (drop from (now input))) ⌝ }
     ensures { λ r. ⌜ Goes (now (input .entry)) (lineAt from wrote) (now (out .entry)) r (now (out .exit)) × Unfinished (drop (r .from) (now (input .entry))) ⌝ }
 {
     if input.len() - from <= MAX_TEXT {

@@ -7,6 +7,7 @@ ghost use lib.ListN.{length};
 ghost use Rattle.type_line.specs.Line.{lineWords};
 ghost use Rattle.type_lines.specs.Run.{Room, Unfinished};
 ghost use Rattle.type_lines.specs.Turns.{Handed, ReadOn, Running, GoesOn, LastLine, Ran};
+ghost use Rattle.datatype.specs.Limits.{maxText};
 use type_line::ANSWER_BYTES;
 use type_line::LINE_WORDS;
 
@@ -137,7 +138,7 @@ fn finish(line: &[u8], skip: bool, rows: &mut [u32], out: &mut [u8]) -> Ending
 
 // Turns until the input ends. Each reads or writes a byte, so that their number never runs out.
 fn run(input: &mut [u8], rows: &mut [u32], out: &mut [u8]) -> Ending
-    requires { ⌜ (16384 < length (now input)) × Room (now rows) (now out) ⌝ }
+    requires { ⌜ (maxText < length (now input)) × Room (now rows) (now out) ⌝ }
     ensures { λ r. ⌜ Ran r (now (out .exit)) ⌝ }
 {
     let mut t = Turn {

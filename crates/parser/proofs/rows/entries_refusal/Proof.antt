@@ -17,6 +17,9 @@ returns c = entries-1 _ _ _ (c .before .before .before .pre .0) (c .before .befo
 word-requires-2 : tie.Need-word-requires-2
 word-requires-2 c κs = (row-room _ _ _ (c .before .before .before .pre .0) (c .before .before .before .pre .1), omega arith)
 
+cast-if2 : tie.Need-cast-if2
+cast-if2 c = search needs
+
 returns-2 : tie.Need-returns-2
 returns-2 c = entries-2 _ _ _ (c .before .before .before .before .before .pre .0) (c .before .before .before .before .before .pre .1) (sym (c .before .before .before .word .ensures .0) ∙ c .before .before .if1 .left) (λ q. c .if2 .taken (c .before .word2 .ensures .0 ∙ q))
 
@@ -66,6 +69,7 @@ entries-refusal-spec =
     word-requires
     returns
     word-requires-2
+    cast-if2
     returns-2
     word-requires-3
     add-behind

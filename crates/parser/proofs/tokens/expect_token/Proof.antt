@@ -5,7 +5,7 @@ use Rattle.parser.proofs.tokens.expect_token.Statement.{statement}
 use Rattle.parser.proofs.tokens.expect_token.Tie as tie
 use Rattle.parser.proofs.tokens.expect_token.Reads as reads
 use Rattle.parser.proofs.tokens.expect_token.Lts as lts
-use Rattle.parser.proofs.tokens.refusal.Reads as refusal-reads
+use Rattle.parser.proofs.tokens.refusal_of.Reads as refusal-of-reads
 use Rattle.parser.proofs.tokens.starts.Reads as starts-reads
 use Rattle.tokenizer.proofs.next_token.Reads as next-token-reads
 use Rattle.tokenizer.proofs.skip_spaces.Reads as skip-spaces-reads
@@ -37,11 +37,11 @@ returns-3 c = expect-here _ _ _ (c .before .before .before .before .before .befo
 next-token-requires : tie.Need-next-token-requires
 next-token-requires c κs = search needs
 
-refusal-requires : tie.Need-refusal-requires
-refusal-requires c κs = search needs
+refusal-of-requires : tie.Need-refusal-of-requires
+refusal-of-requires c κs = search needs
 
 returns-4 : tie.Need-returns-4
-returns-4 c = expect-other _ _ _ (c .before .before .before .before .before .before .before .before .before .args .mark) (c .before .before .before .before .before .skip-spaces .ensures) (c .before .before .before .before .before .before .before .before .before .pre) (c .before .before .if3 .left) _ _ (c .before .next-token .ensures) (c .refusal .ensures)
+returns-4 c = expect-other _ _ _ (c .before .before .before .before .before .before .before .before .before .args .mark) (c .before .before .before .before .before .skip-spaces .ensures) (c .before .before .before .before .before .before .before .before .before .pre) (c .before .before .if3 .left) _ _ (c .before .next-token .ensures) (c .refusal-of .ensures)
 
 pub expect-token-spec : {M : Type 1} → statement M
 expect-token-spec =
@@ -56,5 +56,5 @@ expect-token-spec =
     add-t13
     returns-3
     next-token-requires
-    refusal-requires
+    refusal-of-requires
     returns-4)

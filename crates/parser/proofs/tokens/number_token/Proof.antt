@@ -6,7 +6,7 @@ use Rattle.parser.proofs.tokens.number_token.Tie as tie
 use Rattle.parser.proofs.tokens.number_token.Reads as reads
 use Rattle.parser.proofs.tokens.number_token.Lts as lts
 use Rattle.parser.proofs.tokens.limit.Reads as limit-reads
-use Rattle.parser.proofs.tokens.refusal.Reads as refusal-reads
+use Rattle.parser.proofs.tokens.refusal_of.Reads as refusal-of-reads
 use Rattle.tokenizer.proofs.next_token.Reads as next-token-reads
 
 next-token-requires : tie.Need-next-token-requires
@@ -15,11 +15,11 @@ next-token-requires c κs = search needs
 enum-known-kind : tie.Need-enum-known-kind
 enum-known-kind c = search needs
 
-refusal-requires : tie.Need-refusal-requires
-refusal-requires c κs = search needs
+refusal-of-requires : tie.Need-refusal-of-requires
+refusal-of-requires c κs = search needs
 
 returns : tie.Need-returns
-returns c = number-lost _ _ _ _ _ (c .before .before .next-token .ensures) (but 4) tt (c .before .match .keys2) _ (c .refusal .ensures)
+returns c = number-lost _ _ _ _ _ (c .before .before .next-token .ensures) (but 4) tt (c .before .match .keys2) _ (c .refusal-of .ensures)
 
 limit-requires : tie.Need-limit-requires
 limit-requires c κs = search needs
@@ -36,7 +36,7 @@ number-token-spec =
     (tie.spec
     next-token-requires
     enum-known-kind
-    refusal-requires
+    refusal-of-requires
     returns
     limit-requires
     returns-2

@@ -7,7 +7,7 @@ use Rattle.parser.proofs.tokens.parse_interval_unit.Statement.{statemen
 use Rattle.parser.proofs.tokens.parse_interval_unit.Tie as tie
 use Rattle.parser.proofs.tokens.parse_interval_unit.Reads as reads
 use Rattle.parser.proofs.tokens.parse_interval_unit.Lts as lts
-use Rattle.parser.proofs.tokens.refusal.Reads as refusal-reads
+use Rattle.parser.proofs.tokens.refusal_of.Reads as refusal-of-reads
 use Rattle.tokenizer.proofs.next_token.Reads as next-token-reads
 
 next-token-requires : tie.Need-next-token-requires
@@ -16,15 +16,15 @@ next-token-requires c κs = search needs
 enum-known-kind : tie.Need-enum-known-kind
 enum-known-kind c = search needs
 
-refusal-requires : tie.Need-refusal-requires
-refusal-requires c κs = search needs
+refusal-of-requires : tie.Need-refusal-of-requires
+refusal-of-requires c κs = search needs
 
 returns : tie.Need-returns
-returns c = valued-lost _ _ _ _ (c .before .before .next-token .ensures) (but 9) tt (c .before .match .keys2) _ (c .refusal .ensures)
+returns c = valued-lost _ _ _ _ (c .before .before .next-token .ensures) (but 9) tt (c .before .match .keys2) _ (c .refusal-of .ensures)
 
 returns-2 : tie.Need-returns-2
 returns-2 c = valued-here _ _ _ _ (c .before .before .before .next-token .ensures) _ (ap sortOf (c .before .kind .given .1)) (ap valueOf (c .before .kind .given .1))
 
 pub parse-interval-unit-spec : {M : Type 1} → statement M
 parse-interval-unit-spec =
-    tie.close (tie.spec next-token-requires enum-known-kind refusal-requires returns returns-2)
+    tie.close (tie.spec next-token-requires enum-known-kind refusal-of-requires returns returns-2)

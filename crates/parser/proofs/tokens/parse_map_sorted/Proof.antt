@@ -9,7 +9,7 @@ use Rattle.parser.proofs.tokens.parse_map_sorted.Tie as tie
 use Rattle.parser.proofs.tokens.parse_map_sorted.Reads as reads
 use Rattle.parser.proofs.tokens.parse_map_sorted.Lts as lts
 use Rattle.parser.proofs.quick.behind_word.Reads as behind-word-reads
-use Rattle.parser.proofs.tokens.refusal.Reads as refusal-reads
+use Rattle.parser.proofs.tokens.refusal_of.Reads as refusal-of-reads
 use Rattle.tokenizer.proofs.next_token.Reads as next-token-reads
 use Rattle.tokenizer.proofs.skip_spaces.Reads as skip-spaces-reads
 
@@ -31,11 +31,11 @@ next-token-requires c κs = search needs
 enum-known-kind : tie.Need-enum-known-kind
 enum-known-kind c = search needs
 
-refusal-requires : tie.Need-refusal-requires
-refusal-requires c κs = search needs
+refusal-of-requires : tie.Need-refusal-of-requires
+refusal-of-requires c κs = search needs
 
 returns-2 : tie.Need-returns-2
-returns-2 c = valued-lost _ _ _ _ (c .before .before .next-token .ensures) (but 11) tt (c .before .match .keys2) _ (c .refusal .ensures)
+returns-2 c = valued-lost _ _ _ _ (c .before .before .next-token .ensures) (but 11) tt (c .before .match .keys2) _ (c .refusal-of .ensures)
 
 returns-3 : tie.Need-returns-3
 returns-3 c = valued-here _ _ _ _ (c .before .before .before .next-token .ensures) _ (ap sortOf (c .before .kind .given .1)) (ap valueOf (c .before .kind .given .1))
@@ -50,6 +50,6 @@ parse-map-sorted-spec =
     returns
     next-token-requires
     enum-known-kind
-    refusal-requires
+    refusal-of-requires
     returns-2
     returns-3)

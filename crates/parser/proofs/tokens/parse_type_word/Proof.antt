@@ -7,7 +7,7 @@ use Rattle.parser.proofs.tokens.parse_type_word.Statement.{statement}
 use Rattle.parser.proofs.tokens.parse_type_word.Tie as tie
 use Rattle.parser.proofs.tokens.parse_type_word.Reads as reads
 use Rattle.parser.proofs.tokens.parse_type_word.Lts as lts
-use Rattle.parser.proofs.tokens.refusal.Reads as refusal-reads
+use Rattle.parser.proofs.tokens.refusal_of.Reads as refusal-of-reads
 use Rattle.parser.proofs.quick.type_word.Reads as type-word-reads
 use Rattle.tokenizer.proofs.next_token.Reads as next-token-reads
 use Rattle.tokenizer.proofs.skip_spaces.Reads as skip-spaces-reads
@@ -27,11 +27,11 @@ next-token-requires c κs = search needs
 enum-known-kind : tie.Need-enum-known-kind
 enum-known-kind c = search needs
 
-refusal-requires : tie.Need-refusal-requires
-refusal-requires c κs = search needs
+refusal-of-requires : tie.Need-refusal-of-requires
+refusal-of-requires c κs = search needs
 
 returns-2 : tie.Need-returns-2
-returns-2 c = valued-lost _ _ _ _ (c .before .before .next-token .ensures) (but 7) tt (c .before .match .keys2) _ (c .refusal .ensures)
+returns-2 c = valued-lost _ _ _ _ (c .before .before .next-token .ensures) (but 7) tt (c .before .match .keys2) _ (c .refusal-of .ensures)
 
 returns-3 : tie.Need-returns-3
 returns-3 c = valued-here _ _ _ _ (c .before .before .before .next-token .ensures) _ (ap sortOf (c .before .kind .given .1)) (ap valueOf (c .before .kind .given .1))
@@ -45,6 +45,6 @@ parse-type-word-spec =
     returns
     next-token-requires
     enum-known-kind
-    refusal-requires
+    refusal-of-requires
     returns-2
     returns-3)

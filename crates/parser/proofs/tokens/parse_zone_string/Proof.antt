@@ -12,7 +12,7 @@ use Rattle.parser.proofs.tokens.parse_zone_string.Tie as tie
 use Rattle.parser.proofs.tokens.parse_zone_string.Reads as reads
 use Rattle.parser.proofs.tokens.parse_zone_string.Lts as lts
 use Rattle.parser.proofs.tokens.parse_some.Reads as parse-some-reads
-use Rattle.parser.proofs.tokens.refusal.Reads as refusal-reads
+use Rattle.parser.proofs.tokens.refusal_of.Reads as refusal-of-reads
 use Rattle.tokenizer.proofs.next_token.Reads as next-token-reads
 
 next-token-requires : tie.Need-next-token-requires
@@ -30,8 +30,8 @@ parse-some-requires c κs = search needs
 enum-told-3 : tie.Need-enum-told-3
 enum-told-3 c = search needs
 
-refusal-requires : tie.Need-refusal-requires
-refusal-requires c κs = search needs
+refusal-of-requires : tie.Need-refusal-of-requires
+refusal-of-requires c κs = search needs
 
 returns : tie.Need-returns
 returns c = zone-done _ _ _ _ (zone-none _ _ _ (c .before .before .next-token .ensures) (only-sort 15 (c .before .before .next-token .result .kind) (c .before .match .keys1)))
@@ -43,7 +43,7 @@ returns-3 : tie.Need-returns-3
 returns-3 c = zone-done _ _ _ _ (zone-string _ _ _ (c .before .before .next-token .ensures) (only-sort 5 (c .before .before .next-token .result .kind) (c .before .match .keys3)))
 
 returns-4 : tie.Need-returns-4
-returns-4 c = zone-refused _ _ (zone-other _ _ _ (c .before .before .next-token .ensures) (0 ∷ 1 ∷ 2 ∷ 3 ∷ 4 ∷ 6 ∷ 7 ∷ 8 ∷ 9 ∷ 10 ∷ 11 ∷ 12 ∷ 13 ∷ 16 ∷ 17 ∷ []) tt tt tt (c .before .match .keys4) ∙ ap (λ (i : ℕ). refuse i) (sym (c .refusal .ensures)))
+returns-4 c = zone-refused _ _ (zone-other _ _ _ (c .before .before .next-token .ensures) (0 ∷ 1 ∷ 2 ∷ 3 ∷ 4 ∷ 6 ∷ 7 ∷ 8 ∷ 9 ∷ 10 ∷ 11 ∷ 12 ∷ 13 ∷ 16 ∷ 17 ∷ []) tt tt tt (c .before .match .keys4) ∙ ap (λ (i : ℕ). refuse i) (sym (c .refusal-of .ensures)))
 
 pub parse-zone-string-spec : {M : Type 1} → statement M
 parse-zone-string-spec =
@@ -54,7 +54,7 @@ parse-zone-string-spec =
     enum-told-2
     parse-some-requires
     enum-told-3
-    refusal-requires
+    refusal-of-requires
     returns
     returns-2
     returns-3
