@@ -16,6 +16,9 @@ import tty
 import unittest
 
 ROOT = pathlib.Path(__file__).resolve().parents[2]
+sys.path.insert(0, str(ROOT / "tests"))
+import needs  # noqa: E402
+
 PROGRAM = ROOT / "target" / "bin" / "type_lines"
 SECONDS = 60
 
@@ -279,6 +282,10 @@ class Failures(unittest.TestCase):
 if __name__ == "__main__":
     if "--built" in sys.argv:
         sys.argv.remove("--built")
+        needs.path(PROGRAM, "`rt check type_lines` builds it.")
     else:
-        subprocess.run(["rt", "check", "type_lines"], cwd=ROOT, check=True)
+        needs.tools("rt")
+        status = subprocess.run(["rt", "check", "type_lines"], cwd=ROOT).returncode
+        if status:
+            sys.exit(status)
     unittest.main()

@@ -9,7 +9,11 @@ that does. The exit status is 1 if any does.
 
 import collections
 import itertools
+import pathlib
 import sys
+
+sys.path.insert(0, str(pathlib.Path(__file__).resolve().parents[1]))
+import needs  # noqa: E402
 
 
 def verdict(port, rust):
@@ -35,4 +39,9 @@ def compare(port_path, rust_path):
 
 
 if __name__ == "__main__":
+    if len(sys.argv) != 3:
+        needs.complain("it takes two files, the answers of the port and those of `compare lines`.")
+        sys.exit(2)
+    for name in sys.argv[1:]:
+        needs.path(name, "tests/lines/time.py writes such files to target/lines.")
     sys.exit(1 if compare(sys.argv[1], sys.argv[2]) else 0)

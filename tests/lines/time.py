@@ -17,6 +17,9 @@ import mix
 import same
 
 ROOT = pathlib.Path(__file__).resolve().parents[2]
+sys.path.insert(0, str(ROOT / "tests"))
+import needs  # noqa: E402
+
 FILES = ROOT / "target" / "lines"
 PORT = [ROOT / "target" / "bin" / "type_lines"]
 RUST = [ROOT / "tests" / "compare" / "target" / "speed" / "compare", "lines"]
@@ -33,6 +36,8 @@ def seconds(command, lines, answers):
 
 
 def main():
+    needs.path(PORT[0], "`rt check type_lines` builds it.")
+    needs.path(RUST[0], "`cargo build --profile speed --offline` in tests/compare builds it.")
     FILES.mkdir(parents=True, exist_ok=True)
     mixed = list(mix.mixed(int(sys.argv[1]) if len(sys.argv) > 1 else 1_000_000))
     port, rust = FILES / "port", FILES / "rust"

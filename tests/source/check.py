@@ -8,6 +8,9 @@ import subprocess
 import sys
 
 ROOT = pathlib.Path(__file__).resolve().parents[2]
+sys.path.insert(0, str(ROOT / "tests"))
+import needs  # noqa: E402
+
 faults = []
 
 
@@ -138,6 +141,7 @@ def check_layout():
 
 
 def main():
+    needs.tools("rt")
     checks = [
         check_crates,
         check_contracts,
