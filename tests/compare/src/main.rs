@@ -2,6 +2,8 @@
 //! trees. README.md says more.
 
 mod check;
+#[cfg(feature = "subject")]
+mod count;
 mod generate;
 mod known;
 mod lines;
@@ -43,6 +45,9 @@ compare lines
 compare speed
     reads texts and prints them with port and Rust, and says how long each takes (with the feature
     subject)
+compare count
+    counts the instructions of the same by valgrind, which runs `compare repeat` (with the feature
+    subject)
 ";
 
 fn main() -> ExitCode {
@@ -77,6 +82,10 @@ fn command(arguments: &[String]) -> Result<ExitCode, String> {
         "service" => Ok(service::run(&settings(rest, &["seed", "texts"])?)),
         #[cfg(feature = "subject")]
         "speed" => Ok(speed::run()),
+        #[cfg(feature = "subject")]
+        "count" => count::run(),
+        #[cfg(feature = "subject")]
+        "repeat" => count::repeat(rest),
         other => Err(format!("unknown command {other}")),
     }
 }

@@ -95,7 +95,7 @@ fn fastest(text: &str, mut work: impl FnMut(&str)) -> f64 {
     (0..ROUNDS).map(round).fold(f64::INFINITY, f64::min)
 }
 
-fn texts() -> Vec<(&'static str, String)> {
+pub fn texts() -> Vec<(&'static str, String)> {
     let zone = "Timestamp(s, \"CET\")";
     let columns = "Struct(\"slot\": non-null Timestamp(s, \"CET\"), \"tenant\": non-null UInt64, \
         \"unit\": non-null Utf8, \"meter\": Dictionary(Int32, Utf8), \
@@ -106,11 +106,21 @@ fn texts() -> Vec<(&'static str, String)> {
     let fields: Vec<String> = (0..700)
         .map(|field| format!("\"c{field}\": Float64"))
         .collect();
+    // ten letters each, no two alike
+    let letter = |number: usize| char::from(b'a' + (number % 26) as u8);
+    let names: Vec<String> = (0..700)
+        .map(|field| [field / 676, field / 26, field].map(letter))
+        .map(|[a, b, c]| format!("\"letters{a}{b}{c}\": Int8"))
+        .collect();
     let refused = columns.replace("unsorted", "unsortedly");
     vec![
         ("zone", zone.into()),
         ("11 columns", columns.into()),
         ("700 fields", format!("Struct({})", fields.join(", "))),
+        (
+            "700 ten-letter names",
+            format!("Struct({})", names.join(", ")),
+        ),
         ("refused", refused),
     ]
 }
