@@ -37,6 +37,7 @@ class Gate(unittest.TestCase):
         # each is asked for by its name, and writes it down
         self.stand_in("bin/python3", 'echo "python3 $1" >>called; bash "$1"')
         self.stand_in("tests/source/check.py", "")
+        self.stand_in("tests/source/planted.py", "")
         self.stand_in("tests/gate/run.py", "")
         self.stand_in("bindings/test", 'echo "bindings ${ARROW_TYPES_LIB:-own}" >>called')
         self.stand_in("tests/lines/run.py", "echo lines")
@@ -69,7 +70,7 @@ class Gate(unittest.TestCase):
             self.assertEqual(called, calls)
         return done
 
-    BEFORE = ["python3 tests/source/check.py", "python3 tests/gate/run.py"]
+    BEFORE = ["python3 tests/source/check.py", "python3 tests/source/planted.py", "python3 tests/gate/run.py"]
 
     def test_all_pass(self):
         done, called = self.run_gate(ARROW_TYPES_LIB="elsewhere")

@@ -1,0 +1,89 @@
+#!/usr/bin/env python3
+"""Planted cases for tools/unused_imports.py: imports that are used in some way and must stay, others that are not and
+must go.
+
+    python3 tests/source/planted.py
+"""
+
+import pathlib
+import sys
+import tempfile
+import unittest
+
+sys.path.insert(0, str(pathlib.Path(__file__).resolve().parents[2] / "tools"))
+import unused_imports  # noqa: E402
+
+
+class Planted(unittest.TestCase):
+    def setUp(self):
+        folder = tempfile.TemporaryDirectory()
+        self.addCleanup(folder.cleanup)
+        self.root = pathlib.Path(folder.name)
+
+    def cut(self, text, name="proofs/Laws.antt", edits=(), modules=False):
+        """What is taken out of a file with this text, and the text without it."""
+        for path, content in [(name, text), *edits]:
+            file = self.root / "crates/a" / path
+            file.parent.mkdir(parents=True, exist_ok=True)
+            file.write_text(content, encoding="utf8")
+        found = list(unused_imports.unused(self.root, modules=modules))
+        return (found[0][2], found[0][1]) if found else ([], text)
+
+    def assert_cut(self, text, items, left=None, **more):
+        got, shorter = self.cut(text, **more)
+        self.assertEqual(got, items)
+        if left is not None:
+            self.assertEqual(shorter, left)
+
+    def test_list(self):
+        self.assert_cut("use M.{a, b, c}\n\nx = b\n", ["M.a", "M.c"], "use M.{b}\n\nx = b\n")
+        self.assert_cut("use M.{a}\nuse N.{b}\n\nx = b\n", ["M.a"], "use N.{b}\n\nx = b\n")
+
+    def test_renamed(self):
+        self.assert_cut("use M.{a as c}\n\nx = c\n", [])
+        self.assert_cut("use M.{a as c}\n\nx = a\n", ["M.a as c"])
+
+    def test_operators(self):
+        self.assert_cut("use M.{_≡_, _+_, _∷_, []}\n\nx : a ≡ b\nx = (_+ 1) ∷ []\n", [])
+        self.assert_cut("use M.{_≡_, _+_}\n\nx : a ≢ b\nx = n+n\n", ["M._≡_", "M._+_"])
+        self.assert_cut("use M.{if_then_else_}\n\nx = if a then b else c\n", [])
+        self.assert_cut("use M.{if_then_else_}\n\nx = if a then b\n", ["M.if_then_else_"])
+
+    def test_patterns(self):
+        self.assert_cut("use M.{node, ∅}\n\nf (node a k) = a\nf ∅ = 0\n", [])
+        self.assert_cut("use M.{f, g}\n\nx : f\nunfolding g\nx = 1\n", [])
+
+    def test_words(self):
+        # a longer name, a field, a comment, a text and another import are no uses
+        self.assert_cut("use M.{and-l}\n\nx = and-l′ y\n", ["M.and-l"])
+        self.assert_cut("use M.{taken}\n\nx = c .if1 .taken\n", ["M.taken"])
+        self.assert_cut("use M.{a}\n\n-- a\n{- a -}\nx = y -- a\n", ["M.a"])
+        self.assert_cut('use M.{a}\n\nx = "a -- " ∷ y\n', ["M.a"])
+        self.assert_cut("use M.{a}\nuse N.{a as b}\n\nx = b\n", ["M.a"])
+        # behind a text with dashes, and before a dot, it is used
+        self.assert_cut('use M.{a, List}\n\nx = f " -- " a List.below\n', [])
+
+    def test_passed_on(self):
+        self.assert_cut("pub use M.{a}\n", [])
+
+    def test_modules(self):
+        text = "use M as m\nuse N as n\nuse P as p\nuse p.{q}\n\nx = m.a q\n"
+        self.assert_cut(text, [])
+        self.assert_cut(text, ["N as n"], "use M as m\nuse P as p\nuse p.{q}\n\nx = m.a q\n", modules=True)
+
+    def test_ghost(self):
+        text = "ghost use M.{_<_, f, g};\n\nfn a(b: u8) -> bool\n    ensures size { λ r. ⌜ f { x } r ⌝ }\n{\n    g < b\n}\n"
+        self.assert_cut(text, ["M._<_", "M.g"], text.replace("_<_, f, g", "f"), name="src/lib.rt")
+
+    def test_code(self):
+        text = "use crate::a;\nuse crate::b;\nuse crate::c as d;\nuse crate::e;\n\nfn f() {\n    a(x.b, m::b, d); // e\n}\n"
+        self.assert_cut(text, ["crate::b", "crate::e"], name="src/lib.rt")
+        self.assert_cut("use crate::A;\n\nfn f(a: &[A; 3]) {}\n", [], name="src/lib.rt")
+
+    def test_edits(self):
+        edit = ("must-fail/wrong.edit", "file: proofs/Laws.antt\nold: x = y\nnew: x = a\n")
+        self.assert_cut("use M.{a, b}\n\nx = y\n", ["M.b"], edits=[edit])
+
+
+if __name__ == "__main__":
+    unittest.main()
