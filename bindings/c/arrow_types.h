@@ -13,7 +13,7 @@
  * ARROW_TYPES_ROW_WORDS words each: words behind them make the tree not sound. Names and zones are parts of the text,
  * so it is kept as long as the rows.
  *
- * Numbers and words here are those of the scope, document 01, and of document 02, which gave the rows their parents.
+ * Numbers and words here are those of the scope, docs/SCOPE.md: 'Numbers a caller may get' and 'The row table'.
  */
 #ifndef ARROW_TYPES_H
 #define ARROW_TYPES_H
