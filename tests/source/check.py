@@ -60,7 +60,7 @@ def check_documents():
     """A name `crate/Module.name` in the documents is declared in that crate's specs/ or proofs/."""
     known = {name: declared_names(ROOT / "crates" / name) for name in listed_crates()}
     pattern = re.compile(r"`(\w+)/([A-Z]\w*\.[^`\s]+)`")
-    for path in [ROOT / "README.md", *sorted((ROOT / "docs").glob("*.md"))]:
+    for path in [ROOT / "README.md", ROOT / "CONTRIBUTING.md", *sorted((ROOT / "docs").glob("*.md"))]:
         for crate, name in pattern.findall(path.read_text(encoding="utf8")):
             if name not in known.get(crate, set()):
                 faults.append(f"{path.relative_to(ROOT)}: `{crate}/{name}` is not declared")
