@@ -48,7 +48,7 @@ def report(said, width):
             yield from goal(lines, at)
         elif is_failure(line):
             yield line[:width]
-        elif line.startswith("fn ") and not line.endswith(": proved"):
+        elif line.startswith("fn ") and not line.endswith((": proved", ": no holes")):
             yield line[:width]
         elif VERDICT.match(line):
             yield line[:VERDICT_WIDTH]

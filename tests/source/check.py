@@ -1,6 +1,10 @@
 #!/usr/bin/env python3
 """Checks that need no proof: public functions state what they answer and ask nothing, the documents name definitions
-that exist, no crate is left off the list, and the layout is that of `rt fmt`."""
+that exist, no crate is left off the list, and the layout is that of `rt fmt`.
+
+    python3 tests/source/check.py
+    python3 tests/source/check.py --believe     # the definitions that each demand rests on, with their lines
+"""
 
 import pathlib
 import re
@@ -134,6 +138,58 @@ def check_links():
                 faults.append(f"{path.relative_to(ROOT)}: no file {target}")
 
 
+def specs_file(crate, module):
+    return ROOT / "crates" / crate / "specs" / f"{module}.antt"
+
+
+def rests_on(roots):
+    """The files of definitions that these files import, one by way of another, and they themselves."""
+    found, todo = set(), list(roots)
+    while todo:
+        crate, module = todo.pop()
+        if (crate, module) not in found:
+            found.add((crate, module))
+            text = specs_file(crate, module).read_text(encoding="utf8")
+            todo += re.findall(r"^use Rattle·(\w+?)(?:·specs)?\.specs\.([A-Z]\w*)", text, re.M)
+    return found
+
+
+def believed():
+    """What docs/STATEMENTS.md says of each demand: the files that its contracts cite, and all that it rests on."""
+    text = (ROOT / "docs/STATEMENTS.md").read_text(encoding="utf8")
+    section = text.split("## What a reader must believe")[1].split("\n## ")[0]
+    for line in section.splitlines():
+        cells = [cell.strip() for cell in line.strip("| ").split(" | ")]
+        if len(cells) == 3 and "`" in cells[1]:
+            cited, others = (set(re.findall(r"`(\w+)/(\w+)`", cell)) for cell in cells[1:])
+            yield cells[0], cited, others
+
+
+def check_believed():
+    """docs/STATEMENTS.md names, for each demand, just the files of definitions that it rests on."""
+    for demand, cited, others in believed():
+        missing = [name for name in sorted(cited | others) if not specs_file(*name).exists()]
+        for crate, module in missing:
+            faults.append(f"docs/STATEMENTS.md: {demand}: there is no crates/{crate}/specs/{module}.antt")
+        if not missing:
+            for crate, module in sorted(rests_on(cited) ^ (cited | others)):
+                wrong = "is named" if (crate, module) in others else "is not named"
+                faults.append(f"docs/STATEMENTS.md: {demand}: {crate}/{module} {wrong}, by what the files import")
+
+
+def print_believed():
+    """The files that each demand rests on, each with its lines, in the order of the crates."""
+    order = listed_crates()
+    for demand, cited, _ in believed():
+        print(demand)
+        total = 0
+        for crate, module in sorted(rests_on(cited), key=lambda name: (order.index(name[0]), name[1])):
+            lines = len(specs_file(crate, module).read_text(encoding="utf8").splitlines())
+            total += lines
+            print(f"{lines:>6}  crates/{crate}/specs/{module}.antt")
+        print(f"{total:>6}  in all\n")
+
+
 def check_layout():
     run = subprocess.run(["rt", "fmt", "--check"], cwd=ROOT, capture_output=True, text=True)
     if run.returncode != 0:
@@ -150,6 +206,7 @@ def main():
         check_edits,
         check_edit_texts,
         check_links,
+        check_believed,
         check_layout,
     ]
     failed = 0
@@ -164,4 +221,7 @@ def main():
 
 
 if __name__ == "__main__":
-    main()
+    if sys.argv[1:] == ["--believe"]:
+        print_believed()
+    else:
+        main()
