@@ -48,14 +48,26 @@ def compared(text):
     return imports, [line for line in lines if not line.startswith("use ")]
 
 
-def copy(folder):
-    """The repository's crates, tools and proved libraries, in another folder."""
+def below(crate):
+    """The crates that a crate rests on, as crates.txt has them."""
+    for line in (goals.ROOT / "crates.txt").read_text(encoding="utf8").splitlines():
+        name, _, others = line.partition(":")
+        if name.strip() == crate:
+            return others.split()
+    sys.exit(f"There is no crate {crate} in crates.txt.")
+
+
+def copy(crate, folder):
+    """The repository's crates and tools, and the proved libraries that a crate rests on, in another folder."""
     for name in ["crates", "tools"]:
         shutil.copytree(goals.ROOT / name, folder / name)
     shutil.copy(goals.ROOT / "crates.txt", folder)
-    for name in ["rlib", "stamp"]:
-        if (goals.ROOT / "target" / name).is_dir():
-            shutil.copytree(goals.ROOT / "target" / name, folder / "target" / name, symlinks=True)
+    for name in below(crate):
+        library, stamp = (goals.ROOT / "target" / part for part in (f"rlib/{name}.rlib", f"stamp/{name}"))
+        if library.is_dir() and stamp.is_file():
+            shutil.copytree(library, folder / "target/rlib" / library.name)
+            (folder / "target/stamp").mkdir(exist_ok=True)
+            shutil.copy(stamp, folder / "target/stamp")
 
 
 def dotted(function):
@@ -75,7 +87,7 @@ def main():
     crate, wanted = sys.argv[1], sys.argv[2:] or functions(sys.argv[1])
     with tempfile.TemporaryDirectory() as name:
         folder = pathlib.Path(name)
-        copy(folder)
+        copy(crate, folder)
         in_copy(folder, "rt", "goals", crate)
         before, tried = {}, []
         for function in wanted:

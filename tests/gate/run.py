@@ -1,6 +1,6 @@
 #!/usr/bin/env python3
 """Tests of the gate, tests/run, in a folder where everything that it calls is a stand-in: it passes only where each of
-them does, and its last line is that of `rt ci`.
+them does, and its last line is that of `rt ci`. And of what each script says where a tool is missing.
 
     python3 tests/gate/run.py
 """
@@ -9,6 +9,7 @@ import os
 import pathlib
 import shutil
 import subprocess
+import sys
 import tempfile
 import unittest
 
@@ -129,6 +130,38 @@ class Gate(unittest.TestCase):
                 os.remove(self.root / "bin" / tool)
                 done = self.assert_fails([], f"there is no {tool} here")
                 self.assertEqual(len(done.stderr.splitlines()), 1)
+
+
+class Missing(unittest.TestCase):
+    """Where no tool is to be had, a script names each that it needs in a sentence, and ends with 2."""
+
+    SCRIPTS = {
+        "tests/run": ["rt", "gcc", "nm", "cargo"],
+        "tests/quick": ["rt"],
+        "tests/bench": ["rt", "cargo", "gcc", "valgrind"],
+        "bindings/test": ["gcc", "nm", "cargo", "rt"],
+        "tests/lines/run.py": ["rt"],
+        "tests/source/check.py": ["rt"],
+    }
+
+    def test_scripts(self):
+        with tempfile.TemporaryDirectory() as name:
+            folder = pathlib.Path(name)
+            for tool in ["bash", "env", "dirname"]:
+                (folder / tool).symlink_to(shutil.which(tool))
+            (folder / "python3").symlink_to(sys.executable)
+            for script, tools in self.SCRIPTS.items():
+                with self.subTest(script=script):
+                    self.assert_named(folder, script, tools)
+
+    def assert_named(self, folder, script, tools):
+        runner = "python3" if script.endswith(".py") else "bash"
+        done = subprocess.run([folder / runner, script], cwd=TESTS.parent, env={"PATH": str(folder)}, capture_output=True, text=True)
+        self.assertEqual(done.returncode, 2)
+        said = done.stderr.splitlines()
+        self.assertEqual(len(said), len(tools), done.stderr)
+        for tool, line in zip(tools, said):
+            self.assertIn(f"there is no {tool} here", line)
 
 
 if __name__ == "__main__":
