@@ -4,6 +4,7 @@ that exist, no crate is left off the list, and the layout is that of `rt fmt`.
 
     python3 tests/source/check.py
     python3 tests/source/check.py --believe     # the definitions that each demand rests on, with their lines
+    python3 tests/source/check.py --write       # writes their names into docs/STATEMENTS.md anew
 """
 
 import pathlib
@@ -174,16 +175,32 @@ def check_believed():
         if not missing:
             for crate, module in sorted(rests_on(cited) ^ (cited | others)):
                 wrong = "is named" if (crate, module) in others else "is not named"
-                faults.append(f"docs/STATEMENTS.md: {demand}: {crate}/{module} {wrong}, by what the files import")
+                faults.append(f"docs/STATEMENTS.md: {demand}: {crate}/{module} {wrong}; check.py --write mends it")
+
+
+def in_order(names):
+    """Files of definitions in the order of the crates."""
+    order = listed_crates()
+    return sorted(names, key=lambda name: (order.index(name[0]), name[1]))
+
+
+def write_believed():
+    """The last column of that table, as the files import it."""
+    path = ROOT / "docs/STATEMENTS.md"
+    text = path.read_text(encoding="utf8")
+    for demand, cited, _ in believed():
+        others = ", ".join(f"`{crate}/{module}`" for crate, module in in_order(rests_on(cited) - cited))
+        row = re.compile(rf"^(\| {re.escape(demand)} \| [^|]* \| )[^|]*( \|)$", re.M)
+        text = row.sub(lambda match: match.group(1) + (others or "nothing else") + match.group(2), text)
+    path.write_text(text, encoding="utf8")
 
 
 def print_believed():
-    """The files that each demand rests on, each with its lines, in the order of the crates."""
-    order = listed_crates()
+    """The files that each demand rests on, each with its lines."""
     for demand, cited, _ in believed():
         print(demand)
         total = 0
-        for crate, module in sorted(rests_on(cited), key=lambda name: (order.index(name[0]), name[1])):
+        for crate, module in in_order(rests_on(cited)):
             lines = len(specs_file(crate, module).read_text(encoding="utf8").splitlines())
             total += lines
             print(f"{lines:>6}  crates/{crate}/specs/{module}.antt")
@@ -223,5 +240,7 @@ def main():
 if __name__ == "__main__":
     if sys.argv[1:] == ["--believe"]:
         print_believed()
+    elif sys.argv[1:] == ["--write"]:
+        write_believed()
     else:
         main()
