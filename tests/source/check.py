@@ -139,6 +139,19 @@ def check_links():
                 faults.append(f"{path.relative_to(ROOT)}: no file {target}")
 
 
+def check_citations():
+    """docs/SCOPE.md has a heading for each section of document 01 and each demand that a file cites."""
+    headings = re.findall(r"^## (.*)$", (ROOT / "docs/SCOPE.md").read_text(encoding="utf8"), re.M)
+    sections = re.compile(r"document 01, ((?:'[^'\n]+'(?:,| and)? ?)+)", re.I)
+    for path in sorted([*ROOT.glob("crates/**/*.rt"), *ROOT.glob("crates/**/*.antt"), *ROOT.glob("bindings/*/*.h"), *pages()]):
+        text = path.read_text(encoding="utf8")
+        cited = [name for part in sections.findall(text) for name in re.findall(r"'([^']+)'", part)]
+        cited += [f"Demand {number}" for number in re.findall(r"\bdemand (\d)", text, re.I)]
+        for name in sorted(set(cited)):
+            if not any(heading.startswith(name) for heading in headings):
+                faults.append(f"{path.relative_to(ROOT)}: docs/SCOPE.md has no section '{name}'")
+
+
 def specs_file(crate, module):
     return ROOT / "crates" / crate / "specs" / f"{module}.antt"
 
@@ -223,6 +236,7 @@ def main():
         check_edits,
         check_edit_texts,
         check_links,
+        check_citations,
         check_believed,
         check_layout,
     ]
