@@ -1,6 +1,7 @@
 #!/usr/bin/env python3
-"""Checks that need no proof: public functions state what they answer and ask nothing, the documents name definitions
-that exist, no crate is left off the list, and the layout is that of `rt fmt`.
+"""Checks that need no proof: public functions state what they answer and ask nothing, by definitions that a reader must
+believe; functions are small; no import is idle; the documents name definitions that exist; no crate is left off the list;
+and the layout is that of `rt fmt`.
 
     python3 tests/source/check.py
     python3 tests/source/check.py --believe     # the definitions that each demand rests on, with their lines
@@ -13,8 +14,13 @@ import subprocess
 import sys
 
 ROOT = pathlib.Path(__file__).resolve().parents[2]
-sys.path.insert(0, str(ROOT / "tests"))
+sys.path[:0] = [str(ROOT / folder) for folder in ("tests", "tests/source", "tools")]
+import functions  # noqa: E402
 import needs  # noqa: E402
+import unused_imports  # noqa: E402
+
+# Worked examples: they compute with definitions of specs/Internal, and nothing rests on them.
+EXAMPLES = {"Examples", "EveryKind"}
 
 faults = []
 
@@ -47,6 +53,34 @@ def check_contracts():
                 faults.append(f"{where} has a requires")
             if not re.search(r"\bensures\b", head):
                 faults.append(f"{where} states nothing")
+
+
+def check_internal():
+    """No public function's contract names a definition of specs/Internal, and no definition outside rests on one."""
+    for path in sorted(ROOT.glob("crates/*/src/**/*.rt")):
+        source = path.read_text(encoding="utf8")
+        lists = re.findall(r"^ghost use Rattle·\w+(?:·specs)?\.specs\.Internal\.[\w.]+\.\{([^}]*)\};", source, re.M)
+        internal = {name.strip() for names in lists for name in names.split(",")}
+        for function, head in public_functions(source):
+            for name in sorted(internal & unused_imports.words(unused_imports.contracts(head))):
+                faults.append(f"{path.relative_to(ROOT)}: pub fn {function} is stated by {name} of specs/Internal")
+    for path in sorted(ROOT.glob("crates/*/specs/*.antt")):
+        if re.search(r"^use Rattle·\w+(?:·specs)?\.specs\.Internal\b", path.read_text(encoding="utf8"), re.M):
+            if path.stem not in EXAMPLES:
+                faults.append(f"{path.relative_to(ROOT)}: rests on specs/Internal")
+
+
+def check_functions():
+    for path in sorted(ROOT.glob("crates/*/src/**/*.rt")):
+        for function in functions.functions(path.read_text(encoding="utf8")):
+            for fault in function.faults():
+                faults.append(f"{path.relative_to(ROOT)}: fn {function.name} {fault}")
+
+
+def check_imports():
+    for path, _, idle in unused_imports.unused():
+        for item in idle:
+            faults.append(f"{path.relative_to(ROOT)}: {item} is imported and not used")
 
 
 def declared_names(folder):
@@ -174,14 +208,14 @@ def believed():
     section = text.split("## What a reader must believe")[1].split("\n## ")[0]
     for line in section.splitlines():
         cells = [cell.strip() for cell in line.strip("| ").split(" | ")]
-        if len(cells) == 3 and "`" in cells[1]:
-            cited, others = (set(re.findall(r"`(\w+)/(\w+)`", cell)) for cell in cells[1:])
-            yield cells[0], cited, others
+        if len(cells) == 4 and "`" in cells[1]:
+            cited, others = (set(re.findall(r"`(\w+)/(\w+)`", cell)) for cell in cells[1:3])
+            yield cells[0], cited, others, cells[3]
 
 
 def check_believed():
     """docs/STATEMENTS.md names, for each demand, just the files of definitions that it rests on."""
-    for demand, cited, others in believed():
+    for demand, cited, others, lines in believed():
         missing = [name for name in sorted(cited | others) if not specs_file(*name).exists()]
         for crate, module in missing:
             faults.append(f"docs/STATEMENTS.md: {demand}: there is no crates/{crate}/specs/{module}.antt")
@@ -189,6 +223,16 @@ def check_believed():
             for crate, module in sorted(rests_on(cited) ^ (cited | others)):
                 wrong = "is named" if (crate, module) in others else "is not named"
                 faults.append(f"docs/STATEMENTS.md: {demand}: {crate}/{module} {wrong}; check.py --write mends it")
+            if lines != lines_in_all(rests_on(cited)):
+                faults.append(f"docs/STATEMENTS.md: {demand}: not {lines} lines; check.py --write mends it")
+
+
+def lines_of(crate, module):
+    return len(specs_file(crate, module).read_text(encoding="utf8").splitlines())
+
+
+def lines_in_all(names):
+    return f"{sum(lines_of(*name) for name in names):,}"
 
 
 def in_order(names):
@@ -198,26 +242,24 @@ def in_order(names):
 
 
 def write_believed():
-    """The last column of that table, as the files import it."""
+    """The last two columns of that table, as the files are."""
     path = ROOT / "docs/STATEMENTS.md"
     text = path.read_text(encoding="utf8")
-    for demand, cited, _ in believed():
+    for demand, cited, _, _ in believed():
         others = ", ".join(f"`{crate}/{module}`" for crate, module in in_order(rests_on(cited) - cited))
-        row = re.compile(rf"^(\| {re.escape(demand)} \| [^|]* \| )[^|]*( \|)$", re.M)
-        text = row.sub(lambda match: match.group(1) + (others or "nothing else") + match.group(2), text)
+        row = re.compile(rf"^(\| {re.escape(demand)} \| [^|]* \| )[^|]* \| [^|]*( \|)$", re.M)
+        cells = f"{others or 'nothing else'} | {lines_in_all(rests_on(cited))}"
+        text = row.sub(lambda match: match.group(1) + cells + match.group(2), text)
     path.write_text(text, encoding="utf8")
 
 
 def print_believed():
     """The files that each demand rests on, each with its lines."""
-    for demand, cited, _ in believed():
+    for demand, cited, _, _ in believed():
         print(demand)
-        total = 0
         for crate, module in in_order(rests_on(cited)):
-            lines = len(specs_file(crate, module).read_text(encoding="utf8").splitlines())
-            total += lines
-            print(f"{lines:>6}  crates/{crate}/specs/{module}.antt")
-        print(f"{total:>6}  in all\n")
+            print(f"{lines_of(crate, module):>6}  crates/{crate}/specs/{module}.antt")
+        print(f"{lines_in_all(rests_on(cited)):>6}  in all\n")
 
 
 def check_layout():
@@ -231,6 +273,9 @@ def main():
     checks = [
         check_crates,
         check_contracts,
+        check_internal,
+        check_functions,
+        check_imports,
         check_listed_functions,
         check_documents,
         check_edits,

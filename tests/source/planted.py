@@ -1,6 +1,6 @@
 #!/usr/bin/env python3
-"""Planted cases for tools/unused_imports.py: imports that are used in some way and must stay, others that are not and
-must go.
+"""Planted cases for the checks on sources. Imports: those that are used in some way must stay, others must go. Functions:
+those that are too long, nest too deep or have two loops are found, others not.
 
     python3 tests/source/planted.py
 """
@@ -10,7 +10,8 @@ import sys
 import tempfile
 import unittest
 
-sys.path.insert(0, str(pathlib.Path(__file__).resolve().parents[2] / "tools"))
+sys.path[:0] = [str(pathlib.Path(__file__).resolve().parents[2] / folder) for folder in ("tools", "tests/source")]
+import functions  # noqa: E402
 import unused_imports  # noqa: E402
 
 
@@ -83,6 +84,40 @@ class Planted(unittest.TestCase):
     def test_edits(self):
         edit = ("must-fail/wrong.edit", "file: proofs/Laws.antt\nold: x = y\nnew: x = a\n")
         self.assert_cut("use M.{a, b}\n\nx = y\n", ["M.b"], edits=[edit])
+
+
+class Functions(unittest.TestCase):
+    def faults(self, body):
+        text = "\n".join(["fn f(", "    a: u8,", ") -> u8", "    ensures { λ r. ⌜ g {x = 1} ⌝ }", "{", *body, "}", "", "fn g() {", "}"])
+        first, second = functions.functions(text)
+        self.assertEqual((first.name, second.name, second.faults()), ("f", "g", []))
+        return first.faults()
+
+    def test_lines(self):
+        self.assertEqual(self.faults(["    a;"] * 39), [])
+        self.assertEqual(self.faults(["    a;"] * 40), ["has 40 lines, more than 39"])
+
+    def test_loops(self):
+        loop = ["    while a < 1 {", "        a += 1;", "    }"]
+        self.assertEqual(self.faults(loop), [])
+        self.assertEqual(self.faults(loop + loop), ["has 2 loops, more than 1"])
+
+    def nest(self, heads, inner):
+        opened = [f"{'    ' * (depth + 1)}{head} {{" for depth, head in enumerate(heads)]
+        return opened + inner + [f"{'    ' * (depth + 1)}}}" for depth in reversed(range(len(heads)))]
+
+    def test_nested(self):
+        three = self.nest(["if a", "match b", "C::D(e) =>"], ["                f"])
+        self.assertEqual(self.faults(three), [])
+        self.assertEqual(self.faults(three + three), [])
+        four = self.nest(["if a", "match b", "C::D(e) => match f", "G::H =>"], ["                    i"])
+        self.assertEqual(self.faults(four), ["has 4 nested blocks, more than 3"])
+
+    def test_no_blocks(self):
+        # a struct's value, braces in a byte, in a text and in a comment
+        value = ["                return A {", "                    b: 1,", "                };"]
+        other = ["                put(out, b'{', b\"\\\\u{\"); // {"]
+        self.assertEqual(self.faults(self.nest(["if a", "match b", "C::D(e) =>"], value + other)), [])
 
 
 if __name__ == "__main__":

@@ -1,7 +1,7 @@
 -- The code's answers as the two numbers a caller gets.
-use mathlib.Core.Path.{_≡_, refl, sym, ap, _∙_}
+use mathlib.Core.Path.{_≡_, sym, ap, _∙_}
 use mathlib.Core.Bool.{Bool, true, false}
-use mathlib.Core.Option.{Option, some, none}
+use mathlib.Core.Option.{Option}
 use Prim.Native.Nat.{ℕ}
 use Rattle.tokenizer.specs.Answer.{Out, done, refuse}
 use Rattle.row_table.specs.Sound.{depthMeans}

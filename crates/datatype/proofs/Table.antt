@@ -1,16 +1,16 @@
 -- Tables and trees: a table that the view takes apart is put together again word for word, and the other way round.
-use mathlib.Core.Path.{_≡_, refl, sym, ap, _∙_}
+use mathlib.Core.Path.{_≡_, refl, ap, _∙_}
 use mathlib.Core.Bool.{Bool, true, false, _&&_}
 use mathlib.Core.List.{List, [], _∷_, _++_}
 use mathlib.Core.Option.{Option, none, some}
-use Prim.Native.Nat.{ℕ, zero, suc, _+_, _*_, _-_, _≤_, _<_}
+use Prim.Native.Nat.{ℕ, zero, suc, _*_, _-_, _≤_}
 use native.Mathlib.Omega.{arith}
-use lib.ListN.{length, take, drop, getD, length-append, length-take, length-drop, take-append-drop}
-use lib.Seq.{drop-cons, drop-drop, take-at, drop-at, length-take-le}
+use lib.ListN.{length, take, drop, length-append, length-take, length-drop, take-append-drop}
+use lib.Seq.{drop-cons, take-at, drop-at, length-take-le}
 use lib.Dec.{T, leb, leb→le}
 use borrow.Author.Tests.{le-leb}
 use Rattle.tokenizer.specs.Text.{if_then_else_}
-use Rattle.tokenizer.proofs.Basics.{and-l, and-r, of-true}
+use Rattle.tokenizer.proofs.Basics.{and-l, and-r}
 use Rattle.datatype.specs.Tree.{Forest, ∅, node, count, Row}
 use Rattle.datatype.specs.Table.{rowWords, wordsOf, rowOf, rowsWord, tableOf, join, viewWith, viewOf}
 

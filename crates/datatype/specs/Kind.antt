@@ -1,7 +1,7 @@
 -- Kinds of types, and the ranges of their numbers (document 01, 'Types' and 'The row table').
 use mathlib.Core.Bool.{Bool, true, false, not, _&&_, _||_}
 use mathlib.Core.List.{List, [], _∷_}
-use Prim.Native.Nat.{ℕ, zero, suc, _+_, _-_, _^_}
+use Prim.Native.Nat.{ℕ, _+_, _-_}
 use lib.ListN.{getD}
 use lib.Dec.{leb, ltb, eqb}
 use Rattle.tokenizer.specs.Text.{if_then_else_}

@@ -2,4 +2,4 @@ pub mod Limits
 pub mod Kind
 pub mod Tree
 pub mod Table
-pub mod Computed
+pub mod Internal

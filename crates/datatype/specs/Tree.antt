@@ -1,5 +1,4 @@
 -- Trees, rows and what a tree says (document 01, 'The row table').
-use mathlib.Core.Bool.{Bool}
 use mathlib.Core.List.{List, [], _∷_}
 use Prim.Native.Nat.{ℕ, zero, suc, _+_, max}
 use lib.ListN.{length, take, drop}

@@ -14,7 +14,7 @@ use Rattle.datatype.specs.Kind.{Shape, runEnds, shapeOf}
 use Rattle.datatype.specs.Tree.{Forest, ∅, node, count, roots, depth, Row, Label, part, nameOf, zoneOf, labelOf, labels}
 use Rattle.datatype.specs.Table.{rowWords, treeOf, rowsAt}
 use Rattle.row_table.specs.Sound.{isSound}
-use Rattle.row_table.specs.Run.{rowAt, forestAt, Nests}
+use Rattle.row_table.specs.Internal.Run.{rowAt, forestAt, Nests}
 use Rattle.datatype.proofs.Tests.{iff-eq}
 use Rattle.row_table.proofs.ChildLaws.{child-turn}
 use Rattle.row_table.proofs.Runs.{Turn, turn, forest-none}
@@ -23,7 +23,7 @@ use Rattle.row_table.proofs.LevelWalk.{walk-call, walk-rest}
 use Rattle.row_table.proofs.Walks.{labels-turn, kind-word, zone-words}
 use Rattle.datatype_display.specs.Display.{defaultNames}
 use Rattle.datatype_display.specs.Print.{quotesNames, isAscii, namesAscii, quotedAscii}
-use Rattle.datatype_display.specs.Steps.{shapeMeans, labelAt, rowAscii}
+use Rattle.datatype_display.specs.Internal.Steps.{shapeMeans, labelAt, rowAscii}
 use Rattle.datatype_display.specs.declared.shape.Shape.{Shape as CodeShape}
 
 -- ---- bytes

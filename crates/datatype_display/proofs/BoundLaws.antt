@@ -17,7 +17,7 @@ use Rattle.datatype.proofs.Tests.{allBelow, below-at}
 use Rattle.datatype.proofs.ShapeLaws.{else-value}
 use Rattle.row_table.specs.Equal.{firstRows, wholeRows}
 use Rattle.row_table.proofs.EqualLaws.{row-word}
-use Rattle.datatype_display.specs.Bound.{byteWeight, kindBounds, kindBound, idBound, rowBound, boundAt, rowsBound, treeBound}
+use Rattle.datatype_display.specs.Internal.Bound.{byteWeight, kindBounds, kindBound, idBound, rowBound, boundAt, rowsBound, treeBound}
 
 -- ---- bytes
 

@@ -27,7 +27,7 @@ use Rattle.row_table.proofs.RowList.{rowsOf, whole-rows, count-labels}
 use Rattle.row_table.proofs.SoundTree.{RowFits, rows-fit, SoundTree, sound-tree, sound-count, sound-labels}
 use Rattle.datatype_display.specs.Display.{kindWord, digitsWith, digits, unitText, intervalText, modeText, sortedText, scaleText, escape, escaped, quoted, Shown, nullityText, fieldText, listNameText, listFieldText, structText, unionText, zoneText, defaultNames, runEndText, shapeText, typeText, display, untyped, ownLength, displayLength}
 use Rattle.datatype_display.specs.Print.{isAscii}
-use Rattle.datatype_display.specs.Bound.{kindBounds, kindBound, idBound, rowBound, rowsBound, treeBound, Prints}
+use Rattle.datatype_display.specs.Internal.Bound.{kindBounds, kindBound, idBound, rowBound, rowsBound, treeBound, Prints}
 use Rattle.datatype_display.proofs.Escapes.{escape-34, escape-92, escape-rest}
 use Rattle.datatype_display.proofs.AsciiLaws.{name-all, zone-all, tree-ascii}
 use Rattle.datatype_display.proofs.Length.{display-length}

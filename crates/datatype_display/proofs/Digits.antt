@@ -6,7 +6,7 @@ use native.Mathlib.Decide.{decLt}
 use native.Mathlib.Omega.{arith}
 use borrow.Author.Tests.{lt-ltb, le-ltb}
 use Rattle.datatype_display.specs.Display.{digitsWith, digits}
-use Rattle.datatype_display.specs.Steps.{Put}
+use Rattle.datatype_display.specs.Internal.Steps.{Put}
 use Rattle.datatype_display.proofs.Writes.{put-as, put-then}
 
 pub digits-enough : (m n k : ℕ) → k < m → k < n → digitsWith m k ≡ digitsWith n k

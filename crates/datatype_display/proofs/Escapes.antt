@@ -11,7 +11,7 @@ use borrow.Author.Tests.{lt-ltb, le-ltb, le-leb, lt-leb, eq-eqb, ne-eqb, leb-tru
 use Rattle.tokenizer.specs.Text.{bytes, all, if_then_else_}
 use Rattle.tokenizer.proofs.Basics.{and-l, and-r, both, of-true, is-false}
 use Rattle.datatype_display.specs.Display.{hexDigit, hex, escape, escaped, quoted}
-use Rattle.datatype_display.specs.Steps.{Put, CopiedPlain, isItself, unicodeText}
+use Rattle.datatype_display.specs.Internal.Steps.{Put, CopiedPlain, isItself, unicodeText}
 use Rattle.datatype_display.proofs.Writes.{moved-by, put-none, put-wrote, put-as, put-then, Copied, copied-start, copied-more}
 
 -- ---- hex digits

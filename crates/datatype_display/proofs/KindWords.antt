@@ -10,7 +10,7 @@ use lib.Dec.{T, ltb, eqb, eqb→eq}
 use borrow.Author.Tests.{le-ltb}
 use Rattle.tokenizer.specs.Text.{bytes, same}
 use Rattle.tokenizer.specs.Words.{words}
-use Rattle.tokenizer.specs.Keys.{packed}
+use Rattle.tokenizer.specs.Internal.Keys.{packed}
 use Rattle.tokenizer.proofs.Basics.{and-l, and-r}
 use Rattle.tokenizer.proofs.Listed.{NoneOf, same-path}
 use Rattle.datatype.specs.Kind.{has, kinds}
@@ -18,7 +18,7 @@ use Rattle.datatype.proofs.Tests.{allBelow, below-at}
 use Rattle.datatype.proofs.ShapeLaws.{else-value}
 use Rattle.datatype.proofs.Sets.{sets-append}
 use Rattle.datatype_display.specs.Display.{kindWord}
-use Rattle.datatype_display.specs.Steps.{Wrote, Moved, Put, four, eight, kindSizes, shortWord, longHead, longTail, kindText}
+use Rattle.datatype_display.specs.Internal.Steps.{Wrote, Moved, Put, four, eight, kindSizes, shortWord, longHead, longTail, kindText}
 use Rattle.datatype_display.proofs.Writes.{moved-by, put-as, put-past, put-wrote}
 use Rattle.datatype_display.proofs.WordLaws.{kind-text}
 

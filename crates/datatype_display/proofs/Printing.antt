@@ -10,14 +10,14 @@ use borrow.Author.Tests.{eq-eqb, ne-eqb}
 use Rattle.datatype.specs.Kind.{Shape, leaf, shapeOf}
 use Rattle.datatype.specs.Tree.{Forest, ∅, node, count, roots, depth, Row, Label, labelOf, labels}
 use Rattle.datatype.specs.Table.{rowWords, treeOf, rowsAt}
-use Rattle.row_table.specs.Run.{rowAt, forestAt, Nests}
+use Rattle.row_table.specs.Internal.Run.{rowAt, forestAt, Nests}
 use Rattle.row_table.specs.Sound.{bare, isSound}
 use Rattle.row_table.proofs.Runs.{Turn, turn, forest-none}
 use Rattle.row_table.proofs.SoundTree.{SoundTree, sound-tree, sound-count, sound-nests, sound-forest, sound-labels}
 use Rattle.row_table.proofs.Walks.{labels-turn}
 use Rattle.datatype_display.specs.Display.{Shown, display}
 use Rattle.datatype_display.specs.Print.{quotesNames}
-use Rattle.datatype_display.specs.Steps.{Put, shapeMeans, kindText, openText, closeText, leadText, trailText, childrenText, headText, singleText, rowText, walked, Subtree, labelAt, kidsAt, textAt}
+use Rattle.datatype_display.specs.Internal.Steps.{Put, shapeMeans, kindText, openText, closeText, leadText, trailText, childrenText, headText, singleText, rowText, walked, Subtree, labelAt, kidsAt, textAt}
 use Rattle.datatype_display.specs.declared.shape.Shape.{Shape as CodeShape}
 use Rattle.datatype_display.specs.declared.shape.Shape.the-variants as S
 use Rattle.datatype_display.proofs.Walked.{text-display}

@@ -13,8 +13,8 @@ use Rattle.datatype.specs.Table.{treeOf}
 use Rattle.row_table.specs.Sound.{isSound}
 use Rattle.datatype_display.specs.Display.{display}
 use Rattle.datatype_display.specs.Print.{quotedAscii, print, printAnswer, printBytes, printedMeans}
-use Rattle.datatype_display.specs.Steps.{Moved, Put}
-use Rattle.datatype_display.specs.Bound.{Prints as Sure}
+use Rattle.datatype_display.specs.Internal.Steps.{Moved, Put}
+use Rattle.datatype_display.specs.Internal.Bound.{Prints as Sure}
 use Rattle.datatype_display.specs.declared.Printed.{Printed}
 use Rattle.datatype_display.specs.declared.Printed.the-variants.{Length, Refused}
 

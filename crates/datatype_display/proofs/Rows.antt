@@ -13,7 +13,7 @@ use Rattle.datatype.specs.Tree.{nameOf, zoneOf}
 use Rattle.datatype.specs.Table.{rowWords}
 use Rattle.row_table.proofs.Walks.{kind-word, role-word, id-word, param-word, scale-word, name-words, zone-words}
 use Rattle.datatype_display.specs.Display.{quoted, listNameText, zoneText}
-use Rattle.datatype_display.specs.Steps.{Put, shapeMeans, kindText, openText, separator, nameText, nullability, leadText, headText, labelAt}
+use Rattle.datatype_display.specs.Internal.Steps.{Put, shapeMeans, kindText, openText, separator, nameText, nullability, leadText, headText, labelAt}
 use Rattle.datatype_display.specs.declared.shape.Shape.{Shape as CodeShape}
 use Rattle.datatype_display.proofs.Writes.{put-none, put-then, put-as}
 

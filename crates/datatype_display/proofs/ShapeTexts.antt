@@ -6,7 +6,7 @@ use types.Run.{OneOf, miss}
 use denote.Enum.Declared.{tagOf}
 use Rattle.datatype_display.proofs.shape.Shape.{the-type}
 use Rattle.datatype_display.specs.Display.{listNameText}
-use Rattle.datatype_display.specs.Steps.{shapeMeans, paramsText, openText, closeText, trailText}
+use Rattle.datatype_display.specs.Internal.Steps.{shapeMeans, paramsText, openText, closeText, trailText}
 use Rattle.datatype_display.specs.declared.shape.Shape.{Shape as CodeShape}
 use Rattle.datatype_display.specs.declared.shape.Shape.the-variants as S
 

@@ -17,7 +17,7 @@ use Rattle.row_table.specs.Sound.{Place, bare, arityFits, roleFits, rulesOf, ro
 use Rattle.row_table.proofs.SoundTree.{RowFits, rows-fit}
 use Rattle.datatype_display.specs.Display.{kindWord, digits, modeText, sortedText, quoted, listNameText, Shown, nullityText, fieldText, listFieldText, structText, unionText, defaultNames, runEndText, shapeText, typeText, shown, firstText, display}
 use Rattle.datatype_display.specs.Print.{quotesNames}
-use Rattle.datatype_display.specs.Steps.{kindText, openText, closeText, separator, nameText, nullability, leadText, trailText, childrenText, headText, rowText, walked}
+use Rattle.datatype_display.specs.Internal.Steps.{kindText, openText, closeText, separator, nameText, nullability, leadText, trailText, childrenText, headText, rowText, walked}
 
 ruleset split = (and-l, and-r)
 

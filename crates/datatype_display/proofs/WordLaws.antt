@@ -13,7 +13,7 @@ use Rattle.datatype.specs.Kind.{has, kinds}
 use Rattle.datatype.proofs.Tests.{allBelow, below-at}
 use Rattle.datatype.proofs.ShapeLaws.{none-has}
 use Rattle.datatype_display.specs.Display.{kindWord, digits, unitText, intervalText, modeText, sortedText, scaleText}
-use Rattle.datatype_display.specs.Steps.{Put, kindText}
+use Rattle.datatype_display.specs.Internal.Steps.{Put, kindText}
 use Rattle.datatype_display.proofs.Writes.{put-none, put-as, put-then}
 
 module _ (k : ℕ) where

@@ -7,7 +7,7 @@ use native.Mathlib.Omega.{arith}
 use lib.ListN.{length, getD, set, take, length-append, length-set}
 use lib.Seq.{sets, length-sets, take-suc, take-all, length-take-le}
 use Rattle.datatype.proofs.Sets.{sets-append}
-use Rattle.datatype_display.specs.Steps.{Wrote, Moved, Put, four}
+use Rattle.datatype_display.specs.Internal.Steps.{Wrote, Moved, Put, four}
 
 -- ---- the place behind what was written
 

@@ -1,5 +1,3 @@
 pub mod Display
 pub mod Print
-pub mod Computed
-pub mod Steps
-pub mod Bound
+pub mod Internal

@@ -8,7 +8,7 @@ ghost use Rattle.tokenizer.specs.Text.{all, isPrintable};
 ghost use Rattle.datatype.specs.Limits.{maxRows};
 ghost use Rattle.datatype.specs.Table.{rowWords};
 ghost use Rattle.row_table.specs.Sound.{isSound};
-ghost use Rattle.datatype_display.specs.Bound.{byteWeight, kindBound, boundAt, treeBound, Prints};
+ghost use Rattle.datatype_display.specs.Internal.Bound.{byteWeight, kindBound, boundAt, treeBound, Prints};
 use crate::ascii::greater;
 use crate::row::word;
 use datatype::kind::UNION;

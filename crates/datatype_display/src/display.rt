@@ -7,7 +7,7 @@ ghost use lib.Dec.{T};
 ghost use Rattle.datatype.specs.Table.{rowWords, treeOf};
 ghost use Rattle.row_table.specs.Sound.{isSound};
 ghost use Rattle.datatype_display.specs.Display.{display};
-ghost use Rattle.datatype_display.specs.Steps.{Moved, Put, Subtree, labelAt, singleText, textAt};
+ghost use Rattle.datatype_display.specs.Internal.Steps.{Moved, Put, Subtree, labelAt, singleText, textAt};
 use crate::ascii::quotes_names;
 use crate::row::put_close;
 use crate::row::put_head;

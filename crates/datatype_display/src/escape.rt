@@ -4,7 +4,7 @@ ghost use mathlib.Core.List.{[], _∷_, _++_};
 ghost use Prim.Native.Nat.{_+_, _≤_, _<_};
 ghost use lib.ListN.{length};
 ghost use Rattle.datatype_display.specs.Display.{hexDigit, escape, escaped, quoted};
-ghost use Rattle.datatype_display.specs.Steps.{Put, CopiedPlain, unicodeText, isItself};
+ghost use Rattle.datatype_display.specs.Internal.Steps.{Put, CopiedPlain, unicodeText, isItself};
 use crate::write::put;
 use crate::write::put_byte;
 

@@ -7,7 +7,7 @@ ghost use Rattle.datatype.specs.Kind.{timestamp, decimal};
 ghost use Rattle.datatype.specs.Tree.{nameOf, zoneOf};
 ghost use Rattle.datatype.specs.Table.{rowWords, rowsAt};
 ghost use Rattle.datatype_display.specs.Display.{listNameText, zoneText};
-ghost use Rattle.datatype_display.specs.Steps.{Put, shapeMeans, comma, paramsText, openText, closeText, separator, nullability, nameText, leadText, trailText, headText, labelAt};
+ghost use Rattle.datatype_display.specs.Internal.Steps.{Put, shapeMeans, comma, paramsText, openText, closeText, separator, nullability, nameText, leadText, trailText, headText, labelAt};
 use crate::escape::put_quoted;
 use crate::shape::Shape;
 use crate::shape::shape_of;

@@ -1,7 +1,7 @@
 // The shape of a kind: how it is written and what stands below it.
 ghost use mathlib.Core.Path.{_≡_};
 ghost use Rattle.datatype.specs.Kind.{shapeOf};
-ghost use Rattle.datatype_display.specs.Steps.{shapeMeans};
+ghost use Rattle.datatype_display.specs.Internal.Steps.{shapeMeans};
 
 pub enum Shape {
     Leaf,

@@ -4,7 +4,7 @@ ghost use Prim.Native.Nat.{_+_, _*_, _/_, _%_, _^_, _≤_, _<_};
 ghost use lib.ListN.{length};
 ghost use Rattle.datatype.specs.Kind.{kinds};
 ghost use Rattle.datatype_display.specs.Display.{kindWord, unitText, intervalText, modeText, sortedText, scaleText};
-ghost use Rattle.datatype_display.specs.Steps.{Wrote, Put, kindSizes, shortWord, longHead, longTail, kindText};
+ghost use Rattle.datatype_display.specs.Internal.Steps.{Wrote, Put, kindSizes, shortWord, longHead, longTail, kindText};
 use crate::write::advance;
 use crate::write::copy;
 use crate::write::copy_eight;

@@ -6,7 +6,7 @@ ghost use mathlib.Core.List.{[], _∷_};
 ghost use Prim.Native.Nat.{_+_, _≤_, _<_};
 ghost use lib.ListN.{length};
 ghost use Rattle.datatype_display.specs.Display.{digits};
-ghost use Rattle.datatype_display.specs.Steps.{Wrote, Moved, Put, four, eight};
+ghost use Rattle.datatype_display.specs.Internal.Steps.{Wrote, Moved, Put, four, eight};
 use datatype::rows::MAX_TEXT;
 
 // The place n bytes behind another, or the first place past the limit.

@@ -1,7 +1,7 @@
 -- The number that falls while fields are read never decides an answer: each field takes a row.
 use mathlib.Core.Path.{_≡_, refl, ap}
 use mathlib.Core.List.{List}
-use Prim.Native.Nat.{ℕ, zero, suc, _-_, _≤_, _<_}
+use Prim.Native.Nat.{ℕ, zero, suc, _-_, _<_}
 use native.Mathlib.Omega.{arith}
 use Rattle.tokenizer.specs.Answer.{Out, refused, done, _>>=_}
 use Rattle.tokenizer.specs.Token.{lparen, rparen, comma, colon, doubleQuoted}

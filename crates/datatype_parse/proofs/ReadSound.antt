@@ -15,8 +15,7 @@ use Rattle.datatype.specs.Kind.{Shape, leaf, timestamp, time, interval, fixed, 
 use Rattle.datatype.specs.Tree.{Forest, ∅, node, count, Row, nameList}
 use Rattle.datatype.specs.Table.{rowWords, tableOf, rowsLent}
 use Rattle.row_table.specs.Sound.{bare, field, unionField, arityFits, rulesOf, isSound}
-use Rattle.row_table.specs.Check.{zoneOk}
-use Rattle.datatype.proofs.Table.{view-table}
+use Rattle.row_table.specs.Internal.Check.{zoneOk}
 use Rattle.row_table.proofs.SoundTree.{SoundTree, tree-sound}
 use Rattle.parser.specs.Parse.{bareRow, Tree, rowsIn, single, pair, itemsBy, need, lengthAt, listField, structItem, unionItem, runEndFields, entriesAt, fixedListField, listAt, fixedSizeListAt, structAt, unionAt, dictionaryAt, mapAt, runEndEncodedAt, shapeAt, typeWith, typeAt, firstType}
 use Rattle.datatype_parse.specs.Parse.{textOver, parse, rowCount, parseAnswer, filled, parseRows}

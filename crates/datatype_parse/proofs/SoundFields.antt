@@ -10,7 +10,7 @@ use Rattle.tokenizer.specs.Utf8.{isUtf8}
 use Rattle.tokenizer.specs.Token.{lparen, rparen, comma, colon, doubleQuoted, xWord}
 use Rattle.datatype.specs.Tree.{roots}
 use Rattle.row_table.specs.Sound.{Place, bare, field, unionField, twoChildren, arityFits, idFits}
-use Rattle.row_table.specs.Check.{entriesOk, firstNonNull}
+use Rattle.row_table.specs.Internal.Check.{entriesOk, firstNonNull}
 use Rattle.parser.specs.Parse.{Name, item, run-ends, values, textName, Tree, Fields, rowsIn, single, pair, Item, end, last, more, fieldsFrom, itemsBy, idOf, need, stands, roleAt, afterRole, signedByteAt, closeAt, listNameAt, fieldAt, defaultField, listField, structItem, unionItem, namedRunEnds, defaultRunEnds, runEndFields, entriesAt, fixedListField}
 use Rattle.parser.specs.Parse as P
 use Rattle.parser.proofs.Holds.{Holds, holds-bind, holds-then, holds-if}

@@ -11,7 +11,7 @@ use Rattle.tokenizer.proofs.Basics.{and-l, and-r, both}
 use Rattle.datatype.specs.Kind.{Shape, kinds, shapeOf, has, idsFit}
 use Rattle.datatype.specs.Tree.{Forest, ∅, node, count, roots, Row, labels}
 use Rattle.row_table.specs.Sound.{Place, bare, field, unionField, arityFits, idFits, rulesOf, rowsFit, isListed, placed}
-use Rattle.row_table.specs.Check.{belowOf, partFits, nameOk, zoneOk, ownShape, numbersFit, ownFits, overKids, childrenFit}
+use Rattle.row_table.specs.Internal.Check.{belowOf, partFits, nameOk, zoneOk, ownShape, numbersFit, ownFits, overKids, childrenFit}
 use Rattle.row_table.proofs.Clauses.{Run, own-of, run-in, run-out}
 use Rattle.parser.specs.Parse.{Name, Tree, bareRow, fieldRow, single}
 

@@ -24,7 +24,7 @@ use Rattle.tokenizer.proofs.Runs.{Within, until-within}
 use Rattle.tokenizer.proofs.Marks as Marks
 use Rattle.tokenizer.proofs.Utf8Laws.{state-append, step-ascii}
 use Rattle.datatype.specs.Kind.{unitFits}
-use Rattle.row_table.specs.Check.{boundary, partFits, zoneOk}
+use Rattle.row_table.specs.Internal.Check.{boundary, partFits, zoneOk}
 use Rattle.row_table.proofs.Boundary.{boundary-low, part-utf8}
 use Rattle.parser.specs.Parse.{Zone, refusalOf, scaleOf, need, stands, roleAt, numberIn, unitAt, listNameAt, someZone, zoneString, zoneAt}
 use Rattle.parser.proofs.Holds.{Holds, holds-bind, holds-then, holds-if}

@@ -1,3 +1,3 @@
 pub mod Parse
 pub mod RowsToLend
-pub mod Computed
+pub mod Internal

@@ -10,7 +10,7 @@ use Rattle.tokenizer.specs.declared.Token.{Token}
 use Rattle.tokenizer.specs.declared.TokenKind.{TokenKind}
 use Rattle.datatype.specs.Tree.{Forest, ∅, node, count, Row}
 use Rattle.parser.specs.Parse.{Tree, Fields, Zone, Item, end, last, more}
-use Rattle.parser.specs.Steps.{stepOf, lookOf, valuedOf, numberOf, quotedOf, zoneStep, Stored, Meets, MeetsFields, MeetsTurn}
+use Rattle.parser.specs.Internal.Steps.{stepOf, lookOf, valuedOf, numberOf, quotedOf, zoneStep, Stored, Meets, MeetsFields, MeetsTurn}
 use Rattle.parser.specs.declared.Step.the-variants as S
 use Rattle.parser.specs.declared.Look.the-variants as L
 use Rattle.parser.specs.declared.Valued.the-variants as W

@@ -12,14 +12,14 @@ use Rattle.tokenizer.specs.Text.{if_then_else_}
 use Rattle.datatype.specs.Kind.{keyRefusal, entriesRefusal, idsFit}
 use Rattle.datatype.specs.Tree.{Forest, ∅, node, count, roots, Row}
 use Rattle.datatype.specs.Table.{rowWords, tableOf, rowsAt}
-use Rattle.row_table.specs.Run.{rowAt, forestAt, Nests}
+use Rattle.row_table.specs.Internal.Run.{rowAt, forestAt, Nests}
 use Rattle.row_table.specs.UnionFields.{typeIdsFit}
 use Rattle.datatype.proofs.Table.{length-table}
 use Rattle.row_table.proofs.UnionLaws.{type-ids-fit}
 use Rattle.row_table.proofs.Runs.{Turn, turn, forest-none, Is, nests-is, forest-is}
 use Rattle.tokenizer.specs.Answer.{Out}
 use Rattle.parser.specs.Parse.{Tree, Fields}
-use Rattle.parser.specs.Steps.{Room, Stored, entriesOf, roleOf}
+use Rattle.parser.specs.Internal.Steps.{Room, Stored, entriesOf, roleOf}
 use Rattle.parser.proofs.Answers.{GotTree, GotFields}
 
 -- ---- what was stored is there

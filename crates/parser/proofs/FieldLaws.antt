@@ -12,7 +12,7 @@ use Rattle.tokenizer.specs.Token.{valueOf, lparen, rparen, comma, colon, double
 use Rattle.tokenizer.specs.declared.Token.{Token}
 use Rattle.datatype.specs.Tree.{Forest, ∅, node, count, Row}
 use Rattle.parser.specs.Parse.{Name, Tree, Fields, Item, end, last, more, item, run-ends, values, fieldRow, rowsIn, idOf, need, stands, roleAt, numberIn, closeAt, fieldAt, defaultField, listField, fixedListField, namedRunEnds, defaultRunEnds, runEndFields, structItem, unionField, unionItem}
-use Rattle.parser.specs.Steps.{Stored, Meets, MeetsFields, MeetsTurn, itemOf}
+use Rattle.parser.specs.Internal.Steps.{Stored, Meets, MeetsFields, MeetsTurn, itemOf}
 use Rattle.parser.specs.declared.Read.{Read}
 use Rattle.parser.specs.declared.Read.the-variants as R
 use Rattle.parser.specs.declared.Turn.{Turn}

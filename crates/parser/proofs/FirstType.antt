@@ -13,7 +13,7 @@ use Rattle.datatype.specs.Tree.{Forest, ∅, node, count, Row}
 use Rattle.datatype.specs.Table.{tableOf, rowsLent}
 use Rattle.datatype.proofs.Table.{length-table}
 use Rattle.parser.specs.Parse.{typeAt, firstType, readOf, readMeans, rowsOf}
-use Rattle.parser.specs.Steps.{Room}
+use Rattle.parser.specs.Internal.Steps.{Room}
 use Rattle.parser.specs.declared.Read.the-variants as R
 use Rattle.parser.proofs.Answers.{GotTree}
 

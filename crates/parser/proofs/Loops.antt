@@ -10,7 +10,7 @@ use Rattle.tokenizer.specs.Answer.{Out, refused, done, refuse, _>>=_}
 use Rattle.datatype.specs.Tree.{Forest, ∅, node, count, Row}
 use Rattle.datatype.specs.Table.{rowWords, tableOf}
 use Rattle.parser.specs.Parse.{Tree, Fields, Item, end, last, more, single, rowsIn, fieldsFrom, itemsBy}
-use Rattle.parser.specs.Steps.{Room, Stored, MeetsFields, MeetsTurn}
+use Rattle.parser.specs.Internal.Steps.{Room, Stored, MeetsFields, MeetsTurn}
 use Rattle.parser.specs.declared.Read.the-variants as R
 use Rattle.parser.specs.declared.Turn.{Turn}
 use Rattle.parser.specs.declared.Turn.the-variants as T

@@ -15,7 +15,7 @@ use Rattle.datatype.specs.Kind.{Shape, shapeOf, entriesRefusal}
 use Rattle.datatype.specs.Tree.{Forest, ∅, node, count, roots, Row}
 use Rattle.datatype.specs.Table.{rowWords, wordsOf, tableOf}
 use Rattle.parser.specs.Parse.{Name, Tree, Fields, item, run-ends, values, bareRow, fieldRow, single, pair, rowsIn, need, stands, roleAt, numberIn, closeAt, fieldAt, defaultField, listField, fixedListField, entriesAt, namedRunEnds, defaultRunEnds, runEndFields, listAt, fixedSizeListAt, dictionaryAt, mapAt, runEndEncodedAt, shapeAt, typeWith, typeAt}
-use Rattle.parser.specs.Steps.{Stored, Meets, MeetsFields, Closed}
+use Rattle.parser.specs.Internal.Steps.{Stored, Meets, MeetsFields, Closed}
 use Rattle.parser.specs.declared.Read.{Read}
 use Rattle.parser.specs.declared.Read.the-variants as R
 use Rattle.parser.proofs.Stores.{written-behind}

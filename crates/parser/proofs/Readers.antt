@@ -17,7 +17,7 @@ use Rattle.datatype.specs.Kind.{Shape, shapeOf, unitFits, decimalFits}
 use Rattle.datatype.specs.Tree.{Forest, ∅, node, count, Row}
 use Rattle.datatype.specs.Table.{rowWords, wordsOf, tableOf}
 use Rattle.parser.specs.Parse.{Name, Tree, Fields, Zone, item, textName, bareRow, fieldRow, single, pair, rowsIn, scaleOf, need, stands, roleAt, afterRole, numberIn, unitAt, closeAt, zoneAt, timestampAt, timeAt, intervalAt, fixedSizeBinaryAt, scaleAt, decimalAt, listNameAt, fieldAt, defaultField, listField, fixedListField, entriesAt, namedRunEnds, defaultRunEnds, runEndFields, listAt, fixedSizeListAt, dictionaryAt, mapAt, runEndEncodedAt, shapeAt, typeWith, typeAt}
-use Rattle.parser.specs.Steps.{Room, Stored, Meets, MeetsFields, Closed}
+use Rattle.parser.specs.Internal.Steps.{Room, Stored, Meets, MeetsFields, Closed}
 use Rattle.parser.specs.declared.Read.{Read}
 use Rattle.parser.specs.declared.Read.the-variants as R
 use Rattle.datatype.proofs.Sets.{sets-append}

@@ -14,7 +14,7 @@ use Rattle.tokenizer.proofs.TokenKind.{the-type}
 use Rattle.tokenizer.specs.Text.{if_then_else_}
 use Rattle.tokenizer.specs.Answer.{Refusal, Out, refused, done, refuse, _>>=_}
 use Rattle.tokenizer.specs.Places.{afterSpaces}
-use Rattle.tokenizer.specs.Ends.{quoteEnd}
+use Rattle.tokenizer.specs.Internal.Ends.{quoteEnd}
 use Rattle.tokenizer.specs.Token.{token, tokenAt, untilQuote, stringToken, sortOf, valueOf, isNegative, noToken, lparen, rparen, comma, colon, integer, doubleQuoted, singleQuoted, fieldWord, timeUnit, nullability, someWord, noneWord}
 use Rattle.tokenizer.specs.declared.Token.{Token}
 use Rattle.tokenizer.specs.declared.TokenKind.{TokenKind}
@@ -23,11 +23,11 @@ use Rattle.tokenizer.proofs.Marks as Marks
 use Rattle.tokenizer.proofs.Basics.{of-true}
 use Rattle.tokenizer.proofs.Tokens.{token-spaces, token-end, token-34}
 use Rattle.tokenizer.proofs.Runs.{spaces-out, spaces-stop, spaces-go, string-open, string-empty, string-whole}
-use Rattle.tokenizer.proofs.StringLaws.{plain-byte, plain-go}
+use Rattle.tokenizer.proofs.StringLaws.{ordinary-byte, ordinary-go}
 use Rattle.datatype.specs.Kind.{unitFits}
 use Rattle.parser.specs.Parse.{Zone, refusalOf, need, stands, roleAt, afterRole, numberIn, unitAt, someZone, zoneString, zoneAt, listNameAt}
-use Rattle.parser.specs.Sought.{Found}
-use Rattle.parser.specs.Steps.{markSort, isMark, stepOf, lookOf, valuedOf, numberOf, quotedOf, zoneStep}
+use Rattle.parser.specs.Internal.Sought.{Found}
+use Rattle.parser.specs.Internal.Steps.{markSort, isMark, stepOf, lookOf, valuedOf, numberOf, quotedOf, zoneStep}
 use Rattle.parser.specs.declared.Step.the-variants as S
 use Rattle.parser.specs.declared.Look.the-variants as L
 use Rattle.parser.specs.declared.Valued.the-variants as W

@@ -16,7 +16,7 @@ use Rattle.datatype.specs.Kind.{Shape, leaf, timestamp, time, interval, fixed, 
 use Rattle.datatype.specs.Tree.{Forest, ∅, node, count, roots, Row}
 use Rattle.datatype.specs.Table.{rowWords, wordsOf, tableOf}
 use Rattle.parser.specs.Parse.{Tree, Fields, bareRow, refusalOf, need, itemsBy, structItem, unionItem, structAt, unionAt, shapeAt, typeWith, typeAt}
-use Rattle.parser.specs.Steps.{Room, Stored, Meets}
+use Rattle.parser.specs.Internal.Steps.{Room, Stored, Meets}
 use Rattle.parser.specs.declared.Read.{Read}
 use Rattle.parser.specs.declared.Read.the-variants as R
 use Rattle.parser.proofs.Stores.{in-front}

@@ -21,7 +21,7 @@ use Rattle.tokenizer.proofs.Marks.{not-separator}
 use Rattle.tokenizer.proofs.Listed.{same-path}
 use Rattle.tokenizer.proofs.Runs.{spaces-stop}
 use Rattle.tokenizer.proofs.Tokens.{token-word}
-use Rattle.parser.specs.Sought.{isPlain, Found, Four}
+use Rattle.parser.specs.Internal.Sought.{isPlain, Found, Four}
 
 -- ---- bytes compared
 

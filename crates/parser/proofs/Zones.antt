@@ -24,7 +24,7 @@ use Rattle.tokenizer.proofs.Basics.{of-true}
 use Rattle.tokenizer.proofs.Marks.{Bounds, bounds}
 use Rattle.datatype.specs.Kind.{time32Kind, time64Kind, unitFits}
 use Rattle.parser.specs.Parse.{Zone, refusalOf, need, stands, numberIn, unitAt, someZone, zoneString, zoneAt, listNameAt}
-use Rattle.parser.specs.Steps.{valuedOf, quotedOf, zoneStep}
+use Rattle.parser.specs.Internal.Steps.{valuedOf, quotedOf, zoneStep}
 use Rattle.parser.specs.declared.Valued.the-variants as W
 use Rattle.parser.specs.declared.Quoted.{Quoted}
 use Rattle.parser.specs.declared.Quoted.the-variants as Q

@@ -1,4 +1,2 @@
 pub mod Parse
-pub mod Steps
-pub mod Computed
-pub mod Sought
+pub mod Internal

@@ -4,7 +4,7 @@ ghost use Prim.Native.Nat.{_+_, _-_, _%_, _≤_};
 ghost use Rattle.tokenizer.specs.Text.{if_then_else_};
 ghost use Rattle.tokenizer.specs.Token.{rparen};
 ghost use Rattle.parser.specs.Parse.{bareRow, need, timestampAt, timeAt, intervalAt, fixedSizeBinaryAt, scaleAt, decimalAt};
-ghost use Rattle.parser.specs.Steps.{Room, Closed, Meets};
+ghost use Rattle.parser.specs.Internal.Steps.{Room, Closed, Meets};
 use crate::Number;
 use crate::Quoted;
 use crate::Read;

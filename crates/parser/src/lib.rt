@@ -8,7 +8,7 @@ ghost use lib.ListN.{length};
 ghost use Rattle.datatype.specs.Kind.{shapeOf};
 ghost use Rattle.datatype.specs.Table.{rowsLent};
 ghost use Rattle.parser.specs.Parse.{fieldAt, listField, itemsBy, namedRunEnds, defaultRunEnds, fixedListField, listAt, fixedSizeListAt, structAt, unionAt, dictionaryAt, mapAt, runEndEncodedAt, shapeAt, typeAt, unionItem, firstType, readOf, readMeans, rowsOf};
-ghost use Rattle.parser.specs.Steps.{Room, Meets, MeetsFields, MeetsTurn, itemOf};
+ghost use Rattle.parser.specs.Internal.Steps.{Room, Meets, MeetsFields, MeetsTurn, itemOf};
 use crate::leaves::close;
 use crate::leaves::parse_decimal;
 use crate::leaves::parse_fixed_size_binary;

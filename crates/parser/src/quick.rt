@@ -6,7 +6,7 @@ ghost use mathlib.Core.List.{[]};
 ghost use Prim.Native.Nat.{ℕ, _+_, _<_, _≤_};
 ghost use lib.ListN.{length, drop, getD};
 ghost use Rattle.tokenizer.specs.Token.{wordOf, wordKind};
-ghost use Rattle.parser.specs.Sought.{isPlain, Found, Four};
+ghost use Rattle.parser.specs.Internal.Sought.{isPlain, Found, Four};
 ghost use Rattle.tokenizer.specs.declared.TokenKind.the-variants.{DataType, TimeUnit};
 use tokenizer::is_separator;
 

@@ -9,8 +9,8 @@ ghost use Rattle.tokenizer.specs.Token.{tokenAt, doubleQuoted, singleQuoted, ty
 ghost use Rattle.tokenizer.specs.declared.TokenKind.the-variants.{Integer};
 ghost use Rattle.datatype.specs.Kind.{unitFits};
 ghost use Rattle.parser.specs.Parse.{refusalOf, need, roleAt, afterRole, numberIn, unitAt, someZone, zoneString, zoneAt, listNameAt, stands};
-ghost use Rattle.parser.specs.Sought.{Found};
-ghost use Rattle.parser.specs.Steps.{markSort, isMark, stepOf, lookOf, valuedOf, numberOf, quotedOf, zoneStep};
+ghost use Rattle.parser.specs.Internal.Sought.{Found};
+ghost use Rattle.parser.specs.Internal.Steps.{markSort, isMark, stepOf, lookOf, valuedOf, numberOf, quotedOf, zoneStep};
 use crate::Look;
 use crate::Nullability;
 use crate::Number;

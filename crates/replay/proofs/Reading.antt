@@ -1,11 +1,10 @@
 -- Numbers read digit by digit, and buffers filled from the front.
 use mathlib.Core.Path.{_≡_, refl, sym, ap, _∙_}
 use mathlib.Core.List.{List, [], _∷_, _++_, append-nil, append-assoc}
-use Prim.Native.Nat.{ℕ, zero, suc, _+_, _-_, _≤_, _<_}
+use Prim.Native.Nat.{ℕ, suc, _+_, _-_, _≤_, _<_}
 use native.Mathlib.Omega.{arith}
 use lib.ListN.{length, getD, take, drop, set, replicate, length-set, drop-of-length-le}
 use lib.Seq.{drop-cons, take-suc-set, take-all}
-use lib.Dec.{ltb}
 use borrow.Author.Tests.{lt-ltb, le-ltb}
 use Rattle.replay.specs.Sample.{shift, numberFrom, numberAt, numbersAt, afterNumbers}
 use Rattle.replay.specs.declared.Number.{Number}

@@ -2,7 +2,6 @@
 use mathlib.Core.Path.{_≡_, refl, sym, ap, _∙_}
 use mathlib.Core.Bool.{Bool, true, false, _&&_}
 use mathlib.Core.List.{List}
-use mathlib.Core.Option.{Option, none, some}
 use Prim.Native.Nat.{ℕ, zero, suc, _+_, _*_, _-_, _/_, _≤_, _<_, min}
 use native.Mathlib.Omega.{arith}
 use lib.ListN.{length, getD, take, drop, set, List·getD-eq-default}
@@ -62,6 +61,10 @@ put-back words changed i v old e c = ap (λ (l : List ℕ). set l i old) c ∙ s
 
 -- ---- a verdict
 
+and-false : (b : Bool) → b && false ≡ false
+and-false true = refl
+and-false false = refl
+
 module _ (verdict : Verdict) (status value : ℕ) where
   pub yes-is : verdict ≡ Yes → status ≡ 0 → eqb 0 value ≡ isVerdict (verdictMeans verdict) status value
   unfolding isVerdict statusOf verdictValue verdictMeans
@@ -76,9 +79,9 @@ module _ (verdict : Verdict) (status value : ℕ) where
     unfolding isVerdict statusOf verdictValue verdictMeans
     row-not h = rw (v, ne-eqb 0 status (λ e. h (sym e))) refl
 
-    pub row-none : status ≡ 0 → value ≤ 0 → false ≡ isVerdict (verdictMeans verdict) status value
+    pub row-none : 0 ≡ value → false ≡ isVerdict (verdictMeans verdict) status value
     unfolding isVerdict statusOf verdictValue verdictMeans
-    row-none h k = rw (v, h, ne-eqb (suc i) value (λ e. omega arith)) refl
+    row-none h = rw (v, ne-eqb (suc i) value (λ e. omega arith)) (sym (and-false (eqb 0 status)))
 
     pub row-is : status ≡ 0 → 0 < value → eqb i (value - 1) ≡ isVerdict (verdictMeans verdict) status value
     unfolding isVerdict statusOf verdictValue verdictMeans

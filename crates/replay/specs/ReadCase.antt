@@ -13,7 +13,6 @@ use Rattle.datatype_parse.specs.Parse.{parseAnswer, parseRows}
 use Rattle.datatype_parse.specs.RowsToLend.{rowsToLend}
 use Rattle.arrow_types.specs.Status.{statusOf, valueOf}
 use Rattle.replay.specs.Sample.{numberAt, numbersAt, afterNumbers, afterPart, counted}
-use Rattle.replay.specs.declared.Number.{Number}
 use Rattle.replay.specs.declared.ReadCase.{ReadCase}
 use Rattle.replay.specs.declared.Tally.{Tally}
 

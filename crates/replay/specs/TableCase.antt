@@ -19,7 +19,6 @@ use Rattle.row_table.specs.Layout.{verdictOf}
 use Rattle.arrow_types.specs.Status.{statusOf, valueOf, flag}
 use Rattle.replay.specs.Sample.{numberAt, numbersAt, afterNumbers, afterPart, counted}
 use Rattle.replay.specs.PrintCase.{bytesOf}
-use Rattle.replay.specs.declared.Number.{Number}
 use Rattle.replay.specs.declared.Table.{Table}
 use Rattle.replay.specs.declared.TableCase.{TableCase}
 use Rattle.replay.specs.declared.Tally.{Tally}

@@ -104,10 +104,11 @@ fn is_verdict(verdict: Verdict, status: u32, value: u32) -> bool
             false
         }
         Verdict::Row(i) => {
+            if 0 == value {
+                return false;
+            }
             if status == 0 {
-                if 0 < value {
-                    return i == (value - 1) as usize;
-                }
+                return i == (value - 1) as usize;
             }
             false
         }

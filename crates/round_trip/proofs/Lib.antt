@@ -13,4 +13,4 @@ pub mod Alike
 pub mod Printed
 pub mod RoundTrip
 pub mod Buffers
-pub mod Rewrite
+pub mod PrintAndRead

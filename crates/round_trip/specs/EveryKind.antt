@@ -12,9 +12,9 @@ use Rattle.datatype.specs.Limits.{maxRows}
 use Rattle.datatype.specs.Kind.{kinds}
 use Rattle.datatype.specs.Tree.{Forest, ∅, node, Row, nameList}
 use Rattle.datatype.specs.Table.{tableOf}
-use Rattle.datatype_parse.specs.Computed as parser
+use Rattle.datatype_parse.specs.Internal.Computed as parser
 use Rattle.datatype_parse.specs.Parse.{parse}
-use Rattle.datatype_display.specs.Computed as printer
+use Rattle.datatype_display.specs.Internal.Computed as printer
 use Rattle.round_trip.specs.Plain.{isPlain, allPlain, isPlainTree, inDemand3}
 
 -- ---- the bytes

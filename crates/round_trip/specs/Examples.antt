@@ -12,9 +12,9 @@ use Rattle.datatype.specs.Limits.{maxText, maxRows}
 use Rattle.datatype.specs.Tree.{Forest, Row, count, nameList}
 use Rattle.datatype.specs.Table.{tableOf}
 use Rattle.row_table.specs.Parents.{parentColumn}
-use Rattle.datatype_parse.specs.Computed as parser
+use Rattle.datatype_parse.specs.Internal.Computed as parser
 use Rattle.datatype_parse.specs.Parse.{parse}
-use Rattle.datatype_display.specs.Computed as printer
+use Rattle.datatype_display.specs.Internal.Computed as printer
 use Rattle.datatype_display.specs.Print.{print}
 
 -- What is expected of a text: a number of rows, a refusal, or a printed text.

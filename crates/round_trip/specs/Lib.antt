@@ -1,4 +1,4 @@
 pub mod Plain
-pub mod Rewrite
+pub mod PrintAndRead
 pub mod Examples
 pub mod EveryKind

@@ -2,7 +2,7 @@
 
 // A tree that was printed and read back, as the printed length and the row count, or the number of the printer's or of
 // the reader's refusal.
-pub enum Rewritten {
+pub enum PrintedAndRead {
     Tree(usize, usize),
     NotPrinted(u32),
     NotRead(u32),

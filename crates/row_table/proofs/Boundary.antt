@@ -12,7 +12,7 @@ use borrow.Author.Tests.{lt-ltb, le-ltb, eq-eqb, ne-eqb, eqb-true, eqb-false}
 use Rattle.tokenizer.specs.Utf8.{further, utf8Step, utf8State, isUtf8}
 use Rattle.tokenizer.proofs.Basics.{and-l, and-r, of-true}
 use Rattle.tokenizer.proofs.Utf8Laws.{state-append, utf8-state, step-9}
-use Rattle.row_table.specs.Check.{boundary}
+use Rattle.row_table.specs.Internal.Check.{boundary}
 
 -- what is broken stays broken
 state-broken : (s : List ℕ) → utf8State 8 s ≡ 8

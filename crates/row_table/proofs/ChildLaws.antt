@@ -13,8 +13,8 @@ use Rattle.datatype.specs.Kind.{Shape, leaf, timestamp, time, interval, fixed, 
 use Rattle.datatype.specs.Tree.{Forest, ∅, node, count, roots, Row}
 use Rattle.datatype.specs.Table.{rowWords, rowsAt}
 use Rattle.row_table.specs.Sound.{noChild, oneChild, twoChildren, arityFits, rulesOf}
-use Rattle.row_table.specs.Run.{rowAt, forestAt, Nests}
-use Rattle.row_table.specs.Check.{isDecimal, isList, entriesOk, firstNonNull, overKids, childrenFit}
+use Rattle.row_table.specs.Internal.Run.{rowAt, forestAt, Nests}
+use Rattle.row_table.specs.Internal.Check.{isDecimal, isList, entriesOk, firstNonNull, overKids, childrenFit}
 use Rattle.datatype.proofs.Tests.{iff-eq, allBelow, below-at, sameBool, same-bool}
 use Rattle.datatype.proofs.KindLaws.{past-kinds}
 use Rattle.row_table.proofs.Runs.{Turn, turn, forest-none, count-forest}

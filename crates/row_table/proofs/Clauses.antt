@@ -15,7 +15,7 @@ use Rattle.tokenizer.proofs.Basics.{and-l, and-r, both, is-true, if-same}
 use Rattle.datatype.specs.Kind.{Shape, leaf, timestamp, time, interval, fixed, list, fixedList, struct, union, dictionary, decimal, mapping, runEnds, kinds, shapeOf, idsFit, entriesRefusal}
 use Rattle.datatype.specs.Tree.{Forest, ∅, node, roots, depth, Row, Label, nameList, part, nameOf, zoneOf, labelOf, labels}
 use Rattle.row_table.specs.Sound.{Place, bare, field, unionField, arityFits, roleFits, idFits, isName, nameFits, rulesOf, zoneFits, rolesOf, idsOf, entriesFit, runEndsFit, shapeFits, rowsFit, isListed, namePlaced, zonePlaced, placed}
-use Rattle.row_table.specs.Check.{belowOf, partFits, nameOk, zoneOk, ownShape, numbersFit, ownFits, entriesOk, firstNonNull, overKids, childrenFit, runFits}
+use Rattle.row_table.specs.Internal.Check.{belowOf, partFits, nameOk, zoneOk, ownShape, numbersFit, ownFits, entriesOk, firstNonNull, overKids, childrenFit, runFits}
 use Rattle.row_table.proofs.SoundTree.{RowFits, rows-fit, fits-rows}
 
 -- ---- tests

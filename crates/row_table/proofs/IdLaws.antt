@@ -13,8 +13,8 @@ use Rattle.tokenizer.proofs.Basics.{and-l, and-r, of-true}
 use Rattle.datatype.specs.Kind.{has, idsFit}
 use Rattle.datatype.specs.Tree.{roots}
 use Rattle.datatype.specs.Table.{rowWords, rowsAt}
-use Rattle.row_table.specs.Run.{rowAt, forestAt, Nests}
-use Rattle.row_table.specs.Ids.{bit, isKept, keepId, freshIds}
+use Rattle.row_table.specs.Internal.Run.{rowAt, forestAt, Nests}
+use Rattle.row_table.specs.Internal.Ids.{bit, isKept, keepId, freshIds}
 use Rattle.datatype.proofs.Tests.{iff-eq, allBelow, below-at}
 use Rattle.row_table.proofs.Runs.{Turn, turn, forest-none}
 

@@ -20,7 +20,7 @@ use Rattle.row_table.specs.Equal.{firstRows, wholeRows}
 use Rattle.row_table.specs.Layout.{Asked, anything, key, runEnd, kindAllowed, askedOfFirst, first, brokenRow, verdictOf, verdictMeans}
 use Rattle.row_table.specs.declared.Verdict.{Verdict}
 use Rattle.row_table.specs.declared.Verdict.the-variants.{Yes, Row as BreaksAt, Refused}
-use Rattle.row_table.specs.Scan.{askedOf, scan}
+use Rattle.row_table.specs.Internal.Scan.{askedOf, scan}
 use Rattle.datatype.proofs.Table.{table-view}
 use Rattle.datatype.proofs.Tests.{allBelow, below-at}
 use Rattle.datatype.proofs.KindLaws.{past-kinds}

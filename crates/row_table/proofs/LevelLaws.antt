@@ -14,7 +14,7 @@ use Rattle.datatype.specs.Tree.{Forest, ∅, node, count, depth, Row, labels}
 use Rattle.datatype.specs.Table.{rowWords, join, viewOf, treeOf, rowsAt}
 use Rattle.row_table.specs.Sound.{isSound, levelsUpTo, levelsOf, depthOf, depthMeans}
 use Rattle.row_table.specs.declared.Depth.the-variants.{Levels, Refused}
-use Rattle.row_table.specs.Run.{rowAt, runAt}
+use Rattle.row_table.specs.Internal.Run.{rowAt, runAt}
 use Rattle.row_table.proofs.Runs.{run-step, run-none, no-rows, run-all, view-rows}
 use Rattle.row_table.proofs.SoundTree.{SoundTree, sound-tree, sound-labels}
 

@@ -12,7 +12,7 @@ use Rattle.tokenizer.proofs.Basics.{of-true}
 use Rattle.datatype.specs.Tree.{count, depth}
 use Rattle.datatype.specs.Table.{rowWords, rowsAt}
 use Rattle.row_table.specs.Sound.{isSound}
-use Rattle.row_table.specs.Run.{forestAt, Nests}
+use Rattle.row_table.specs.Internal.Run.{forestAt, Nests}
 use Rattle.row_table.proofs.Runs.{Turn, turn}
 use Rattle.row_table.proofs.SoundTree.{SoundTree, sound-tree, sound-count, sound-nests, sound-forest}
 

@@ -9,14 +9,14 @@ use lib.Seq.{take-all, length-take-le, drop-drop}
 use lib.Dec.{T, leb, ltb, eqb, ltb→lt, eqb→eq}
 use borrow.Author.Tests.{le-leb, lt-leb, eq-eqb, ne-eqb, leb-true, leb-false}
 use Rattle.tokenizer.specs.Text.{same, bytes, all}
-use Rattle.tokenizer.specs.Keys.{packed}
+use Rattle.tokenizer.specs.Internal.Keys.{packed}
 use Rattle.tokenizer.specs.Utf8.{isUtf8}
 use Rattle.tokenizer.proofs.Basics.{is-false, of-true, all-take, all-drop}
 use Rattle.tokenizer.proofs.Listed.{isByte, bytes-all, unpack}
 use Rattle.datatype.specs.Kind.{kinds, shapeOf}
 use Rattle.datatype.specs.Tree.{nameList}
 use Rattle.row_table.specs.Sound.{isListed, rulesOf}
-use Rattle.row_table.specs.Check.{placeOf, boundary, partFits, nameOk, zoneOk}
+use Rattle.row_table.specs.Internal.Check.{placeOf, boundary, partFits, nameOk, zoneOk}
 use Rattle.datatype.proofs.Same.{same-eq, eq-same}
 use Rattle.datatype.proofs.Tests.{iff-eq, false-of, allBelow, below-at}
 use Rattle.row_table.proofs.Boundary.{boundary-low, boundary-high, boundary-inside, boundary-end, part-utf8}

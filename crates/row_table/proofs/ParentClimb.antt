@@ -11,7 +11,7 @@ use lib.Dec.{ltb}
 use borrow.Author.Tests.{lt-ltb, le-ltb}
 use Rattle.tokenizer.proofs.Basics.{if-same}
 use Rattle.row_table.specs.Parents.{holder, parentAt}
-use Rattle.row_table.specs.Climb.{Climbs}
+use Rattle.row_table.specs.Internal.Climb.{Climbs}
 use Rattle.datatype.specs.Table.{rowsAt, parentWordAt}
 
 module _ (table : List ℕ) (i : ℕ) where

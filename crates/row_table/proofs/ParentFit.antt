@@ -14,7 +14,7 @@ use Rattle.tokenizer.proofs.Basics.{and-l, and-r}
 use Rattle.datatype.specs.Tree.{Forest, ∅, node, count, Row}
 use Rattle.datatype.specs.Table.{rowWords, tableOf, viewOf, parentWordAt}
 use Rattle.row_table.specs.Parents.{parentedFrom, parented, withParent, tableWith, parentsRight, parentAt, withParents}
-use Rattle.row_table.specs.Climb.{fitFrom, parentsFit}
+use Rattle.row_table.specs.Internal.Climb.{fitFrom, parentsFit}
 use Rattle.datatype.proofs.Table.{length-table, table-view}
 use Rattle.row_table.proofs.ParentTree.{Stands, Inside, row-parent, row-kids, row-next, inside-here, inside-kids, inside-next, stands-first, inside-first, count-parented, view-with-parents}
 

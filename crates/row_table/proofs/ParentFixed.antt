@@ -14,7 +14,7 @@ use Rattle.tokenizer.proofs.Basics.{and-l, and-r}
 use Rattle.datatype.specs.Tree.{Forest, ∅, node, count, mapForest, Row, Label, labelOf, labels}
 use Rattle.datatype.specs.Table.{rowWords, rowsAt, parentWordAt}
 use Rattle.row_table.specs.Parents.{parentColumn, parentsFrom, parentsOf, parentedFrom, parented, withParent, parentsRight, parentAt}
-use Rattle.row_table.specs.Climb.{fitFrom, parentsFit}
+use Rattle.row_table.specs.Internal.Climb.{fitFrom, parentsFit}
 use Rattle.row_table.proofs.ParentClimb.{holder-same}
 use Rattle.row_table.proofs.ParentFit.{right-node}
 

@@ -13,7 +13,7 @@ use lib.Dec.{eqb}
 use borrow.Author.Tests.{eq-eqb, ne-eqb}
 use Rattle.datatype.specs.Table.{rowWords, rowsLent, rowsAt, parentWordAt}
 use Rattle.row_table.specs.Parents.{parentAt, parentsSet, withParents}
-use Rattle.row_table.specs.Climb.{Climbs, fitFrom, parentsFit}
+use Rattle.row_table.specs.Internal.Climb.{Climbs, fitFrom, parentsFit}
 use Rattle.row_table.proofs.ParentClimb.{holder-none, holder-low, holder-same}
 
 module _ (table : List ℕ) where

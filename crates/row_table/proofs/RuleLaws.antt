@@ -9,7 +9,7 @@ use borrow.Author.Tests.{le-leb, lt-leb, lt-ltb, le-ltb, ne-eqb, ltb-true, ltb-f
 use Rattle.tokenizer.proofs.Basics.{and-l, and-r, both}
 use Rattle.datatype.specs.Kind.{Shape, leaf, timestamp, time, interval, fixed, list, fixedList, struct, union, dictionary, decimal, mapping, runEnds, kinds, shapeOf, unitFits, maxPrecision, decimalFits, has}
 use Rattle.row_table.specs.Sound.{Place, bare, field, unionField, rulesOf}
-use Rattle.row_table.specs.Check.{placeOf, belowOf, isDecimal, ownShape, numbersFit}
+use Rattle.row_table.specs.Internal.Check.{placeOf, belowOf, isDecimal, ownShape, numbersFit}
 use Rattle.datatype.proofs.Tests.{iff-eq, allBelow, below-at, sameBool, same-bool}
 use Rattle.datatype.proofs.KindLaws.{past-kinds}
 use Rattle.datatype.proofs.ShapeLaws.{else-value}

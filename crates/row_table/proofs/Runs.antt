@@ -19,7 +19,7 @@ use Rattle.tokenizer.specs.Text.{if_then_else_}
 use Rattle.tokenizer.proofs.Basics.{and-l, and-r, of-true}
 use Rattle.datatype.specs.Tree.{Forest, ∅, node, count, Row}
 use Rattle.datatype.specs.Table.{rowWords, rowOf, rowsWord, tableOf, join, viewWith, viewOf, rowsAt}
-use Rattle.row_table.specs.Run.{rowAt, runAt, isRun, runOr, forestAt, Nests}
+use Rattle.row_table.specs.Internal.Run.{rowAt, runAt, isRun, runOr, forestAt, Nests}
 use Rattle.datatype.proofs.Table.{length-table, view-table, table-view, view-enough}
 
 -- ---- parts of parts of lists

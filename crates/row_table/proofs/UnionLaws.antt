@@ -13,8 +13,8 @@ use Rattle.tokenizer.specs.Text.{if_then_else_}
 use Rattle.datatype.specs.Kind.{has, idsFit}
 use Rattle.datatype.specs.Tree.{Forest, ∅, node, roots, Row}
 use Rattle.datatype.specs.Table.{rowWords, rowsAt}
-use Rattle.row_table.specs.Run.{rowAt, forestAt, Nests}
-use Rattle.row_table.specs.Ids.{isKept, keepId, freshIds}
+use Rattle.row_table.specs.Internal.Run.{rowAt, forestAt, Nests}
+use Rattle.row_table.specs.Internal.Ids.{isKept, keepId, freshIds}
 use Rattle.row_table.specs.UnionFields.{siblingIds, allFit, typeIdsFit}
 use Rattle.row_table.proofs.IdLaws.{Keeps, zeros, keeps-none, keeps-more, fresh-ids}
 use Rattle.row_table.proofs.Runs.{Turn, turn, forest-none}

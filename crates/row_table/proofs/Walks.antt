@@ -13,7 +13,7 @@ use Rattle.tokenizer.proofs.Basics.{and-l, and-r}
 use Rattle.datatype.specs.Tree.{Forest, node, Row, Label, nameOf, zoneOf, labelOf, labels}
 use Rattle.datatype.specs.Table.{rowWords, rowsAt}
 use Rattle.row_table.specs.Sound.{Place, namePlaced, zonePlaced, placed, rowsFit}
-use Rattle.row_table.specs.Run.{rowAt, forestAt}
+use Rattle.row_table.specs.Internal.Run.{rowAt, forestAt}
 use Rattle.row_table.proofs.Runs.{Turn}
 use Rattle.row_table.proofs.SoundTree.{RowFits, rulesAt, rows-fit}
 

@@ -1,11 +1,6 @@
-pub mod Run
 pub mod Parents
-pub mod Climb
 pub mod Sound
-pub mod Check
-pub mod Ids
 pub mod UnionFields
 pub mod Equal
 pub mod Layout
-pub mod Scan
-pub mod Computed
+pub mod Internal

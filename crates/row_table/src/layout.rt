@@ -4,7 +4,7 @@ ghost use Rattle.tokenizer.specs.Answer.{done};
 ghost use Rattle.datatype.specs.Kind.{shapeOf};
 ghost use Rattle.row_table.specs.Equal.{wholeRows};
 ghost use Rattle.row_table.specs.Layout.{anything, kindAllowed, askedOfFirst, verdictOf, verdictMeans};
-ghost use Rattle.row_table.specs.Scan.{askedOf, scan};
+ghost use Rattle.row_table.specs.Internal.Scan.{askedOf, scan};
 use crate::Verdict;
 use crate::rows::word;
 use crate::rules::between;

@@ -5,7 +5,7 @@ ghost use lib.ListN.{length};
 ghost use Rattle.datatype.specs.Limits.{maxLevels};
 ghost use Rattle.datatype.specs.Table.{rowWords};
 ghost use Rattle.row_table.specs.Sound.{levelsUpTo, levelsOf, depthOf, depthMeans};
-ghost use Rattle.row_table.specs.Run.{runAt};
+ghost use Rattle.row_table.specs.Internal.Run.{runAt};
 use crate::Depth;
 use crate::rows::subtree;
 use crate::sound::is_sound;

@@ -4,13 +4,13 @@ ghost use mathlib.Core.Bool.{_&&_};
 ghost use Prim.Native.Nat.{_≤_, _<_};
 ghost use lib.ListN.{length};
 ghost use lib.Dec.{T, eqb};
-ghost use Rattle.tokenizer.specs.Keys.{packed};
+ghost use Rattle.tokenizer.specs.Internal.Keys.{packed};
 ghost use Rattle.tokenizer.specs.Text.{same};
 ghost use Rattle.tokenizer.specs.Utf8.{isUtf8};
 ghost use Rattle.datatype.specs.Kind.{kinds, shapeOf};
 ghost use Rattle.datatype.specs.Tree.{nameList};
 ghost use Rattle.row_table.specs.Sound.{isListed, rulesOf};
-ghost use Rattle.row_table.specs.Check.{placeOf, boundary, partFits, nameOk, zoneOk};
+ghost use Rattle.row_table.specs.Internal.Check.{placeOf, boundary, partFits, nameOk, zoneOk};
 use datatype::Field;
 use datatype::kind::TIMESTAMP;
 

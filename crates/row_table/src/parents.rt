@@ -4,7 +4,7 @@ ghost use Prim.Native.Nat.{_+_, _*_, _≤_, min};
 ghost use lib.ListN.{length};
 ghost use Rattle.datatype.specs.Table.{rowWords, rowsLent, parentWordAt};
 ghost use Rattle.row_table.specs.Parents.{parentAt, parentsSet, withParents};
-ghost use Rattle.row_table.specs.Climb.{Climbs, parentsFit};
+ghost use Rattle.row_table.specs.Internal.Climb.{Climbs, parentsFit};
 use crate::rows::subtree;
 use crate::rows::wide;
 use crate::rows::word;

@@ -5,7 +5,7 @@ ghost use Prim.Native.Nat.{_<_};
 ghost use lib.Dec.{leb};
 ghost use Rattle.datatype.specs.Kind.{kinds, shapeOf};
 ghost use Rattle.row_table.specs.Sound.{rulesOf};
-ghost use Rattle.row_table.specs.Check.{placeOf, belowOf, isDecimal, numbersFit};
+ghost use Rattle.row_table.specs.Internal.Check.{placeOf, belowOf, isDecimal, numbersFit};
 use datatype::Decimal;
 use datatype::kind::DECIMAL32;
 use datatype::kind::DECIMAL64;

@@ -5,7 +5,7 @@ use Prim.Native.Nat.{ℕ, _≤_, _<_}
 use lib.Dec.{leb, eqb}
 use borrow.Author.Tests.{eq-eqb, ne-eqb, le-leb, lt-leb}
 use Rattle.tokenizer.specs.Token.{isSeparator, isDigit, escapedAfter}
-use Rattle.tokenizer.specs.Ends.{closes}
+use Rattle.tokenizer.specs.Internal.Ends.{closes}
 
 module _ (b : ℕ) where
   pub separator-40 : b ≡ 40 → true ≡ isSeparator b

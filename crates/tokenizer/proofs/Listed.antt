@@ -12,7 +12,7 @@ use borrow.Author.Tests.{eq-eqb, ne-eqb}
 use Rattle.tokenizer.specs.Text.{if_then_else_, same, all}
 use Rattle.tokenizer.specs.Words.{Listed, words, find}
 use Rattle.tokenizer.specs.Token.{isDigit, numberKind, wordKind}
-use Rattle.tokenizer.specs.Keys.{packed, hasKey, kindWith, keyKind}
+use Rattle.tokenizer.specs.Internal.Keys.{packed, hasKey, kindWith, keyKind}
 use Rattle.tokenizer.specs.declared.TokenKind.{TokenKind}
 use Rattle.tokenizer.specs.declared.TokenKind.the-variants.{Refused}
 use Rattle.tokenizer.proofs.Basics.{and-l, and-r, both, all-take, all-drop}

@@ -11,7 +11,7 @@ use lib.Dec.{leb}
 use borrow.Author.Tests.{leb-true, le-leb, lt-leb}
 use Rattle.tokenizer.specs.Text.{all}
 use Rattle.tokenizer.specs.Token.{isDigit, numberFrom, numberKind}
-use Rattle.tokenizer.specs.Digits.{limit, kindFrom}
+use Rattle.tokenizer.specs.Internal.Digits.{limit, kindFrom}
 use Rattle.tokenizer.specs.declared.TokenKind.the-variants.{Integer, Refused}
 use Rattle.tokenizer.proofs.Basics.{and-l, and-r, is-true, of-true}
 

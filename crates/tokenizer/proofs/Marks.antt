@@ -14,7 +14,7 @@ use Rattle.tokenizer.specs.Text.{if_then_else_, all, same}
 use Rattle.tokenizer.specs.Words.{Listed, words, find}
 use Rattle.tokenizer.specs.Token.{lparen, rparen, comma, colon, integer, doubleQuoted, singleQuoted, typeWord, timeUnit, intervalUnit, unionMode, mapSorted, nullability, noToken, sortOf, valueOf, token, isSeparator, wordOf, isDigit, numberFrom, isNumber, numberKind, wordKind, untilQuote, stringToken, tokenAt}
 use Rattle.tokenizer.specs.Places.{afterSpaces}
-use Rattle.tokenizer.specs.Digits.{limit}
+use Rattle.tokenizer.specs.Internal.Digits.{limit}
 use Rattle.tokenizer.specs.declared.Token.{Token}
 use Rattle.tokenizer.specs.declared.TokenKind.{TokenKind}
 use Rattle.tokenizer.specs.declared.TokenKind.the-variants.{LParen, RParen, Comma, Colon, Integer, DoubleQuotedString, SingleQuotedString, Refused}

@@ -13,7 +13,7 @@ use borrow.Author.Tests.{eq-eqb, ne-eqb, eqb-false}
 use Rattle.tokenizer.specs.Text.{if_then_else_}
 use Rattle.tokenizer.specs.Token.{token, isSeparator, wordOf, wordKind, escapedAfter, untilQuote, stringToken}
 use Rattle.tokenizer.specs.Places.{spacesFrom, afterSpaces}
-use Rattle.tokenizer.specs.Ends.{wordEnd, closes, placeOr, quoteEnd}
+use Rattle.tokenizer.specs.Internal.Ends.{wordEnd, closes, placeOr, quoteEnd}
 use Rattle.tokenizer.specs.declared.Token.{Token}
 use Rattle.tokenizer.specs.declared.TokenKind.{TokenKind}
 use Rattle.tokenizer.specs.declared.TokenKind.the-variants.{Refused}

@@ -8,20 +8,20 @@ use lib.ListN.{length, getD}
 use borrow.Author.Tests.{eq-eqb, ne-eqb}
 use Rattle.tokenizer.specs.Text.{if_then_else_}
 use Rattle.tokenizer.specs.Token.{escapedAfter}
-use Rattle.tokenizer.specs.Ends.{closes, quoteEnd}
+use Rattle.tokenizer.specs.Internal.Ends.{closes, quoteEnd}
 use Rattle.tokenizer.proofs.Runs.{quote-stop, quote-go}
 
 -- ---- bytes of a string
 
 module _ (quote b : ℕ) where
   -- a byte that is no mark and no backslash changes nothing
-  pub plain-byte : (b ≡ quote → ⊥) → (b ≡ 92 → ⊥) → (closes quote false b ≡ false) × (escapedAfter quote false b ≡ false)
-  plain-byte p q = (rw (ne-eqb b quote p), rw (ne-eqb b 92 q, ne-eqb b quote p))
+  pub ordinary-byte : (b ≡ quote → ⊥) → (b ≡ 92 → ⊥) → (closes quote false b ≡ false) × (escapedAfter quote false b ≡ false)
+  ordinary-byte p q = (rw (ne-eqb b quote p), rw (ne-eqb b 92 q, ne-eqb b quote p))
 
 module _ (text : List ℕ) (quote i : ℕ) (h : i < length text) where
-  pub plain-go : (closes quote false (getD text i 0) ≡ false) × (escapedAfter quote false (getD text i 0) ≡ false)
+  pub ordinary-go : (closes quote false (getD text i 0) ≡ false) × (escapedAfter quote false (getD text i 0) ≡ false)
       → quoteEnd text quote false i ≡ quoteEnd text quote false (i + 1)
-  plain-go p = quote-go text quote false i h (p .0) ∙ ap (λ (b : Bool). quoteEnd text quote b (i + 1)) (p .1)
+  ordinary-go p = quote-go text quote false i h (p .0) ∙ ap (λ (b : Bool). quoteEnd text quote b (i + 1)) (p .1)
 
   pub mark-stop : getD text i 0 ≡ quote → quoteEnd text quote false i ≡ i
   mark-stop e = quote-stop text quote false i h (ap (λ (c : ℕ). closes quote false c) e ∙ same-mark)
@@ -35,7 +35,7 @@ module _ (text : List ℕ) (quote i : ℕ) (low : quote ≤ 92) (h : i + 4 ≤ l
   endFrom k = quoteEnd text quote false k
 
   passed : (j : ℕ) → j < length text → 92 < getD text j 0 → endFrom (j + 1) ≡ endFrom j
-  passed j l b = sym (plain-go text quote j l (plain-byte quote (getD text j 0) (λ e. omega arith) (λ e. omega arith)))
+  passed j l b = sym (ordinary-go text quote j l (ordinary-byte quote (getD text j 0) (λ e. omega arith) (λ e. omega arith)))
 
   module _ (b : 92 < getD text i 0) where
     pub letters-1 : endFrom (i + 1) ≡ endFrom i

@@ -4,7 +4,4 @@ pub mod Utf8
 pub mod Words
 pub mod Token
 pub mod Places
-pub mod Ends
-pub mod Digits
-pub mod Keys
-pub mod Computed
+pub mod Internal

@@ -1,8 +1,8 @@
 -- Texts as lists of bytes, and tests on them.
 use mathlib.Core.Bool.{Bool, true, false, _&&_}
 use mathlib.Core.List.{List, [], _∷_, _++_}
-use Prim.Native.Nat.{ℕ, zero, suc, _+_, _/_, _%_}
-use Prim.Native.Char.{Char, code}
+use Prim.Native.Nat.{ℕ, _+_, _/_, _%_}
+use Prim.Native.Char.{code}
 use Prim.Native.String.{String}
 use Prim.Native.String as S
 use lib.Dec.{leb, ltb, eqb}

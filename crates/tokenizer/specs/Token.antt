@@ -6,7 +6,7 @@ use Prim.Native.Nat.{ℕ, zero, suc, _+_, _*_, _-_, _^_}
 use lib.ListN.{length, drop}
 use lib.Dec.{leb, eqb}
 use Rattle.tokenizer.specs.Text.{if_then_else_, all}
-use Rattle.tokenizer.specs.Words.{Listed, words, find}
+use Rattle.tokenizer.specs.Words.{words, find}
 use Rattle.tokenizer.specs.declared.Token.{Token}
 use Rattle.tokenizer.specs.declared.TokenKind.{TokenKind}
 use Rattle.tokenizer.specs.declared.TokenKind.the-variants.{LParen, RParen, Comma, Colon, Integer, DoubleQuotedString, SingleQuotedString, DataType, TimeUnit, IntervalUnit, UnionMode, MapSorted, Nullability, Field, Some, None, X, Refused}

@@ -4,7 +4,7 @@ ghost use mathlib.Core.Path.{_≡_};
 ghost use mathlib.Core.List.{[]};
 ghost use Prim.Native.Nat.{_-_, _≤_};
 ghost use Rattle.tokenizer.specs.Token.{isDigit, numberKind};
-ghost use Rattle.tokenizer.specs.Digits.{kindFrom};
+ghost use Rattle.tokenizer.specs.Internal.Digits.{kindFrom};
 use crate::refusal;
 
 // Whether a byte is a decimal digit.

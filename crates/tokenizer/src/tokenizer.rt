@@ -8,7 +8,7 @@ ghost use Prim.Native.Nat.{_+_, _<_, _≤_};
 ghost use lib.ListN.{length, drop};
 ghost use Rattle.tokenizer.specs.Token.{token, isSeparator, wordOf, wordKind, escapedAfter, untilQuote, stringToken, tokenAt};
 ghost use Rattle.tokenizer.specs.Places.{afterSpaces};
-ghost use Rattle.tokenizer.specs.Ends.{wordEnd, closes, quoteEnd};
+ghost use Rattle.tokenizer.specs.Internal.Ends.{wordEnd, closes, quoteEnd};
 use crate::refusal;
 
 // The first place at or behind `from` that holds no space.
@@ -100,7 +100,7 @@ fn escaped_end(text: &[u8], from: usize, quote: u8) -> usize
 }
 
 // Whether a byte neither ends a string nor is a backslash. Most letters are above both.
-fn is_plain(quote: u8, b: u8) -> bool
+fn is_ordinary(quote: u8, b: u8) -> bool
     ensures { λ r. ⌜ (r ≡ true → (closes quote false b ≡ false) × (escapedAfter quote false b ≡ false)) ⌝ }
 {
     if b > b'\\' {
@@ -120,7 +120,7 @@ fn quote_end(text: &[u8], from: usize, quote: u8) -> usize
     let mut i = from;
     while i < text.len() {
         let b = text[i];
-        if !is_plain(quote, b) {
+        if !is_ordinary(quote, b) {
             if b == quote {
                 return i;
             }

@@ -10,7 +10,7 @@ ghost use lib.Dec.{eqb};
 ghost use Rattle.tokenizer.specs.Text.{if_then_else_};
 ghost use Rattle.tokenizer.specs.Words.{words, find};
 ghost use Rattle.tokenizer.specs.Token.{wordKind};
-ghost use Rattle.tokenizer.specs.Keys.{packed, keyKind};
+ghost use Rattle.tokenizer.specs.Internal.Keys.{packed, keyKind};
 ghost use Rattle.tokenizer.specs.declared.TokenKind.the-variants.{Refused};
 use crate::refusal;
 

@@ -12,13 +12,13 @@ use types.Run.{OneOf}
 use denote.Enum.Declared.{tagOf}
 use borrow.Author.Tests.{le-leb}
 use Rattle.tokenizer.specs.Text.{bytes, if_then_else_}
-use Rattle.type_line.specs.Line.{lineAnswer, lineWords, linesOf, answers, output, beforeNewline, lineEnd, lineAnswered, lineOut, answeredMeans, answerBytes}
-use Rattle.type_line.specs.declared.Answered.{Answered}
-use Rattle.type_line.specs.declared.Answered.the-variants.{Bytes, NoRoom}
-use Rattle.type_line.proofs.Answered.{the-type as answered-type}
-use Rattle.type_line.proofs.Ends.{before-within, lines-some, long-line}
+use Rattle.answer_line.specs.Line.{lineAnswer, lineWords, linesOf, answers, output, beforeNewline, lineEnd, lineAnswered, lineOut, answeredMeans, answerBytes}
+use Rattle.answer_line.specs.declared.Answered.{Answered}
+use Rattle.answer_line.specs.declared.Answered.the-variants.{Bytes, NoRoom}
+use Rattle.answer_line.proofs.Answered.{the-type as answered-type}
+use Rattle.answer_line.proofs.Ends.{before-within, lines-some, long-line}
 use Rattle.type_lines.specs.Run.{outputFrom, printedAt, lineAt, Room, Inside, Behind, Wrote, Goes, Unfinished, Halts, Ends}
-use Rattle.type_lines.specs.declared.Place.{Place}
+use Rattle.type_lines.specs.declared.Progress.{Progress}
 
 -- ---- newlines in what is read and in what follows
 
@@ -197,11 +197,11 @@ module _ (line rows out lent part : List ℕ) (wrote : ℕ) (words : lineWords �
 -- ---- from place to place
 
 module _ (input out : List ℕ) where
-  pub goes-nowhere : (p : Place) → Inside input p out → Goes input p out p out
+  pub goes-nowhere : (p : Progress) → Inside input p out → Goes input p out p out
   goes-nowhere p i = record { inside = i; behind = behind-none out (p .wrote) (i .answers); same = λ rest. refl }
 
-  module _ (p q : Place) (out₁ : List ℕ) (g : Goes input p out q out₁) where
-    pub goes-then : (r : Place) (out₂ : List ℕ) → Goes input q out₁ r out₂ → Goes input p out r out₂
+  module _ (p q : Progress) (out₁ : List ℕ) (g : Goes input p out q out₁) where
+    pub goes-then : (r : Progress) (out₂ : List ℕ) → Goes input q out₁ r out₂ → Goes input p out r out₂
     goes-then r out₂ h = record { inside = h .inside; behind = behind-then out (p .wrote) (q .wrote) out₁ (g .behind) (r .wrote) out₂ (h .behind); same = λ rest. g .same rest ∙ h .same rest }
 
 -- where the line that begins at a place ends
@@ -256,7 +256,7 @@ module _ (input out : List ℕ) (from wrote : ℕ) (read : from ≤ length input
 
   -- the rest of a line that is answered already
   module _ (end : ℕ) (e : end ≡ lineEnd input from) (answers : wrote ≤ length out) where
-    abbrev skipping : ℕ → Place
+    abbrev skipping : ℕ → Progress
     skipping at = record { from = at; wrote = wrote; skip = true }
 
     pub skips-line : (end ≡ length input → ⊥) → Goes input (skipping from) out (lineAt (end + 1) wrote) out
@@ -312,15 +312,15 @@ nothing-left s h = let w = before-within s in record { partial = omega arith; sh
 pub left-none : (input : List ℕ) (from : ℕ) → length input ≤ from → Unfinished (drop from input)
 left-none input from h = nothing-left (drop from input) (let l = length-drop from input in omega arith)
 
-pub halts-short : (input out : List ℕ) (p : Place) → length out - answerBytes < p .wrote → answerBytes ≤ length out → Halts input p out
+pub halts-short : (input out : List ℕ) (p : Progress) → length out - answerBytes < p .wrote → answerBytes ≤ length out → Halts input p out
 halts-short input out p h k = record { left = λ l. absurd (omega arith) }
 
-pub halts-left : (input out : List ℕ) (p : Place) → Unfinished (drop (p .from) input) → Halts input p out
+pub halts-left : (input out : List ℕ) (p : Progress) → Unfinished (drop (p .from) input) → Halts input p out
 halts-left input out p u = record { left = λ l. u }
 
 -- ---- from any place
 
-module _ (input : List ℕ) (p : Place) (out : List ℕ) (q : Place) (out′ : List ℕ) where
+module _ (input : List ℕ) (p : Progress) (out : List ℕ) (q : Progress) (out′ : List ℕ) where
   -- a place that skips, or does not
   goes-as : (skip : Bool) → p .skip ≡ skip → Goes input (record { from = p .from; wrote = p .wrote; skip = skip }) out q out′ → Goes input p out q out′
   goes-as skip e g = subst (λ (b : Bool). Goes input (record { from = p .from; wrote = p .wrote; skip = b }) out q out′) (sym e) g
@@ -328,8 +328,8 @@ module _ (input : List ℕ) (p : Place) (out : List ℕ) (q : Place) (out′ : L
   pub goes-from : p .skip ≡ false → Goes input (lineAt (p .from) (p .wrote)) out q out′ → Goes input p out q out′
   goes-from e g = goes-as false e g
 
-module _ (input : List ℕ) (p : Place) (out : List ℕ) (i : Inside input p out) (skip : p .skip ≡ true) (end : ℕ) (e : end ≡ lineEnd input (p .from)) where
-  pub skips-past : (end ≡ length input → ⊥) → (q : Place) (out′ : List ℕ) → Goes input (lineAt (end + 1) (p .wrote)) out q out′ → Goes input p out q out′
+module _ (input : List ℕ) (p : Progress) (out : List ℕ) (i : Inside input p out) (skip : p .skip ≡ true) (end : ℕ) (e : end ≡ lineEnd input (p .from)) where
+  pub skips-past : (end ≡ length input → ⊥) → (q : Progress) (out′ : List ℕ) → Goes input (lineAt (end + 1) (p .wrote)) out q out′ → Goes input p out q out′
   skips-past h q out′ g =
       goes-as input p out q out′ true skip
       (goes-then input out (skipping input out (p .from) (p .wrote) (i .read) end e (i .answers) (p .from)) (lineAt (end + 1) (p .wrote)) out

@@ -4,18 +4,16 @@
 --   turns-move    there are no more turns than bytes read and written
 --   ended-prints  where the input ends, all that was written is what is printed for all that was read
 use mathlib.Core.Path.{_≡_, refl, sym, ap, _∙_, subst}
-use mathlib.Core.Bool.{Bool, true, false}
+use mathlib.Core.Bool.{Bool, false}
 use mathlib.Core.List.{List, [], _++_, append-assoc, append-nil}
 use Prim.Native.Nat.{ℕ, suc, _+_, _-_, _≤_, _<_}
 use native.Mathlib.Omega.{arith}
 use lib.ListN.{length, take, drop, length-append, length-drop, take-append-drop, drop-of-length-le}
 use lib.Seq.{length-take-le, take-at, take-take}
-use types.Run.{OneOf}
-use denote.Enum.Declared.{tagOf}
-use Rattle.type_line.specs.Line.{output, answerBytes}
+use Rattle.answer_line.specs.Line.{output, answerBytes}
 use Rattle.type_lines.specs.Run.{outputFrom, printedAt, Room, Inside, Behind, Goes, Unfinished, Halts, Moved, Ends}
 use Rattle.type_lines.specs.Turns.{readIn, writtenIn, leftIn, ahead, Running, Turned, GoesOn, Handed, Reads, ReadOn, LastLine, Turns, start, turn, History, Ended, Closes, Ran}
-use Rattle.type_lines.specs.declared.Place.{Place}
+use Rattle.type_lines.specs.declared.Progress.{Progress}
 use Rattle.type_lines.specs.declared.Turn.{Turn}
 use Rattle.type_lines.specs.declared.After.{After}
 use Rattle.type_lines.specs.declared.After.the-variants.{More, End, Failed}
@@ -73,7 +71,7 @@ module _ (input : List ℕ) (left : ℕ) (skip : Bool) (wrote : ℕ) (input′ :
 
 -- ---- a turn
 
-abbrev pub placeOf : Turn → Place
+abbrev pub placeOf : Turn → Progress
 placeOf t = record { from = t .from; wrote = 0; skip = t .skip }
 
 pub failed : (t : Turn) (input out input′ out′ : List ℕ) → GoesOn t input out Failed input′ out′
@@ -87,7 +85,7 @@ module _ (t : Turn) (input rows out : List ℕ) (r : Running input t rows out) w
       let a = r .place in
       record { read = omega arith; answers = omega arith }
 
-  module _ (q : Place) (out′ : List ℕ) (g : Goes (take (t .filled) input) (placeOf t) out q out′) where
+  module _ (q : Progress) (out′ : List ℕ) (g : Goes (take (t .filled) input) (placeOf t) out q out′) where
     pub within-filled : q .from ≤ t .filled
     within-filled =
         let c = counted (t .filled) input (r .fits) in
@@ -194,7 +192,7 @@ module _ (t : Turn) (input rows out : List ℕ) (r : Running input t rows out) w
       turn-read wrote e input₂ Failed d = tt
 
 -- the output has room for another answer, so that only an unfinished line is left
-pub halts-unfinished : (input : List ℕ) (p : Place) (out : List ℕ) → Halts input p out → (wrote : ℕ) → wrote ≡ p .wrote → answerBytes ≤ length out → wrote ≤ length out - answerBytes
+pub halts-unfinished : (input : List ℕ) (p : Progress) (out : List ℕ) → Halts input p out → (wrote : ℕ) → wrote ≡ p .wrote → answerBytes ≤ length out → wrote ≤ length out - answerBytes
     → Unfinished (drop (p .from) input)
 halts-unfinished input p out h wrote e k l = h .left (omega arith)
 

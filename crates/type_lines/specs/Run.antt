@@ -2,10 +2,10 @@
 use mathlib.Core.Path.{_≡_}
 use mathlib.Core.Bool.{Bool, true, false}
 use mathlib.Core.List.{List, _++_}
-use Prim.Native.Nat.{ℕ, suc, _+_, _-_, _≤_, _<_}
+use Prim.Native.Nat.{ℕ, suc, _+_, _-_, _≤_}
 use lib.ListN.{length, take, drop}
-use Rattle.type_line.specs.Line.{lineAnswer, lineWords, output, beforeNewline, answerBytes}
-use Rattle.type_lines.specs.declared.Place.{Place}
+use Rattle.answer_line.specs.Line.{lineAnswer, lineWords, output, beforeNewline, answerBytes}
+use Rattle.type_lines.specs.declared.Progress.{Progress}
 use Rattle.datatype.specs.Limits.{maxText}
 
 -- ---- what is printed
@@ -16,11 +16,11 @@ outputFrom false s = output s
 outputFrom true s = output (drop (suc (beforeNewline s)) s)
 
 -- What is printed at last: the answers in the output, then those for the input from the place on and for what follows.
-unfoldable pub printedAt : List ℕ → Place → List ℕ → List ℕ → List ℕ
+unfoldable pub printedAt : List ℕ → Progress → List ℕ → List ℕ → List ℕ
 printedAt input p out rest = take (p .wrote) out ++ outputFrom (p .skip) (drop (p .from) input ++ rest)
 
 -- A place where a line begins.
-abbrev pub lineAt : ℕ → ℕ → Place
+abbrev pub lineAt : ℕ → ℕ → Progress
 lineAt from wrote = record { from = from; wrote = wrote; skip = false }
 
 -- ---- the buffers
@@ -31,7 +31,7 @@ pub record Room (rows out : List ℕ) : Type 0 where
   pub bytes : answerBytes ≤ length out
 
 -- A place lies in the input and in the output.
-pub record Inside (input : List ℕ) (p : Place) (out : List ℕ) : Type 0 where
+pub record Inside (input : List ℕ) (p : Progress) (out : List ℕ) : Type 0 where
   pub read : p .from ≤ length input
   pub answers : p .wrote ≤ length out
 
@@ -49,7 +49,7 @@ pub record Wrote (line out : List ℕ) (wrote next : ℕ) (out′ : List ℕ) : 
   pub answers : take next out′ ≡ take wrote out ++ lineAnswer line
 
 -- From one place to another: whatever follows in the input, what is printed at last stays the same.
-pub record Goes (input : List ℕ) (p : Place) (out : List ℕ) (q : Place) (out′ : List ℕ) : Type 0 where
+pub record Goes (input : List ℕ) (p : Progress) (out : List ℕ) (q : Progress) (out′ : List ℕ) : Type 0 where
   pub inside : Inside input q out′
   pub behind : Behind out (p .wrote) (q .wrote) out′
   pub same : (rest : List ℕ) → printedAt input p out rest ≡ printedAt input q out′ rest
@@ -60,7 +60,7 @@ pub record Unfinished (s : List ℕ) : Type 0 where
   pub short : length s ≤ maxText
 
 -- The output is short of room for an answer, or only an unfinished line is left.
-pub record Halts (input : List ℕ) (p : Place) (out : List ℕ) : Type 0 where
+pub record Halts (input : List ℕ) (p : Progress) (out : List ℕ) : Type 0 where
   pub left : p .wrote + answerBytes ≤ length out → Unfinished (drop (p .from) input)
 
 -- Where the input ends, the output holds all that is still to be printed.

@@ -2,19 +2,19 @@
 ghost use mathlib.Core.Path.{_≡_};
 ghost use Prim.Native.Nat.{_+_, _≤_};
 ghost use lib.ListN.{length, drop};
-ghost use Rattle.type_line.specs.Line.{lineWords, beforeNewline, answerBytes};
+ghost use Rattle.answer_line.specs.Line.{lineWords, beforeNewline, answerBytes};
 ghost use Rattle.type_lines.specs.Run.{Room, lineAt, Inside, Goes, Halts, Unfinished, Wrote, Ends, Moved};
-use crate::Place;
+use crate::Progress;
+use answer_line::ANSWER_BYTES;
+use answer_line::Answered;
 use datatype::rows::MAX_TEXT;
-use type_line::ANSWER_BYTES;
-use type_line::Answered;
 
 // Answers a line behind the answers that are in the output, and gives the place behind its answer.
 fn answer_at(line: &[u8], rows: &mut [u32], out: &mut [u8], wrote: usize) -> usize
     requires { ⌜ (lineWords ≤ length (now rows)) × (wrote + answerBytes ≤ length (now out)) ⌝ }
     ensures { λ r. ⌜ Wrote (now (line .entry)) (now (out .entry)) wrote r (now (out .exit)) ⌝ }
 {
-    match type_line::answer_line(line, rows, &mut out[wrote..]) {
+    match answer_line::answer_line(line, rows, &mut out[wrote..]) {
         Answered::Bytes(n) => wrote + n,
         Answered::NoRoom => wrote,
     }
@@ -22,19 +22,25 @@ fn answer_at(line: &[u8], rows: &mut [u32], out: &mut [u8], wrote: usize) -> usi
 
 // A line whose end is not read yet waits for it, unless it is too long for a text: then it is answered, and the rest of
 // it is skipped.
-fn answer_part(input: &[u8], from: usize, wrote: usize, rows: &mut [u32], out: &mut [u8]) -> Place
+fn answer_part(
+    input: &[u8],
+    from: usize,
+    wrote: usize,
+    rows: &mut [u32],
+    out: &mut [u8],
+) -> Progress
     requires { ⌜ (lineWords ≤ length (now rows)) × (wrote + answerBytes ≤ length (now out)) × (from ≤ length (now input)) × (beforeNewline (drop from (now input)) ≡ length (drop from (now input))) ⌝ }
     ensures { λ r. ⌜ Goes (now (input .entry)) (lineAt from wrote) (now (out .entry)) r (now (out .exit)) × Unfinished (drop (r .from) (now (input .entry))) ⌝ }
 {
     if input.len() - from <= MAX_TEXT {
-        return Place {
+        return Progress {
             from: from,
             wrote: wrote,
             skip: false,
         };
     }
     let next = answer_at(&input[from..], rows, out, wrote);
-    Place {
+    Progress {
         from: input.len(),
         wrote: next,
         skip: true,
@@ -42,21 +48,27 @@ fn answer_part(input: &[u8], from: usize, wrote: usize, rows: &mut [u32], out: &
 }
 
 // Answers lines until the output is short of room or no whole line is left.
-fn answer_whole(input: &[u8], start: usize, had: usize, rows: &mut [u32], out: &mut [u8]) -> Place
+fn answer_whole(
+    input: &[u8],
+    start: usize,
+    had: usize,
+    rows: &mut [u32],
+    out: &mut [u8],
+) -> Progress
     requires { ⌜ Room (now rows) (now out) × Inside (now input) (lineAt start had) (now out) ⌝ }
     ensures { λ r. ⌜ Goes (now (input .entry)) (lineAt start had) (now (out .entry)) r (now (out .exit)) × Halts (now (input .entry)) r (now (out .exit)) ⌝ }
 {
     let mut from = start;
     let mut wrote = had;
     while wrote <= out.len() - ANSWER_BYTES {
-        let end = type_line::line_end(input, from);
+        let end = answer_line::line_end(input, from);
         if end == input.len() {
             return answer_part(input, from, wrote, rows, out);
         }
         wrote = answer_at(&input[from..end], rows, out, wrote);
         from = end + 1;
     }
-    Place {
+    Progress {
         from: from,
         wrote: wrote,
         skip: false,
@@ -64,7 +76,7 @@ fn answer_whole(input: &[u8], start: usize, had: usize, rows: &mut [u32], out: &
 }
 
 // Answers what can be answered of the bytes read.
-pub(crate) fn answer_lines(input: &[u8], p: Place, rows: &mut [u32], out: &mut [u8]) -> Place
+pub(crate) fn answer_lines(input: &[u8], p: Progress, rows: &mut [u32], out: &mut [u8]) -> Progress
     requires { ⌜ Room (now rows) (now out) × Inside (now input) p (now out) ⌝ }
     ensures { λ r. ⌜ Goes (now (input .entry)) p (now (out .entry)) r (now (out .exit)) × Halts (now (input .entry)) r (now (out .exit)) ⌝ }
 {
@@ -72,9 +84,9 @@ pub(crate) fn answer_lines(input: &[u8], p: Place, rows: &mut [u32], out: &mut [
     let wrote = p.wrote;
     let skip = p.skip;
     if skip {
-        let end = type_line::line_end(input, from);
+        let end = answer_line::line_end(input, from);
         if end == input.len() {
-            return Place {
+            return Progress {
                 from: end,
                 wrote: wrote,
                 skip: true,

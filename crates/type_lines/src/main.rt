@@ -4,18 +4,18 @@
 ghost use mathlib.Core.Path.{_≡_};
 ghost use Prim.Native.Nat.{_<_, _≤_};
 ghost use lib.ListN.{length};
-ghost use Rattle.type_line.specs.Line.{lineWords};
+ghost use Rattle.answer_line.specs.Line.{lineWords};
 ghost use Rattle.type_lines.specs.Run.{Room, Unfinished};
 ghost use Rattle.type_lines.specs.Turns.{Handed, ReadOn, Running, GoesOn, LastLine, Ran};
 ghost use Rattle.datatype.specs.Limits.{maxText};
-use type_line::ANSWER_BYTES;
-use type_line::LINE_WORDS;
+use answer_line::ANSWER_BYTES;
+use answer_line::LINE_WORDS;
 
 mod lines;
 
 // Where the lines have got to: the place in the bytes read, how many bytes of answers are in the output, and whether
 // what comes next is the rest of a line that is answered already.
-struct Place {
+struct Progress {
     from: usize,
     wrote: usize,
     skip: bool,
@@ -102,7 +102,7 @@ fn take_turn(input: &mut [u8], t: Turn, rows: &mut [u32], out: &mut [u8]) -> Aft
     ensures { λ r. ⌜ GoesOn t (now (input .entry)) (now (out .entry)) r (now (input .exit)) (now (out .exit)) ⌝ }
 {
     let filled = t.filled;
-    let p = Place {
+    let p = Progress {
         from: t.from,
         wrote: 0,
         skip: t.skip,

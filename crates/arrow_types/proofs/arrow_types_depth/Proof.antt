@@ -1,5 +1,4 @@
 use Rattle.arrow_types.proofs.Answers.{done-status, done-value, refused-status, refused-value, levels-done, levels-refused}
-use native.Mathlib.Omega.{arith}
 use borrow.Author.Needs.{needs}
 use Rattle.arrow_types.proofs.arrow_types_depth.Statement.{statement}
 use Rattle.arrow_types.proofs.arrow_types_depth.Tie as tie

@@ -1,5 +1,4 @@
 use Rattle.arrow_types.proofs.Answers.{yes-flag, no-flag}
-use native.Mathlib.Omega.{arith}
 use borrow.Author.Needs.{needs}
 use Rattle.arrow_types.proofs.arrow_types_is_sound.Statement.{statement}
 use Rattle.arrow_types.proofs.arrow_types_is_sound.Tie as tie

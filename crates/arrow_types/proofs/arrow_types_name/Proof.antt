@@ -1,5 +1,4 @@
 use Rattle.arrow_types.proofs.Named.{not-named, is-named}
-use native.Mathlib.Omega.{arith}
 use borrow.Author.Needs.{needs}
 use Rattle.arrow_types.proofs.arrow_types_name.Statement.{statement}
 use Rattle.arrow_types.proofs.arrow_types_name.Tie as tie

@@ -1,5 +1,4 @@
 use Rattle.arrow_types.proofs.Answers.{verdict-yes, verdict-row, verdict-refused}
-use native.Mathlib.Omega.{arith}
 use borrow.Author.Needs.{needs}
 use Rattle.arrow_types.proofs.arrow_types_verdict.Statement.{statement}
 use Rattle.arrow_types.proofs.arrow_types_verdict.Tie as tie

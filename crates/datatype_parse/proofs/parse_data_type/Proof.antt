@@ -1,8 +1,7 @@
 use Rattle.datatype_parse.proofs.Whole.{read-refused, read-done, trailing}
 use Prim.Native.Nat.{ℕ}
 use lib.ListN.{replicate}
-use mathlib.Core.Path.{_≡_, ap, _∙_}
-use native.Mathlib.Omega.{arith}
+use mathlib.Core.Path.{ap, _∙_}
 use borrow.Author.Needs.{needs}
 use Rattle.datatype_parse.proofs.parse_data_type.Statement.{statement}
 use Rattle.datatype_parse.proofs.parse_data_type.Tie as tie

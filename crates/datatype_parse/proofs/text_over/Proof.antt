@@ -1,5 +1,4 @@
 use Rattle.datatype_parse.proofs.Whole.{over-end, not-over}
-use native.Mathlib.Omega.{arith}
 use borrow.Author.Needs.{needs}
 use Rattle.datatype_parse.proofs.text_over.Statement.{statement}
 use Rattle.datatype_parse.proofs.text_over.Tie as tie

@@ -1,5 +1,4 @@
 use Rattle.type_lines.proofs.Turns.{handed-all, last-broken, last-done}
-use native.Mathlib.Omega.{arith}
 use borrow.Author.Needs.{needs}
 use Rattle.type_lines.proofs.finish.Statement.{statement}
 use Rattle.type_lines.proofs.finish.Tie as tie

@@ -1,5 +1,4 @@
 use Rattle.type_lines.proofs.Turns.{counted, all-handed, none-handed}
-use native.Mathlib.Omega.{arith}
 use borrow.Author.Needs.{needs}
 use Rattle.type_lines.proofs.flush.Statement.{statement}
 use Rattle.type_lines.proofs.flush.Tie as tie

@@ -2,7 +2,6 @@ use Rattle.datatype.proofs.Cleared.{Cleared, cleared-start, cleared-mor
 use Prim.Native.Nat.{_-_}
 use lib.ListN.{length}
 use borrow.Author.Needs.{needs}
-use native.Mathlib.Omega.{arith}
 use Rattle.datatype.proofs.words.clear_words.Statement.{statement}
 use Rattle.datatype.proofs.words.clear_words.Tie as tie
 use Rattle.datatype.proofs.words.clear_words.Reads as reads

@@ -1,7 +1,7 @@
 use Rattle.datatype_display.proofs.AsciiLaws.{quotes-at}
 use mathlib.Core.Path.{refl}
 use Rattle.datatype_display.specs.Print.{quotesNames}
-use Rattle.datatype_display.specs.Steps.{shapeMeans}
+use Rattle.datatype_display.specs.Internal.Steps.{shapeMeans}
 use borrow.Author.Needs.{needs}
 use Rattle.datatype_display.proofs.ascii.quotes_names.Statement.{statement}
 use Rattle.datatype_display.proofs.ascii.quotes_names.Tie as tie

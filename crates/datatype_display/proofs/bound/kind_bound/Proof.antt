@@ -1,4 +1,4 @@
-use Rattle.datatype_display.specs.Bound.{kindBounds, kindBound}
+use Rattle.datatype_display.specs.Internal.Bound.{kindBounds, kindBound}
 use Rattle.datatype_display.proofs.BoundLaws.{bound-rest}
 use mathlib.Core.Path.{ap, sym}
 use Rattle.datatype_display.proofs.bound.kind_bound.Statement.{statement}

@@ -1,5 +1,5 @@
 use mathlib.Core.Path.{refl, _∙_}
-use Rattle.datatype_display.specs.Steps.{shapeMeans}
+use Rattle.datatype_display.specs.Internal.Steps.{shapeMeans}
 use Rattle.datatype_display.proofs.Printing.{Printing, printing-start, printing-kept, printing-end, printing-turn, printing-room, printing-call, printing-size, printing-again, subtree-room, subtree-end, quotes-call, printed-row, printed-single}
 use borrow.Author.Needs.{needs}
 use native.Mathlib.Omega.{arith}

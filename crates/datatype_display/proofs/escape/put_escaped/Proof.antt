@@ -1,6 +1,6 @@
 use Rattle.datatype_display.proofs.Escapes.{escaped-start, escaped-more, escaped-all}
 use Rattle.datatype_display.specs.Display.{escaped}
-use Rattle.datatype_display.specs.Steps.{Put}
+use Rattle.datatype_display.specs.Internal.Steps.{Put}
 use Prim.Native.Nat.{_-_}
 use lib.ListN.{length, take}
 use borrow.Author.Needs.{needs}

@@ -1,4 +1,4 @@
-use Rattle.datatype_display.specs.Steps.{closeText, shapeMeans}
+use Rattle.datatype_display.specs.Internal.Steps.{closeText, shapeMeans}
 use Rattle.datatype_display.specs.declared.shape.Shape.the-variants as S
 use Rattle.datatype_display.proofs.Writes.{put-none, put-then, put-as}
 use Rattle.datatype_display.proofs.Rows.{as-shape}

@@ -1,5 +1,5 @@
 use Rattle.datatype_display.proofs.Writes.{put-none, put-as}
-use Rattle.datatype_display.specs.Steps.{comma}
+use Rattle.datatype_display.specs.Internal.Steps.{comma}
 use mathlib.Core.Path.{ap, sym}
 use native.Mathlib.Omega.{arith}
 use borrow.Author.Needs.{needs}

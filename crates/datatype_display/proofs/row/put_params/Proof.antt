@@ -1,5 +1,5 @@
 use Rattle.datatype.specs.Tree.{zoneOf}
-use Rattle.datatype_display.specs.Steps.{paramsText, openText, shapeMeans}
+use Rattle.datatype_display.specs.Internal.Steps.{paramsText, openText, shapeMeans}
 use Rattle.datatype_display.specs.declared.shape.Shape.the-variants as S
 use Rattle.datatype_display.proofs.Writes.{put-none, put-then, put-as}
 use Rattle.datatype_display.proofs.Rows.{as-shape}

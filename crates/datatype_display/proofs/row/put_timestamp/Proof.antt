@@ -1,4 +1,4 @@
-use Rattle.datatype_display.specs.Steps.{paramsText, openText}
+use Rattle.datatype_display.specs.Internal.Steps.{paramsText, openText}
 use Rattle.datatype_display.proofs.Writes.{put-then}
 use native.Mathlib.Omega.{arith}
 use borrow.Author.Needs.{needs}

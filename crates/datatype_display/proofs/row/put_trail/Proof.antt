@@ -1,4 +1,4 @@
-use Rattle.datatype_display.specs.Steps.{trailText, shapeMeans, labelAt}
+use Rattle.datatype_display.specs.Internal.Steps.{trailText, shapeMeans, labelAt}
 use Rattle.datatype_display.specs.Display.{listNameText}
 use mathlib.Core.Path.{ap, _∙_}
 use Rattle.datatype_display.specs.declared.shape.Shape.the-variants as S

@@ -1,6 +1,6 @@
 use Rattle.datatype.specs.Kind.{shapeOf}
 use Rattle.datatype.proofs.ShapeLaws.{leaf-number}
-use Rattle.datatype_display.specs.Steps.{shapeMeans}
+use Rattle.datatype_display.specs.Internal.Steps.{shapeMeans}
 use mathlib.Core.Path.{sym}
 use borrow.Author.Needs.{needs}
 use native.Mathlib.Omega.{arith}

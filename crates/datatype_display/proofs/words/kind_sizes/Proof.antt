@@ -1,4 +1,4 @@
-use Rattle.datatype_display.specs.Steps.{kindSizes}
+use Rattle.datatype_display.specs.Internal.Steps.{kindSizes}
 use Rattle.datatype_display.proofs.KindWords.{sizes-rest}
 use mathlib.Core.Path.{ap, sym}
 use borrow.Author.Needs.{needs}

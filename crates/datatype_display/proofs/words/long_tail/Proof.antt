@@ -1,8 +1,8 @@
 use Rattle.datatype_display.proofs.KindWords.{tail-rest}
 use Rattle.tokenizer.specs.Words.{words}
-use Rattle.tokenizer.specs.Keys.{packed}
+use Rattle.tokenizer.specs.Internal.Keys.{packed}
 use Rattle.datatype_display.specs.Display.{kindWord}
-use Rattle.datatype_display.specs.Steps.{longTail}
+use Rattle.datatype_display.specs.Internal.Steps.{longTail}
 use mathlib.Core.Path.{ap, sym}
 use borrow.Author.Needs.{needs}
 use native.Mathlib.Omega.{arith}

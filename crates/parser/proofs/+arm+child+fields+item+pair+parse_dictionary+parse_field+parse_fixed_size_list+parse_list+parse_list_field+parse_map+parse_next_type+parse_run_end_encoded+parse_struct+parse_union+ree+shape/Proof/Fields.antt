@@ -2,7 +2,7 @@ use mathlib.Core.Path.{_≡_, refl, sym, _∙_}
 use Rattle.parser.proofs.Loops.{Loop, loop-start, loop-length, loop-room, loop-lost, loop-end, loop-last, loop-less as less, loop-more, last-most, more-most}
 use Prim.Native.Nat.{_-_}
 use Rattle.parser.specs.Parse.{typeAt}
-use Rattle.parser.specs.Steps.{itemOf}
+use Rattle.parser.specs.Internal.Steps.{itemOf}
 use borrow.Author.Needs.{needs}
 use native.Mathlib.Omega.{arith}
 use Prim.Native.Nat.{ℕ, _<_}

@@ -1,7 +1,7 @@
 use Rattle.parser.proofs.Answers.{got-step, lost-step}
 use Rattle.parser.proofs.Zones.{quoted-refused}
 use Rattle.parser.proofs.Readers.{name-1, name-2, name-3}
-use Rattle.parser.specs.Steps.{quotedOf}
+use Rattle.parser.specs.Internal.Steps.{quotedOf}
 use mathlib.Core.Path.{_≡_, refl, sym, ap, _∙_}
 use native.Mathlib.Omega.{arith}
 use borrow.Author.Needs.{needs}

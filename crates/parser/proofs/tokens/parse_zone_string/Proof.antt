@@ -3,7 +3,7 @@ use Rattle.tokenizer.specs.Answer.{refuse}
 use Rattle.parser.proofs.Zones.{zone-refused, zone-done, zone-none, zone-some, zone-string, zone-other}
 use Rattle.parser.proofs.TokenLaws.{only-sort}
 use mathlib.Core.List.{[], _∷_}
-use Rattle.parser.specs.Steps.{zoneStep}
+use Rattle.parser.specs.Internal.Steps.{zoneStep}
 use mathlib.Core.Path.{refl, sym, ap, _∙_}
 use native.Mathlib.Omega.{arith}
 use borrow.Author.Needs.{needs}

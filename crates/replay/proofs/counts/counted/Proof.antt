@@ -1,5 +1,4 @@
 use Rattle.replay.proofs.Counting.{count-alike, count-later, count-first}
-use native.Mathlib.Omega.{arith}
 use borrow.Author.Needs.{needs}
 use Rattle.replay.proofs.counts.counted.Statement.{statement}
 use Rattle.replay.proofs.counts.counted.Tie as tie

@@ -5,7 +5,6 @@ use lib.Dec.{eqb}
 use Rattle.tokenizer.specs.Text.{all}
 use Rattle.replay.proofs.PrintCases.{all-end, all-other, all-more}
 use borrow.Author.Needs.{needs}
-use native.Mathlib.Omega.{arith}
 use Rattle.replay.proofs.prints.all_are.Statement.{statement}
 use Rattle.replay.proofs.prints.all_are.Tie as tie
 use Rattle.replay.proofs.prints.all_are.Reads as reads

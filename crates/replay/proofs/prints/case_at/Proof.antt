@@ -1,5 +1,4 @@
 use Rattle.replay.proofs.PrintCases.{print-case-made}
-use native.Mathlib.Omega.{arith}
 use borrow.Author.Needs.{needs}
 use Rattle.replay.proofs.prints.case_at.Statement.{statement}
 use Rattle.replay.proofs.prints.case_at.Tie as tie

@@ -1,5 +1,4 @@
 use Rattle.replay.proofs.PrintCases.{other-answer, same-answer}
-use native.Mathlib.Omega.{arith}
 use borrow.Author.Needs.{needs}
 use Rattle.replay.proofs.prints.gives.Statement.{statement}
 use Rattle.replay.proofs.prints.gives.Tie as tie

@@ -1,5 +1,4 @@
 use Rattle.replay.proofs.PrintCases.{length-is, length-not, refused-is, refused-not}
-use native.Mathlib.Omega.{arith}
 use borrow.Author.Needs.{needs}
 use Rattle.replay.proofs.prints.is_answer.Statement.{statement}
 use Rattle.replay.proofs.prints.is_answer.Tie as tie

@@ -1,5 +1,4 @@
 use Rattle.replay.proofs.PrintCases.{leaves-other, leaves-rest}
-use native.Mathlib.Omega.{arith}
 use borrow.Author.Needs.{needs}
 use Rattle.replay.proofs.prints.leaves.Statement.{statement}
 use Rattle.replay.proofs.prints.leaves.Tie as tie

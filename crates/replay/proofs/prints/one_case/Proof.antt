@@ -1,5 +1,4 @@
 use Rattle.replay.proofs.PrintCases.{one-print}
-use native.Mathlib.Omega.{arith}
 use borrow.Author.Needs.{needs}
 use Rattle.replay.proofs.prints.one_case.Statement.{statement}
 use Rattle.replay.proofs.prints.one_case.Tie as tie

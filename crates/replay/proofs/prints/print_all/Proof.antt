@@ -1,6 +1,5 @@
 use Rattle.replay.proofs.PrintCases.{PrintTurn, prints-first, prints-next, prints-last}
 use borrow.Author.Needs.{needs}
-use native.Mathlib.Omega.{arith}
 use Rattle.replay.proofs.prints.print_all.Statement.{statement}
 use Rattle.replay.proofs.prints.print_all.Tie as tie
 use Rattle.replay.proofs.prints.print_all.Reads as reads

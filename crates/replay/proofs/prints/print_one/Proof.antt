@@ -1,6 +1,5 @@
 use Rattle.replay.proofs.Cases.{front-long}
 use Rattle.replay.proofs.PrintCases.{one-printed}
-use native.Mathlib.Omega.{arith}
 use borrow.Author.Needs.{needs}
 use Rattle.replay.proofs.prints.print_one.Statement.{statement}
 use Rattle.replay.proofs.prints.print_one.Tie as tie

@@ -2,7 +2,6 @@ use Prim.Native.Nat.{_-_}
 use lib.ListN.{length}
 use Rattle.replay.proofs.Reading.{Filled, filled-start, filled-more, filled-all}
 use borrow.Author.Needs.{needs}
-use native.Mathlib.Omega.{arith}
 use Rattle.replay.proofs.stored.fill.Statement.{statement}
 use Rattle.replay.proofs.stored.fill.Tie as tie
 use Rattle.replay.proofs.stored.fill.Reads as reads

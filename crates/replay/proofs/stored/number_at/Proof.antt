@@ -4,7 +4,6 @@ use lib.ListN.{length, drop}
 use Rattle.replay.specs.Sample.{numberFrom, numberAt}
 use Rattle.replay.proofs.Reading.{number-end, number-stop, number-go}
 use borrow.Author.Needs.{needs}
-use native.Mathlib.Omega.{arith}
 use Rattle.replay.proofs.stored.number_at.Statement.{statement}
 use Rattle.replay.proofs.stored.number_at.Tie as tie
 use Rattle.replay.proofs.stored.number_at.Reads as reads

@@ -2,7 +2,6 @@ use Prim.Native.Nat.{_-_}
 use lib.ListN.{length}
 use Rattle.replay.proofs.Reading.{Numbered, numbered-start, numbered-more, numbered-all, numbered-place}
 use borrow.Author.Needs.{needs}
-use native.Mathlib.Omega.{arith}
 use Rattle.replay.proofs.stored.words_at.Statement.{statement}
 use Rattle.replay.proofs.stored.words_at.Tie as tie
 use Rattle.replay.proofs.stored.words_at.Reads as reads

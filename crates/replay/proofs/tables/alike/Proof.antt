@@ -1,6 +1,5 @@
 use Rattle.replay.proofs.TableCases.{other-tree, other-row, same-row}
 use borrow.Author.Tests.{not-true, not-false}
-use native.Mathlib.Omega.{arith}
 use borrow.Author.Needs.{needs}
 use Rattle.replay.proofs.tables.alike.Statement.{statement}
 use Rattle.replay.proofs.tables.alike.Tie as tie

@@ -1,6 +1,5 @@
 use Rattle.replay.proofs.TableCases.{GroupTurn, groups-first, groups-next, groups-last}
 use borrow.Author.Needs.{needs}
-use native.Mathlib.Omega.{arith}
 use Rattle.replay.proofs.tables.all.Statement.{statement}
 use Rattle.replay.proofs.tables.all.Tie as tie
 use Rattle.replay.proofs.tables.all.Reads as reads

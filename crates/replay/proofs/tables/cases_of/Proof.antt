@@ -5,7 +5,6 @@ use Prim.Native.Nat.{ℕ}
 use lib.ListN.{length}
 use Rattle.replay.specs.TableCase.{changes}
 use borrow.Author.Needs.{needs}
-use native.Mathlib.Omega.{arith}
 use Rattle.replay.proofs.tables.cases_of.Statement.{statement}
 use Rattle.replay.proofs.tables.cases_of.Tie as tie
 use Rattle.replay.proofs.tables.cases_of.Reads as reads

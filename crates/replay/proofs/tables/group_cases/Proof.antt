@@ -1,5 +1,4 @@
 use Rattle.replay.proofs.TableCases.{group-cases}
-use native.Mathlib.Omega.{arith}
 use borrow.Author.Needs.{needs}
 use Rattle.replay.proofs.tables.group_cases.Statement.{statement}
 use Rattle.replay.proofs.tables.group_cases.Tie as tie

@@ -1,6 +1,5 @@
 use Rattle.replay.proofs.TableCases.{group-of}
 use Rattle.replay.proofs.Cases.{front-long}
-use native.Mathlib.Omega.{arith}
 use borrow.Author.Needs.{needs}
 use Rattle.replay.proofs.tables.group_of.Statement.{statement}
 use Rattle.replay.proofs.tables.group_of.Tie as tie

@@ -1,6 +1,5 @@
 use Rattle.replay.proofs.TableCases.{one-change, put-back}
 use mathlib.Core.Path.{_∙_}
-use native.Mathlib.Omega.{arith}
 use borrow.Author.Needs.{needs}
 use Rattle.replay.proofs.tables.one_case.Statement.{statement}
 use Rattle.replay.proofs.tables.one_case.Tie as tie

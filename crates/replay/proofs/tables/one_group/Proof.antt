@@ -1,6 +1,5 @@
 use Rattle.replay.proofs.TableCases.{one-group}
 use Rattle.replay.proofs.Cases.{front-long}
-use native.Mathlib.Omega.{arith}
 use borrow.Author.Needs.{needs}
 use Rattle.replay.proofs.tables.one_group.Statement.{statement}
 use Rattle.replay.proofs.tables.one_group.Tie as tie

@@ -1,5 +1,4 @@
 use Rattle.replay.proofs.TableCases.{put-past}
-use native.Mathlib.Omega.{arith}
 use borrow.Author.Needs.{needs}
 use Rattle.replay.proofs.tables.put.Statement.{statement}
 use Rattle.replay.proofs.tables.put.Tie as tie

@@ -1,6 +1,5 @@
 use borrow.Author.Tests.{not-true, not-false}
 use Rattle.replay.proofs.TableCases.{other-name, same-name}
-use native.Mathlib.Omega.{arith}
 use borrow.Author.Needs.{needs}
 use Rattle.replay.proofs.tables.row_alike.Statement.{statement}
 use Rattle.replay.proofs.tables.row_alike.Tie as tie

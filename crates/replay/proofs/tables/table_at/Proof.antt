@@ -1,5 +1,4 @@
 use Rattle.replay.proofs.TableCases.{table-made}
-use native.Mathlib.Omega.{arith}
 use borrow.Author.Needs.{needs}
 use Rattle.replay.proofs.tables.table_at.Statement.{statement}
 use Rattle.replay.proofs.tables.table_at.Tie as tie

@@ -1,5 +1,4 @@
 use Rattle.replay.proofs.TableCases.{other-sound, other-depth-status, other-depth, same-depth}
-use native.Mathlib.Omega.{arith}
 use borrow.Author.Needs.{needs}
 use Rattle.replay.proofs.tables.tree_alike.Statement.{statement}
 use Rattle.replay.proofs.tables.tree_alike.Tie as tie

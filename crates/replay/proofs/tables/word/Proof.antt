@@ -1,5 +1,4 @@
 use Rattle.replay.proofs.TableCases.{past-end}
-use native.Mathlib.Omega.{arith}
 use borrow.Author.Needs.{needs}
 use Rattle.replay.proofs.tables.word.Statement.{statement}
 use Rattle.replay.proofs.tables.word.Tie as tie

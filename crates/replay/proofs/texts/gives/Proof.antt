@@ -1,5 +1,4 @@
 use Rattle.replay.proofs.Cases.{other-status, other-value, same-left}
-use native.Mathlib.Omega.{arith}
 use borrow.Author.Needs.{needs}
 use Rattle.replay.proofs.texts.gives.Statement.{statement}
 use Rattle.replay.proofs.texts.gives.Tie as tie

@@ -1,6 +1,5 @@
 use mathlib.Core.Path.{refl}
 use Rattle.replay.proofs.Cases.{front-long, left-place, left-made}
-use native.Mathlib.Omega.{arith}
 use borrow.Author.Needs.{needs}
 use Rattle.replay.proofs.texts.left_words.Statement.{statement}
 use Rattle.replay.proofs.texts.left_words.Tie as tie

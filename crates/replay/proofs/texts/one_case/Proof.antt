@@ -1,5 +1,4 @@
 use Rattle.replay.proofs.Cases.{one-case}
-use native.Mathlib.Omega.{arith}
 use borrow.Author.Needs.{needs}
 use Rattle.replay.proofs.texts.one_case.Statement.{statement}
 use Rattle.replay.proofs.texts.one_case.Tie as tie

@@ -1,6 +1,5 @@
 use Rattle.replay.proofs.Cases.{Turn, turn-first, turn-next, turn-last}
 use borrow.Author.Needs.{needs}
-use native.Mathlib.Omega.{arith}
 use Rattle.replay.proofs.texts.read_all.Statement.{statement}
 use Rattle.replay.proofs.texts.read_all.Tie as tie
 use Rattle.replay.proofs.texts.read_all.Reads as reads

@@ -1,5 +1,4 @@
 use Rattle.replay.proofs.Cases.{rows-front, left-front, one-read}
-use native.Mathlib.Omega.{arith}
 use borrow.Author.Needs.{needs}
 use Rattle.replay.proofs.texts.read_one.Statement.{statement}
 use Rattle.replay.proofs.texts.read_one.Tie as tie

@@ -1,6 +1,4 @@
 use Rattle.replay.proofs.Cases.{rest-unread, rest-zero}
-use borrow.Author.Needs.{needs}
-use native.Mathlib.Omega.{arith}
 use Rattle.replay.proofs.texts.rest.Statement.{statement}
 use Rattle.replay.proofs.texts.rest.Tie as tie
 use Rattle.replay.proofs.texts.rest.Reads as reads

@@ -1,6 +1,5 @@
 use Rattle.replay.proofs.Cases.{refused-words, first-words, few-rows, again-words}
 use borrow.Author.Needs.{needs}
-use native.Mathlib.Omega.{arith}
 use Rattle.replay.proofs.texts.words_lent.Statement.{statement}
 use Rattle.replay.proofs.texts.words_lent.Tie as tie
 use Rattle.replay.proofs.texts.words_lent.Reads as reads

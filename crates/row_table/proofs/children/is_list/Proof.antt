@@ -1,5 +1,5 @@
 use borrow.Author.Needs.{needs}
-use Rattle.row_table.specs.Check.{isList}
+use Rattle.row_table.specs.Internal.Check.{isList}
 use Rattle.row_table.proofs.children.is_list.Statement.{statement}
 use Rattle.row_table.proofs.children.is_list.Tie as tie
 

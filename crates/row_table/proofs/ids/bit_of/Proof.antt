@@ -1,4 +1,4 @@
-use Rattle.row_table.specs.Ids.{bit}
+use Rattle.row_table.specs.Internal.Ids.{bit}
 use borrow.Author.Needs.{needs}
 use Rattle.row_table.proofs.ids.bit_of.Statement.{statement}
 use Rattle.row_table.proofs.ids.bit_of.Tie as tie

@@ -4,7 +4,7 @@ use borrow.Author.Tests.{not-true, not-false}
 use lib.ListN.{length, drop}
 use Rattle.row_table.specs.Equal.{firstRows, wholeRows}
 use Rattle.row_table.specs.Layout.{anything}
-use Rattle.row_table.specs.Scan.{askedOf, scan}
+use Rattle.row_table.specs.Internal.Scan.{askedOf, scan}
 use Rattle.row_table.proofs.LayoutLaws.{scan-start, scan-end, scan-breaks, scan-go}
 use borrow.Author.Needs.{needs}
 use Rattle.datatype.specs.Table.{rowWords}

@@ -1,5 +1,5 @@
 use borrow.Author.Needs.{needs}
-use Rattle.row_table.specs.Check.{isDecimal}
+use Rattle.row_table.specs.Internal.Check.{isDecimal}
 use Rattle.row_table.proofs.rules.is_decimal.Statement.{statement}
 use Rattle.row_table.proofs.rules.is_decimal.Tie as tie
 

@@ -5,7 +5,7 @@ use native.Mathlib.Omega.{arith}
 use lib.ListN.{length, drop}
 use borrow.Author.Tests.{not-true, not-false}
 use borrow.Author.Needs.{needs}
-use Rattle.tokenizer.specs.Digits.{kindFrom}
+use Rattle.tokenizer.specs.Internal.Digits.{kindFrom}
 use Rattle.tokenizer.specs.Token.{numberKind}
 use Rattle.tokenizer.proofs.Magnitude.{digit-least, digit-most, kind-start, kind-none, kind-out, kind-go, kind-other, kind-large}
 use Rattle.tokenizer.proofs.number.number_kind.Statement.{statement}

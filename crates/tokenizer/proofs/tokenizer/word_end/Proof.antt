@@ -3,7 +3,7 @@ use mathlib.Core.Path.{_≡_, refl, sym, _∙_}
 use Prim.Native.Nat.{_-_}
 use lib.ListN.{length}
 use borrow.Author.Needs.{needs}
-use Rattle.tokenizer.specs.Ends.{wordEnd}
+use Rattle.tokenizer.specs.Internal.Ends.{wordEnd}
 use Rattle.tokenizer.proofs.Runs.{word-out, word-stop, word-go}
 use Rattle.tokenizer.proofs.tokenizer.word_end.Statement.{statement}
 use Rattle.tokenizer.proofs.tokenizer.word_end.Tie as tie

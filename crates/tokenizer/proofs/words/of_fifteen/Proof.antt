@@ -2,7 +2,7 @@
 use mathlib.Core.Path.{sym, ap, _∙_}
 use Prim.Native.Nat.{ℕ}
 use borrow.Author.Needs.{needs}
-use Rattle.tokenizer.specs.Keys.{packed, keyKind}
+use Rattle.tokenizer.specs.Internal.Keys.{packed, keyKind}
 use Rattle.tokenizer.specs.Words.{words}
 use Rattle.tokenizer.proofs.Listed.{no-head}
 use Rattle.tokenizer.proofs.words.of_fifteen.Statement.{statement}

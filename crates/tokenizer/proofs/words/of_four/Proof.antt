@@ -1,7 +1,7 @@
 -- `of_four` meets its contract: each arm by computing the definition at its number, the last by the law of no such head.
 use mathlib.Core.Path.{sym, ap}
 use Prim.Native.Nat.{ℕ}
-use Rattle.tokenizer.specs.Keys.{packed, keyKind}
+use Rattle.tokenizer.specs.Internal.Keys.{packed, keyKind}
 use Rattle.tokenizer.specs.Words.{words}
 use Rattle.tokenizer.proofs.Listed.{no-head}
 use Rattle.tokenizer.proofs.words.of_four.Statement.{statement}

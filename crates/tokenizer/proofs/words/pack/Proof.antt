@@ -4,7 +4,7 @@ use Prim.Native.Nat.{_-_, _^_, _<_}
 use native.Mathlib.Omega.{arith}
 use lib.ListN.{length, drop}
 use borrow.Author.Needs.{needs}
-use Rattle.tokenizer.specs.Keys.{packed}
+use Rattle.tokenizer.specs.Internal.Keys.{packed}
 use Rattle.tokenizer.proofs.Listed.{packed-go, packed-out, pack-room, pack-grow}
 use Rattle.tokenizer.proofs.words.pack.Statement.{statement}
 use Rattle.tokenizer.proofs.words.pack.Tie as tie

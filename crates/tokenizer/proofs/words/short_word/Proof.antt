@@ -2,7 +2,7 @@
 use mathlib.Core.Path.{sym, ap, _∙_}
 use Prim.Native.Nat.{ℕ}
 use borrow.Author.Needs.{needs}
-use Rattle.tokenizer.specs.Keys.{keyKind}
+use Rattle.tokenizer.specs.Internal.Keys.{keyKind}
 use Rattle.tokenizer.proofs.Listed.{no-short}
 use Rattle.tokenizer.proofs.words.short_word.Statement.{statement}
 use Rattle.tokenizer.proofs.words.short_word.Tie as tie

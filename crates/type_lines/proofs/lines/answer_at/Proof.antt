@@ -6,7 +6,7 @@ use Rattle.type_lines.proofs.lines.answer_at.Statement.{statement}
 use Rattle.type_lines.proofs.lines.answer_at.Tie as tie
 use Rattle.type_lines.proofs.lines.answer_at.Reads as reads
 use Rattle.type_lines.proofs.lines.answer_at.Lts as lts
-use Rattle.type_line.proofs.answer_line.Reads as answer-line-reads
+use Rattle.answer_line.proofs.answer_line.Reads as answer-line-reads
 
 sub-answer-line : tie.Need-sub-answer-line
 sub-answer-line c = search needs

@@ -1,5 +1,4 @@
 use Rattle.type_lines.proofs.Going.{ends-skipped, ends-empty, ends-line}
-use native.Mathlib.Omega.{arith}
 use borrow.Author.Needs.{needs}
 use Rattle.type_lines.proofs.lines.answer_last.Statement.{statement}
 use Rattle.type_lines.proofs.lines.answer_last.Tie as tie

@@ -5,7 +5,7 @@ use Rattle.type_lines.proofs.lines.answer_lines.Statement.{statement}
 use Rattle.type_lines.proofs.lines.answer_lines.Tie as tie
 use Rattle.type_lines.proofs.lines.answer_lines.Reads as reads
 use Rattle.type_lines.proofs.lines.answer_lines.Lts as lts
-use Rattle.type_line.proofs.line_end.Reads as line-end-reads
+use Rattle.answer_line.proofs.line_end.Reads as line-end-reads
 use Rattle.type_lines.proofs.lines.answer_whole.Reads as answer-whole-reads
 
 line-end-requires : tie.Need-line-end-requires

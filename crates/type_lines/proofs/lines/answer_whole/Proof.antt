@@ -8,7 +8,7 @@ use Rattle.type_lines.proofs.lines.answer_whole.Statement.{statement}
 use Rattle.type_lines.proofs.lines.answer_whole.Tie as tie
 use Rattle.type_lines.proofs.lines.answer_whole.Reads as reads
 use Rattle.type_lines.proofs.lines.answer_whole.Lts as lts
-use Rattle.type_line.proofs.line_end.Reads as line-end-reads
+use Rattle.answer_line.proofs.line_end.Reads as line-end-reads
 use Rattle.type_lines.proofs.lines.answer_at.Reads as answer-at-reads
 use Rattle.type_lines.proofs.lines.answer_part.Reads as answer-part-reads
 

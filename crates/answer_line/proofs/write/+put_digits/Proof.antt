@@ -1,0 +1,82 @@
+use Rattle.answer_line.proofs.Writing.{digits-length, one-digit, put-one, put-more}
+use borrow.Author.Needs.{needs}
+use native.Mathlib.Omega.{arith}
+use Prim.Native.Nat.{ℕ, _<_}
+use borrow.Fn.Kinds.{In}
+use borrow.Fn.PlainCycle.{Measures, is, falls, and}
+use Rattle.answer_line.proofs.write.put_digits.Reads as put-digits
+use Rattle.answer_line.proofs.write.put_digits.Kinds as put-digits-kinds
+use Rattle.answer_line.proofs.write.+put_digits.Lts-put_digits as put-digits-lts
+use Rattle.answer_line.proofs.write.put_byte.Reads as put-byte-reads
+use Rattle.answer_line.proofs.write.+put_digits.{statement}
+use Rattle.answer_line.proofs.write.+put_digits.Tie.{close}
+
+abbrev μ-put-digits : Measures 1 put-digits-kinds.ps ℕ
+μ-put-digits κs a = a .1 .1 .0
+
+abbrev put-digits-at : ℕ → In 1 put-digits-kinds.ps
+put-digits-at t = and 1 put-digits-kinds.ps (is 1 put-digits-kinds.ps μ-put-digits t) put-digits.Pre
+
+abbrev put-digits-below : ℕ → In 1 put-digits-kinds.ps
+put-digits-below t = and 1 put-digits-kinds.ps (falls 1 put-digits-kinds.ps _<_ μ-put-digits t) put-digits.Pre
+
+-- what is known of the callees, of this function at smaller numbers
+abbrev calls : ℕ → put-digits-lts.Claims
+calls t = (put-byte-reads.Asked, put-byte-reads.Learnt, put-digits-below t, put-digits.Post)
+
+module _ (t : ℕ) where
+  cast-put-byte : put-digits-lts.Need-cast-put-byte (calls t) (put-digits-at t) put-digits.Post
+  cast-put-byte c = search needs
+
+  add-put-byte : put-digits-lts.Need-add-put-byte (calls t) (put-digits-at t) put-digits.Post
+  add-put-byte c = search needs
+
+  put-byte-requires : put-digits-lts.Need-put-byte-requires (calls t) (put-digits-at t) put-digits.Post
+  put-byte-requires c κs = omega (arith, c .before .before .before .pre .1, one-digit (c .before .before .before .args .n) (c .before .if1 .taken))
+
+  same-length : put-digits-lts.Need-same-length (calls t) (put-digits-at t) put-digits.Post
+  same-length c = search needs
+
+  returns : put-digits-lts.Need-returns (calls t) (put-digits-at t) put-digits.Post
+  returns c = put-one _ _ _ _ _ (c .before .before .before .before .if1 .taken) (c .before .before .put-byte .ensures)
+
+  put-digits-requires : put-digits-lts.Need-put-digits-requires (calls t) (put-digits-at t) put-digits.Post
+  put-digits-requires c κs = (search needs, omega (arith, c .before .before .before .pre .1, digits-length (c .before .before .before .args .n) (c .before .if1 .left)))
+
+  cast-put-byte-2 : put-digits-lts.Need-cast-put-byte-2 (calls t) (put-digits-at t) put-digits.Post
+  cast-put-byte-2 c = search needs
+
+  add-put-byte-2 : put-digits-lts.Need-add-put-byte-2 (calls t) (put-digits-at t) put-digits.Post
+  add-put-byte-2 c = search needs
+
+  put-byte-requires-2 : put-digits-lts.Need-put-byte-requires-2 (calls t) (put-digits-at t) put-digits.Post
+  put-byte-requires-2 c κs =
+      omega (
+        arith,
+        c .before .before .before .put-digits .ensures .place,
+        c .before .before .before .put-digits .kept .0,
+        c .before .before .before .before .before .before .before .pre .1,
+        digits-length (c .before .before .before .before .before .before .before .args .n) (c .before .before .before .before .before .if1 .left),
+      )
+
+  same-length-2 : put-digits-lts.Need-same-length-2 (calls t) (put-digits-at t) put-digits.Post
+  same-length-2 c = search needs
+
+  returns-2 : put-digits-lts.Need-returns-2 (calls t) (put-digits-at t) put-digits.Post
+  returns-2 c = put-more _ _ _ _ _ _ _ (c .before .before .before .before .before .before .before .before .if1 .left) (c .before .before .before .before .before .before .put-digits .ensures) (c .before .before .put-byte2 .ensures)
+
+pub +put-digits-spec : {M : Type 1} → statement M
++put-digits-spec = close μ-put-digits λ t. put-digits-lts.spec (calls t)
+    (put-digits-at t)
+    put-digits.Post
+    (cast-put-byte t)
+    (add-put-byte t)
+    (put-byte-requires t)
+    (same-length t)
+    (returns t)
+    (put-digits-requires t)
+    (cast-put-byte-2 t)
+    (add-put-byte-2 t)
+    (put-byte-requires-2 t)
+    (same-length-2 t)
+    (returns-2 t)

@@ -1,0 +1,4 @@
+pub mod Ends
+pub mod Digits
+pub mod Keys
+pub mod Computed

@@ -1,3 +1,0 @@
-pub mod Line
-pub mod Steps
-pub mod Examples
