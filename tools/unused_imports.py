@@ -9,7 +9,8 @@ Lists them, a line for each, and ends with 1 if there are any; --fix takes them 
   A module brought in whole (`use M`, `use M as N`) is left alone, unless --modules is given.
 - A name is used where it stands as a word of its own outside comments, texts and import lines: in code, in a pattern, in a
   contract, behind `unfolding`. Behind a dot it is a field, behind `::` another module's.
-- An operator is used where its parts stand as words: `_≡_` where `≡` does, `if_then_else_` where its three do.
+- An operator is used where its parts stand as words: `_≡_` where `≡` does, `if_then_else_` where its three do. A `do` block
+  uses `_>>=_` and `_>>_`.
 - What a `ghost use` brings in can be used in contracts alone, between the braces of `requires` and `ensures`.
 - Words that a must-fail edit puts into a file count as uses there: an edit may lead a proof along another way.
 
@@ -61,6 +62,8 @@ def contracts(code):
 def is_used(name, present):
     """Whether a name of antt, perhaps an operator, is among the words that stand in a text."""
     parts = [part for part in name.split("_") if part]
+    if name in ("_>>=_", "_>>_") and "do" in present:
+        return True
     return name in present or bool(parts) and "_" in name and all(stands(part, present) for part in parts)
 
 

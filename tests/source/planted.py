@@ -50,6 +50,10 @@ class Planted(unittest.TestCase):
         self.assert_cut("use M.{if_then_else_}\n\nx = if a then b else c\n", [])
         self.assert_cut("use M.{if_then_else_}\n\nx = if a then b\n", ["M.if_then_else_"])
 
+    def test_do(self):
+        self.assert_cut("use M.{_>>=_, _>>_, f}\n\nx = do\n  b ← e\n  c\n", ["M.f"])
+        self.assert_cut("use M.{_>>=_}\n\nx = f\n", ["M._>>=_"])
+
     def test_patterns(self):
         self.assert_cut("use M.{node, ∅}\n\nf (node a k) = a\nf ∅ = 0\n", [])
         self.assert_cut("use M.{f, g}\n\nx : f\nunfolding g\nx = 1\n", [])

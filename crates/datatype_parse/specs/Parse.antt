@@ -5,7 +5,7 @@ use Prim.Native.Nat.{ℕ}
 use lib.ListN.{length, drop, replicate}
 use lib.Dec.{eqb}
 use Rattle.tokenizer.specs.Text.{if_then_else_}
-use Rattle.tokenizer.specs.Answer.{Out, refused, done, refuse}
+use Rattle.tokenizer.specs.Answer.{Out, refused, done, refuse, _>>=_}
 use Rattle.tokenizer.specs.Token.{tokenAt, valueOf, noToken}
 use Rattle.datatype.specs.Tree.{Forest, count, Row}
 use Rattle.datatype.specs.Table.{tableOf, rowsLent}
