@@ -140,6 +140,9 @@ def check_edit_texts():
     for edit in sorted(ROOT.glob("crates/*/must-fail/*.edit")):
         texts = {}
         for file, old, new in replacements(edit):
+            if not file.exists():
+                faults.append(f"{edit.relative_to(ROOT)}: there is no {file.relative_to(ROOT)}")
+                break
             text = texts.get(file) or file.read_text(encoding="utf8")
             if text.count(old) != 1:
                 faults.append(f"{edit.relative_to(ROOT)}: {text.count(old)} times in {file.name}: {old}")

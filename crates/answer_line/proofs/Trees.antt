@@ -13,8 +13,9 @@ use Rattle.tokenizer.specs.Answer.{Out, refused, done, refuse}
 use Rattle.tokenizer.proofs.Basics.{of-true}
 use Rattle.datatype.specs.Tree.{depth, nameList}
 use Rattle.datatype.specs.Table.{rowWords, treeOf}
-use Rattle.row_table.specs.Sound.{isSound, levelsOf}
-use Rattle.row_table.proofs.LevelLaws.{sound-levels}
+use Rattle.row_table.specs.Sound.{isSound}
+use Rattle.subtrees.specs.Levels.{levelsOf}
+use Rattle.row_table.proofs.DepthLaws.{sound-levels}
 use Rattle.datatype_display.specs.Display.{display}
 use Rattle.datatype_display.specs.Print.{quotedAscii, print, lengthOf, printAnswer, written, printBytes, printedMeans}
 use Rattle.datatype_display.specs.declared.Printed.{Printed}

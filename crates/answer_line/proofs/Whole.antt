@@ -1,17 +1,17 @@
 -- A whole line: what the reader, the depth and the printer come to, in lent buffers.
 use mathlib.Core.Path.{_≡_, refl, sym, ap, _∙_, subst}
 use mathlib.Core.List.{List, _++_, append-assoc}
-use Prim.Native.Nat.{ℕ, _+_, _*_, _/_, _≤_, _<_}
+use Prim.Native.Nat.{ℕ, _*_, _/_, _≤_, _<_}
 use native.Mathlib.Omega.{arith}
 use lib.ListN.{length, take, drop, length-append, length-drop}
 use lib.Seq.{length-take-le, take-append-seam}
 use borrow.Author.Tests.{le-leb, lt-leb}
-use Rattle.tokenizer.specs.Text.{bytes, if_then_else_}
+use Rattle.tokenizer.specs.Text.{bytes}
 use Rattle.tokenizer.specs.Answer.{Out, refused, done, refuse}
 use Rattle.datatype.specs.Tree.{Forest, count, depth, Row, nameList}
 use Rattle.datatype.specs.Table.{rowWords, tableOf, treeOf, rowsLent}
 use Rattle.datatype.proofs.Table.{length-table, view-table}
-use Rattle.row_table.proofs.LevelLaws.{depth-labels}
+use Rattle.row_table.proofs.DepthLaws.{depth-labels}
 use Rattle.row_table.proofs.SoundTree.{sound-tree, sound-count}
 use Rattle.datatype_parse.proofs.ReadSound.{read-sound}
 use Rattle.datatype_parse.specs.Parse.{parse, rowCount, filled, parseAnswer, parseRows, parsedMeans}

@@ -31,6 +31,6 @@ pub(crate) fn answer_tree(text: &[u8], rows: &[u32], out: &mut [u8]) -> usize
     requires { ⌜ (answerBytes ≤ length (now out)) × (length (now rows) / rowWords ≤ maxRows) ⌝ }
     ensures { λ r. ⌜ Answers (tableLine (now (text .entry)) (now (rows .entry))) (now (out .entry)) r (now (out .exit)) ⌝ }
 {
-    let levels = row_table::levels::levels_of(rows);
+    let levels = subtrees::levels_of(rows);
     print_tree(text, rows, levels, out)
 }

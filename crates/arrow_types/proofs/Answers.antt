@@ -7,9 +7,9 @@ use Rattle.tokenizer.specs.Answer.{Out, done, refuse}
 use Rattle.row_table.specs.Sound.{depthMeans}
 use Rattle.row_table.specs.declared.Depth.{Depth}
 use Rattle.row_table.specs.declared.Depth.the-variants as D
-use Rattle.row_table.specs.Layout.{verdictMeans}
-use Rattle.row_table.specs.declared.Verdict.{Verdict}
-use Rattle.row_table.specs.declared.Verdict.the-variants as Y
+use Rattle.layout.specs.Layout.{verdictMeans}
+use Rattle.layout.specs.declared.Verdict.{Verdict}
+use Rattle.layout.specs.declared.Verdict.the-variants as Y
 use Rattle.datatype_parse.specs.Parse.{parsedMeans}
 use Rattle.datatype_parse.specs.declared.Parsed.{Parsed}
 use Rattle.datatype_parse.specs.declared.Parsed.the-variants as R

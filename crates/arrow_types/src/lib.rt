@@ -3,18 +3,18 @@ ghost use mathlib.Core.Path.{_≡_};
 ghost use lib.ListN.{length};
 ghost use Rattle.arrow_types.specs.Status.{statusOf, valueOf, flag, yesOf, rowOf, ifNamed};
 ghost use Rattle.datatype.specs.Tree.{nameOf, zoneOf};
-ghost use Rattle.row_table.specs.Parents.{withParents};
+ghost use Rattle.subtrees.specs.Parents.{withParents};
 ghost use Rattle.row_table.specs.Sound.{isSound, depthOf};
-ghost use Rattle.row_table.specs.Equal.{equalTrees};
-ghost use Rattle.row_table.specs.Layout.{verdictOf};
+ghost use Rattle.subtrees.specs.Equal.{equalTrees};
+ghost use Rattle.layout.specs.Layout.{verdictOf};
 ghost use Rattle.datatype_parse.specs.Parse.{parseAnswer, parseRows};
 ghost use Rattle.datatype_parse.specs.RowsToLend.{rowsToLend};
 ghost use Rattle.datatype_display.specs.Print.{printAnswer, printBytes};
 use datatype::Field;
 use datatype_display::Printed;
 use datatype_parse::Parsed;
+use layout::Verdict;
 use row_table::Depth;
-use row_table::Verdict;
 
 // Reads a type text into lent rows.
 #[no_mangle]
@@ -73,7 +73,7 @@ pub extern "C" fn arrow_types_print<'a>(
 pub extern "C" fn arrow_types_set_parents(rows: &mut [u32])
     ensures { λ _. ⌜ now (rows .exit) ≡ withParents (now (rows .entry)) ⌝ }
 {
-    row_table::set_parents(rows);
+    subtrees::set_parents(rows);
 }
 
 // Where a field's name stands, by words 6, 7 and 8 of its row: the home, 1 the text or 2 the name list, with start and
@@ -155,7 +155,7 @@ pub extern "C" fn arrow_types_depth(
     ensures status { λ r. ⌜ r ≡ statusOf (depthOf (now (text .entry)) (now (names .entry)) (now (rows .entry))) ⌝ }
     ensures value { λ r. ⌜ now (depth .exit) ≡ valueOf (depthOf (now (text .entry)) (now (names .entry)) (now (rows .entry))) ⌝ }
 {
-    match row_table::levels::depth(text, names, rows) {
+    match row_table::depth_of(text, names, rows) {
         Depth::Levels(n) => {
             *depth = n;
             0
@@ -179,7 +179,7 @@ pub extern "C" fn arrow_types_equal<'a, 'b>(
 ) -> u32
     ensures { λ r. ⌜ r ≡ flag (equalTrees (now (text .entry)) (now (names .entry)) (now (text2 .entry)) (now (names2 .entry)) (now (rows .entry)) (now (rows2 .entry))) ⌝ }
 {
-    if row_table::equal_trees(text, names, rows, text2, names2, rows2) {
+    if subtrees::equal_trees(text, names, rows, text2, names2, rows2) {
         return 1;
     }
     0
@@ -200,7 +200,7 @@ pub extern "C" fn arrow_types_verdict(
 {
     *yes = 0;
     *row = 0;
-    match row_table::layout::verdict(text, names, rows) {
+    match layout::verdict_of(text, names, rows) {
         Verdict::Yes => {
             *yes = 1;
             0

@@ -1,4 +1,4 @@
--- Kinds and decimals: what the functions of `kind.rt` look at.
+-- Kinds, units and decimals: what the functions of `kind.rt` look at.
 use mathlib.Core.Path.{_≡_, refl, sym}
 use mathlib.Core.Bool.{Bool, true, false, _&&_, and-false}
 use mathlib.Core.List.{[], _∷_}
@@ -6,14 +6,38 @@ use Prim.Native.Nat.{ℕ, zero, suc, _+_, _-_, _≤_, _<_}
 use native.Mathlib.Omega.{arith}
 use lib.ListN.{getD, List·getD-eq-default}
 use lib.Dec.{leb, ltb, leb→le, le→leb}
-use borrow.Author.Tests.{le-leb, lt-leb, le-ltb, ltb-false}
-use Rattle.datatype.specs.Kind.{leaf, kinds, shapes, shapeOf, decimal32Kind, maxPrecision, decimalFits}
+use borrow.Author.Tests.{le-leb, lt-leb, le-ltb, ne-eqb, ltb-false}
+use Rattle.datatype.specs.Kind.{leaf, kinds, shapes, shapeOf, decimal32Kind, unitFits, maxPrecision, decimalFits}
 use Rattle.datatype.proofs.Tests.{iff-eq}
 
 -- a number that is none of kind has the shape of a leaf
 pub past-kinds : (k : ℕ) → kinds ≤ k → shapeOf k ≡ leaf
 unfolding shapeOf
 past-kinds k h = List·getD-eq-default shapes leaf {n = k} h
+
+-- ---- a kind between two others
+
+module _ (least k most : ℕ) where
+  pub between-below : k < least → false ≡ (leb least k && leb k most)
+  between-below h = rw (lt-leb least k h)
+
+  pub between-from : least ≤ k → leb k most ≡ (leb least k && leb k most)
+  between-from h = rw (le-leb least k h)
+
+-- ---- units
+
+module _ (k u : ℕ) where
+  pub unit-32 : k ≡ 16 → ltb u 2 ≡ unitFits k u
+  unfolding unitFits
+  unit-32 e = rw e
+
+  pub unit-64 : k ≡ 17 → leb 2 u ≡ unitFits k u
+  unfolding unitFits
+  unit-64 e = rw e
+
+  pub unit-any : (k ≡ 16 → ⊥) → (k ≡ 17 → ⊥) → true ≡ unitFits k u
+  unfolding unitFits
+  unit-any z y = rw (ne-eqb k 16 z, ne-eqb k 17 y)
 
 -- ---- decimals
 

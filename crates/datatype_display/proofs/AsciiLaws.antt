@@ -14,10 +14,10 @@ use Rattle.datatype.specs.Kind.{Shape, runEnds, shapeOf}
 use Rattle.datatype.specs.Tree.{Forest, ∅, node, count, roots, depth, Row, Label, part, nameOf, zoneOf, labelOf, labels}
 use Rattle.datatype.specs.Table.{rowWords, treeOf, rowsAt}
 use Rattle.row_table.specs.Sound.{isSound}
-use Rattle.row_table.specs.Internal.Run.{rowAt, forestAt, Nests}
+use Rattle.subtrees.specs.Internal.Run.{rowAt, forestAt, Nests}
 use Rattle.datatype.proofs.Tests.{iff-eq}
 use Rattle.row_table.proofs.ChildLaws.{child-turn}
-use Rattle.row_table.proofs.Runs.{Turn, turn, forest-none}
+use Rattle.subtrees.proofs.Runs.{Turn, turn, forest-none}
 use Rattle.row_table.proofs.SoundTree.{SoundTree, sound-tree, sound-count, sound-forest, sound-labels}
 use Rattle.row_table.proofs.LevelWalk.{walk-call, walk-rest}
 use Rattle.row_table.proofs.Walks.{labels-turn, kind-word, zone-words}

@@ -1,11 +1,11 @@
 -- What the functions of `bound.rt` find, and what their loops hold.
-use mathlib.Core.Path.{_≡_, refl, sym, ap, _∙_}
-use mathlib.Core.Bool.{Bool, true, false, _&&_, _||_}
+use mathlib.Core.Path.{_≡_, sym, _∙_}
+use mathlib.Core.Bool.{_||_}
 use mathlib.Core.List.{List, [], _∷_}
-use Prim.Native.Nat.{ℕ, zero, suc, _+_, _-_, _*_, _/_, _≤_, _<_}
+use Prim.Native.Nat.{ℕ, suc, _+_, _-_, _*_, _/_, _≤_, _<_}
 use native.Mathlib.Decide.{decLt}
 use native.Mathlib.Omega.{arith}
-use lib.ListN.{length, getD, take, drop, List·getD-eq-default}
+use lib.ListN.{length, getD, drop, List·getD-eq-default}
 use lib.Seq.{drop-drop}
 use lib.Dec.{T, leb, eqb, leb→le}
 use borrow.Author.Tests.{lt-ltb, le-ltb, le-leb, lt-leb, eq-eqb, ne-eqb}
@@ -15,8 +15,8 @@ use Rattle.datatype.specs.Kind.{has, kinds}
 use Rattle.datatype.specs.Table.{rowWords, rowsAt}
 use Rattle.datatype.proofs.Tests.{allBelow, below-at}
 use Rattle.datatype.proofs.ShapeLaws.{else-value}
-use Rattle.row_table.specs.Equal.{firstRows, wholeRows}
-use Rattle.row_table.proofs.EqualLaws.{row-word}
+use Rattle.subtrees.specs.Equal.{firstRows, wholeRows}
+use Rattle.subtrees.proofs.EqualLaws.{row-word}
 use Rattle.datatype_display.specs.Internal.Bound.{byteWeight, kindBounds, kindBound, idBound, rowBound, boundAt, rowsBound, treeBound}
 
 -- ---- bytes

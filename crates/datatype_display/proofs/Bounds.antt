@@ -6,26 +6,26 @@
 use mathlib.Core.Path.{_≡_, refl, sym, ap, _∙_}
 use mathlib.Core.Bool.{Bool, true, false, _&&_}
 use mathlib.Core.List.{List, [], _∷_, _++_, map}
-use Prim.Native.Nat.{ℕ, zero, suc, _+_, _-_, _*_, _/_, _^_, _≤_, _<_, min}
+use Prim.Native.Nat.{ℕ, zero, suc, _+_, _-_, _*_, _/_, _^_, _≤_, _<_}
 use native.Mathlib.Decide.{decLt, ℕ-discrete}
 use native.Mathlib.Nat.{mul-le-mul}
 use native.Mathlib.Omega.{arith}
 use lib.ListN.{length, length-append, length-take, take, drop}
-use lib.Dec.{T, leb, ltb, eqb, leb→le, ltb→lt, lt→ltb, eqb→eq}
+use lib.Dec.{T, leb, ltb, leb→le, ltb→lt, lt→ltb, eqb→eq}
 use borrow.Author.Tests.{lt-ltb, le-ltb, le-leb, eq-eqb, ne-eqb}
 use Rattle.tokenizer.specs.Text.{bytes, same, all, if_then_else_, isPrintable}
 use Rattle.tokenizer.specs.Words.{words}
 use Rattle.tokenizer.proofs.Basics.{and-l, and-r, both, is-true, of-true}
 use Rattle.datatype.specs.Kind.{Shape, leaf, timestamp, time, interval, fixed, list, fixedList, struct, union, dictionary, decimal, mapping, runEnds, kinds, shapeOf}
 use Rattle.datatype.specs.Tree.{Forest, ∅, node, count, roots, Row, Label, part, nameOf, zoneOf, labelOf, labels}
-use Rattle.datatype.specs.Table.{wordsOf, tableOf, treeOf, rowWords}
+use Rattle.datatype.specs.Table.{wordsOf, treeOf, rowWords}
 use Rattle.datatype.proofs.Table.{table-view}
 use Rattle.datatype.proofs.Tests.{allBelow, below-at}
-use Rattle.row_table.specs.Equal.{wholeRows}
+use Rattle.subtrees.specs.Equal.{wholeRows}
 use Rattle.row_table.specs.Sound.{Place, bare, field, unionField, arityFits, idFits, rulesOf, rowsFit, isSound}
-use Rattle.row_table.proofs.RowList.{rowsOf, whole-rows, count-labels}
+use Rattle.subtrees.proofs.RowList.{rowsOf, whole-rows, count-labels}
 use Rattle.row_table.proofs.SoundTree.{RowFits, rows-fit, SoundTree, sound-tree, sound-count, sound-labels}
-use Rattle.datatype_display.specs.Display.{kindWord, digitsWith, digits, unitText, intervalText, modeText, sortedText, scaleText, escape, escaped, quoted, Shown, nullityText, fieldText, listNameText, listFieldText, structText, unionText, zoneText, defaultNames, runEndText, shapeText, typeText, display, untyped, ownLength, displayLength}
+use Rattle.datatype_display.specs.Display.{kindWord, digitsWith, digits, unitText, intervalText, modeText, sortedText, scaleText, escape, escaped, quoted, nullityText, fieldText, listNameText, listFieldText, structText, unionText, zoneText, defaultNames, runEndText, shapeText, typeText, display, untyped, ownLength, displayLength}
 use Rattle.datatype_display.specs.Print.{isAscii}
 use Rattle.datatype_display.specs.Internal.Bound.{kindBounds, kindBound, idBound, rowBound, rowsBound, treeBound, Prints}
 use Rattle.datatype_display.proofs.Escapes.{escape-34, escape-92, escape-rest}

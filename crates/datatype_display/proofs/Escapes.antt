@@ -1,16 +1,16 @@
 -- Double-quoted strings: what a byte is written as, and what the loops of `escape.rt` hold.
 use mathlib.Core.Path.{_≡_, refl, sym, ap, _∙_, subst}
-use mathlib.Core.Bool.{Bool, true, false, not, _&&_, _||_, true≢false, false≢true}
+use mathlib.Core.Bool.{Bool, true, false, not, _&&_, true≢false}
 use mathlib.Core.List.{List, [], _∷_, _++_, append-assoc, append-nil}
-use Prim.Native.Nat.{ℕ, zero, suc, _+_, _-_, _/_, _%_, _≤_, _<_}
+use Prim.Native.Nat.{ℕ, suc, _+_, _-_, _/_, _%_, _≤_, _<_}
 use native.Mathlib.Omega.{arith}
 use lib.ListN.{length, getD, set, take, drop, drop-of-length-le, take-append-drop, length-drop}
-use lib.Seq.{take-suc, take-all, drop-cons, length-take-le}
-use lib.Dec.{T, leb, ltb, eqb, leb→le}
-use borrow.Author.Tests.{lt-ltb, le-ltb, le-leb, lt-leb, eq-eqb, ne-eqb, leb-true, leb-false}
-use Rattle.tokenizer.specs.Text.{bytes, all, if_then_else_}
+use lib.Seq.{take-suc, take-all, length-take-le}
+use lib.Dec.{T, leb, eqb, leb→le}
+use borrow.Author.Tests.{lt-ltb, le-ltb, le-leb, lt-leb, eq-eqb, ne-eqb}
+use Rattle.tokenizer.specs.Text.{bytes, all}
 use Rattle.tokenizer.proofs.Basics.{and-l, and-r, both, of-true, is-false}
-use Rattle.datatype_display.specs.Display.{hexDigit, hex, escape, escaped, quoted}
+use Rattle.datatype_display.specs.Display.{hexDigit, escape, escaped, quoted}
 use Rattle.datatype_display.specs.Internal.Steps.{Put, CopiedPlain, isItself, unicodeText}
 use Rattle.datatype_display.proofs.Writes.{moved-by, put-none, put-wrote, put-as, put-then, Copied, copied-start, copied-more}
 

@@ -13,7 +13,7 @@ use Rattle.tokenizer.specs.Words.{words}
 use Rattle.tokenizer.specs.Internal.Keys.{packed}
 use Rattle.tokenizer.proofs.Basics.{and-l, and-r}
 use Rattle.tokenizer.proofs.Listed.{NoneOf, same-path}
-use Rattle.datatype.specs.Kind.{has, kinds}
+use Rattle.datatype.specs.Kind.{kinds}
 use Rattle.datatype.proofs.Tests.{allBelow, below-at}
 use Rattle.datatype.proofs.ShapeLaws.{else-value}
 use Rattle.datatype.proofs.Sets.{sets-append}

@@ -1,18 +1,18 @@
 -- The walk of `display.rt`: what is written, and what is left to write.
-use mathlib.Core.Path.{_≡_, refl, sym, ap, _∙_, subst}
+use mathlib.Core.Path.{_≡_, refl, sym, ap, _∙_}
 use mathlib.Core.Bool.{Bool, true, false}
-use mathlib.Core.List.{List, [], _∷_, _++_, append-assoc, append-nil}
-use Prim.Native.Nat.{ℕ, suc, _+_, _-_, _*_, _/_, _≤_, _<_, max}
+use mathlib.Core.List.{List, [], _++_, append-assoc, append-nil}
+use Prim.Native.Nat.{ℕ, suc, _+_, _-_, _*_, _≤_, _<_, max}
 use native.Mathlib.Omega.{arith}
 use lib.ListN.{length, getD}
 use lib.Dec.{T, eqb}
 use borrow.Author.Tests.{eq-eqb, ne-eqb}
 use Rattle.datatype.specs.Kind.{Shape, leaf, shapeOf}
-use Rattle.datatype.specs.Tree.{Forest, ∅, node, count, roots, depth, Row, Label, labelOf, labels}
+use Rattle.datatype.specs.Tree.{Forest, ∅, node, count, roots, depth, Label, labelOf, labels}
 use Rattle.datatype.specs.Table.{rowWords, treeOf, rowsAt}
-use Rattle.row_table.specs.Internal.Run.{rowAt, forestAt, Nests}
+use Rattle.subtrees.specs.Internal.Run.{rowAt, forestAt, Nests}
 use Rattle.row_table.specs.Sound.{bare, isSound}
-use Rattle.row_table.proofs.Runs.{Turn, turn, forest-none}
+use Rattle.subtrees.proofs.Runs.{Turn, turn, forest-none}
 use Rattle.row_table.proofs.SoundTree.{SoundTree, sound-tree, sound-count, sound-nests, sound-forest, sound-labels}
 use Rattle.row_table.proofs.Walks.{labels-turn}
 use Rattle.datatype_display.specs.Display.{Shown, display}

@@ -1,12 +1,11 @@
 -- A row's text, piece by piece: what the functions of `row.rt` write.
-use mathlib.Core.Path.{_≡_, refl, sym, ap, _∙_, subst}
+use mathlib.Core.Path.{_≡_, refl, sym, ap, _∙_}
 use mathlib.Core.Bool.{Bool, true, false}
-use mathlib.Core.List.{List, [], _∷_, _++_}
+use mathlib.Core.List.{List, [], _∷_}
 use Prim.Native.Nat.{ℕ, _+_, _*_}
 use native.Mathlib.Omega.{arith}
 use lib.ListN.{length, getD}
-use lib.Dec.{eqb}
-use borrow.Author.Tests.{eq-eqb, ne-eqb}
+use borrow.Author.Tests.{ne-eqb}
 use Rattle.tokenizer.specs.Text.{bytes, same}
 use Rattle.datatype.specs.Kind.{Shape, shapeOf}
 use Rattle.datatype.specs.Tree.{nameOf, zoneOf}

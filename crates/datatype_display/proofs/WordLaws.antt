@@ -1,20 +1,13 @@
 -- The words of kinds, units and modes: what the arms of `words.rt` write.
-use mathlib.Core.Path.{_≡_, refl, sym, ap, _∙_}
-use mathlib.Core.Bool.{Bool, true, false, _||_}
-use mathlib.Core.List.{List, [], _∷_, _++_}
-use Prim.Native.Nat.{ℕ, zero, suc, _+_, _-_, _≤_, _<_}
-use native.Mathlib.Omega.{arith}
-use lib.Dec.{T, ltb, eqb, eqb→eq}
+use mathlib.Core.Path.{_≡_, refl}
+use mathlib.Core.List.{List, [], _∷_}
+use Prim.Native.Nat.{ℕ, zero, suc, _-_, _≤_, _<_}
 use borrow.Author.Tests.{lt-ltb, le-ltb}
 use Rattle.tokenizer.specs.Text.{bytes}
-use Rattle.tokenizer.specs.Words.{words}
 use Rattle.tokenizer.proofs.Listed.{NoneOf}
-use Rattle.datatype.specs.Kind.{has, kinds}
-use Rattle.datatype.proofs.Tests.{allBelow, below-at}
-use Rattle.datatype.proofs.ShapeLaws.{none-has}
 use Rattle.datatype_display.specs.Display.{kindWord, digits, unitText, intervalText, modeText, sortedText, scaleText}
 use Rattle.datatype_display.specs.Internal.Steps.{Put, kindText}
-use Rattle.datatype_display.proofs.Writes.{put-none, put-as, put-then}
+use Rattle.datatype_display.proofs.Writes.{put-as, put-then}
 
 module _ (k : ℕ) where
   pub kind-text : k < 41 → kindWord k ≡ kindText k

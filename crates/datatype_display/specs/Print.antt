@@ -1,6 +1,6 @@
 -- The printer's answer and its buffer (document 01, 'Numbers a caller may get': 17, 18 and 19, in that order).
 use mathlib.Core.Bool.{Bool, true, false, not, _&&_, _||_}
-use mathlib.Core.List.{List, [], _∷_, _++_, map}
+use mathlib.Core.List.{List, [], _∷_, _++_}
 use Prim.Native.Nat.{ℕ, min}
 use lib.ListN.{length, drop}
 use lib.Dec.{leb}

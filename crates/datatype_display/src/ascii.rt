@@ -6,7 +6,7 @@ ghost use lib.Dec.{T};
 ghost use Rattle.datatype.specs.Kind.{runEnds};
 ghost use Rattle.datatype.specs.Tree.{roots, depth, labels};
 ghost use Rattle.datatype.specs.Table.{rowWords, treeOf};
-ghost use Rattle.row_table.specs.Internal.Run.{Nests, forestAt};
+ghost use Rattle.subtrees.specs.Internal.Run.{Nests, forestAt};
 ghost use Rattle.row_table.specs.Sound.{isSound};
 ghost use Rattle.datatype_display.specs.Display.{defaultNames};
 ghost use Rattle.datatype_display.specs.Print.{quotesNames, isAscii, namesAscii, quotedAscii};

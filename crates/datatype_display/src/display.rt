@@ -1,5 +1,4 @@
 // The walk: a row's type is its own bytes and its children's types. Printing into no bytes gives the length.
-ghost use mathlib.Core.Path.{_≡_};
 ghost use mathlib.Core.List.{[]};
 ghost use Prim.Native.Nat.{_+_, _*_, _≤_};
 ghost use lib.ListN.{length};

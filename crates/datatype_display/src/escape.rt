@@ -1,6 +1,6 @@
 // Double-quoted strings, written as Rust's `{:?}` writes them.
 ghost use mathlib.Core.Path.{_≡_};
-ghost use mathlib.Core.List.{[], _∷_, _++_};
+ghost use mathlib.Core.List.{[], _∷_};
 ghost use Prim.Native.Nat.{_+_, _≤_, _<_};
 ghost use lib.ListN.{length};
 ghost use Rattle.datatype_display.specs.Display.{hexDigit, escape, escaped, quoted};

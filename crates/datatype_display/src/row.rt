@@ -4,7 +4,7 @@ ghost use mathlib.Core.List.{[]};
 ghost use Prim.Native.Nat.{_+_, _*_, _≤_, _<_};
 ghost use lib.ListN.{length, getD};
 ghost use Rattle.datatype.specs.Kind.{timestamp, decimal};
-ghost use Rattle.datatype.specs.Tree.{nameOf, zoneOf};
+ghost use Rattle.datatype.specs.Tree.{zoneOf};
 ghost use Rattle.datatype.specs.Table.{rowWords, rowsAt};
 ghost use Rattle.datatype_display.specs.Display.{listNameText, zoneText};
 ghost use Rattle.datatype_display.specs.Internal.Steps.{Put, shapeMeans, comma, paramsText, openText, closeText, separator, nullability, nameText, leadText, trailText, headText, labelAt};

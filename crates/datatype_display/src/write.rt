@@ -1,9 +1,8 @@
 // Writing into the output buffer: each function writes at a place and answers the place behind what it wrote. What the
 // buffer has no room for is not written, and the place behind it is answered all the same: printing into no bytes
 // measures the text. A place past the greatest length of a text stays past it, so that no sum can overflow.
-ghost use mathlib.Core.Path.{_≡_};
 ghost use mathlib.Core.List.{[], _∷_};
-ghost use Prim.Native.Nat.{_+_, _≤_, _<_};
+ghost use Prim.Native.Nat.{_+_, _≤_};
 ghost use lib.ListN.{length};
 ghost use Rattle.datatype_display.specs.Display.{digits};
 ghost use Rattle.datatype_display.specs.Internal.Steps.{Wrote, Moved, Put, four, eight};

@@ -13,7 +13,7 @@ use Rattle.tokenizer.specs.Token.{valueOf, doubleQuoted, colon, comma, lparen, 
 use Rattle.datatype.specs.Kind.{Shape, leaf, timestamp, time, interval, fixed, list, fixedList, struct, union, dictionary, decimal, mapping, runEnds, shapeOf, idsFit, entriesRefusal}
 use Rattle.datatype.specs.Tree.{Forest, Row, count}
 use Rattle.datatype.specs.Table.{rowWords, rowsLent}
-use Rattle.row_table.proofs.ParentTree.{count-parented}
+use Rattle.subtrees.proofs.ParentTree.{count-parented}
 use Rattle.parser.specs.Parse.{Name, Tree, single, Fields, Item, end, last, more, rowsIn, idOf, need, signedByteAt, lengthAt, listNameAt, closeAt, afterRole, item, run-ends, values, fieldsFrom, itemsBy, stands, roleAt, fieldAt, defaultField, listField, structItem, unionField, unionItem, namedRunEnds, defaultRunEnds, runEndFields, entriesAt, fixedListField, listAt, fixedSizeListAt, structAt, unionAt, dictionaryAt, mapAt, runEndEncodedAt, shapeAt, typeWith, typeAt, firstType}
 use Rattle.parser.proofs.Holds.{Holds, holds-bind, holds-if}
 use Rattle.datatype_parse.specs.Parse.{textOver, parse, rowCount, parseAnswer, filled, parseRows}

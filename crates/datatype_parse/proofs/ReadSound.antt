@@ -25,8 +25,8 @@ use Rattle.datatype_parse.proofs.SoundRows.{idsAllow, Asked, ids, Fits,
 use Rattle.datatype_parse.proofs.SoundLeaves.{Whole, closed, leaf-sound, timestamp-sound, time-sound, interval-sound, fixed-sound, decimal-sound}
 use Rattle.datatype_parse.proofs.SoundFields.{Run, RunEnds, Entries, items-sound, list-field-sound, fixed-field-sound, struct-item-sound, union-item-sound, run-ends-sound, entries-sound}
 use Rattle.datatype_parse.proofs.MoreRows.{filled-rows}
-use Rattle.row_table.specs.Parents.{parented}
-use Rattle.row_table.proofs.ParentTree.{count-parented}
+use Rattle.subtrees.specs.Parents.{parented}
+use Rattle.subtrees.proofs.ParentTree.{count-parented}
 use Rattle.row_table.proofs.Parented.{parented-tree}
 
 module _ (text : List ℕ) (good : T (isUtf8 text)) where

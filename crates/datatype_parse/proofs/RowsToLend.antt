@@ -10,8 +10,8 @@ use Rattle.tokenizer.specs.Utf8.{isUtf8}
 use Rattle.datatype.specs.Tree.{Forest, Row, count}
 use Rattle.datatype.specs.Table.{rowWords, rowsLent}
 use Rattle.row_table.specs.Sound.{bare}
-use Rattle.row_table.specs.Parents.{parented}
-use Rattle.row_table.proofs.ParentTree.{count-parented}
+use Rattle.subtrees.specs.Parents.{parented}
+use Rattle.subtrees.proofs.ParentTree.{count-parented}
 use Rattle.parser.specs.Parse.{Tree, rowsIn, single, typeAt, firstType}
 use Rattle.parser.proofs.Holds.{Holds, holds-then, holds-if}
 use Rattle.datatype_parse.specs.Parse.{textOver, parse, parseAnswer}

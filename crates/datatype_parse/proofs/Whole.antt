@@ -21,8 +21,8 @@ use Rattle.tokenizer.proofs.Tokens.{token-end}
 use Rattle.datatype.specs.Tree.{Forest, ∅, node, count, Row}
 use Rattle.datatype.specs.Table.{tableOf, rowsLent}
 use Rattle.datatype.proofs.Table.{length-table}
-use Rattle.row_table.specs.Parents.{parented, parentsSet}
-use Rattle.row_table.proofs.ParentTree.{count-parented, first-parents-lent}
+use Rattle.subtrees.specs.Parents.{parented, parentsSet}
+use Rattle.subtrees.proofs.ParentTree.{count-parented, first-parents-lent}
 use Rattle.parser.proofs.Holds.{Holds}
 use Rattle.datatype_parse.proofs.ReadSound.{Begun, first-read}
 use Rattle.parser.specs.Parse.{Tree, single, rowsIn, stands, firstType, Extent, readOf, readMeans, rowsOf}

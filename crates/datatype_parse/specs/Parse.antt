@@ -9,7 +9,7 @@ use Rattle.tokenizer.specs.Answer.{Out, refused, done, refuse, _>>=_}
 use Rattle.tokenizer.specs.Token.{tokenAt, valueOf, noToken}
 use Rattle.datatype.specs.Tree.{Forest, count, Row}
 use Rattle.datatype.specs.Table.{tableOf, rowsLent}
-use Rattle.row_table.specs.Parents.{parented}
+use Rattle.subtrees.specs.Parents.{parented}
 use Rattle.parser.specs.Parse.{single, stands, firstType}
 use Rattle.datatype_parse.specs.declared.Parsed.{Parsed}
 use Rattle.datatype_parse.specs.declared.Parsed.the-variants.{Rows, Refused}

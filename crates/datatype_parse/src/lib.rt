@@ -32,7 +32,7 @@ pub fn parse_data_type(text: &[u8], rows: &mut [u32]) -> Parsed
         Read::Refused(n) => Parsed::Refused(n),
         Read::Tree(next, used) => {
             if text_over(text, next) {
-                row_table::set_first_parents(rows, used);
+                subtrees::set_first_parents(rows, used);
                 return Parsed::Rows(used);
             }
             clear_words(rows);

@@ -1,16 +1,19 @@
 -- What is known of a definition's answer once the code's answer was matched on.
-use mathlib.Core.Path.{_≡_, refl, sym, ap, _∙_}
+use mathlib.Core.Path.{_≡_, refl, ap}
 use mathlib.Core.Bool.{Bool}
 use mathlib.Core.List.{List}
-use Prim.Native.Nat.{ℕ, suc, _≤_}
+use Prim.Native.Nat.{ℕ, suc}
 use native.Mathlib.Omega.{arith}
 use Rattle.tokenizer.specs.Answer.{Refusal, Out, refused, done, refuse}
 use Rattle.tokenizer.specs.Token.{valueOf, isNegative}
 use Rattle.tokenizer.specs.declared.Token.{Token}
 use Rattle.tokenizer.specs.declared.TokenKind.{TokenKind}
 use Rattle.datatype.specs.Tree.{Forest, ∅, node, count, Row}
-use Rattle.parser.specs.Parse.{Tree, Fields, Zone, Item, end, last, more}
-use Rattle.parser.specs.Internal.Steps.{stepOf, lookOf, valuedOf, numberOf, quotedOf, zoneStep, Stored, Meets, MeetsFields, MeetsTurn}
+use Rattle.parser.specs.Parse.{Tree, Fields, Zone}
+use Rattle.parser.specs.Internal.Steps.{word, number, span, stepOf, lookOf, valuedOf, numberOf, quotedOf, zoneStep, Stored, Meets, MeetsFields}
+use Rattle.parser.specs.declared.quick.Word.{Word}
+use Rattle.parser.specs.declared.Signed.{Signed}
+use Rattle.parser.specs.declared.Span.{Span}
 use Rattle.parser.specs.declared.Step.the-variants as S
 use Rattle.parser.specs.declared.Look.the-variants as L
 use Rattle.parser.specs.declared.Valued.the-variants as W
@@ -18,8 +21,6 @@ use Rattle.parser.specs.declared.Number.the-variants as N
 use Rattle.parser.specs.declared.Quoted.the-variants as Q
 use Rattle.parser.specs.declared.Read.{Read}
 use Rattle.parser.specs.declared.Read.the-variants as R
-use Rattle.parser.specs.declared.Turn.{Turn}
-use Rattle.parser.specs.declared.Turn.the-variants as T
 
 -- a refusal of a number
 same-refusal : {A : Type 0} (r : Refusal) (x : ℕ) → r .number ≡ x → _≡_ {A = Out A} (refused r) (refuse x)
@@ -59,10 +60,12 @@ pub record GotValue (o : Out Token) (v n : ℕ) : Type 0 where
   pub is : o ≡ done (behind token n)
   pub value : valueOf (token .kind) ≡ v
 
-pub got-value : (o : Out Token) (v n : ℕ) → W.Value v n ≡ valuedOf o → GotValue o v n
+pub got-value : (o : Out Token) (w : Word) → W.Value w ≡ valuedOf o → GotValue o (w .value) (w .next)
 unfolding valuedOf
-got-value (refused r) v n e = absurd (let z : _≡_ {A = ℕ} 0 1 = cc in omega arith)
-got-value (done t) v n e = let z : t .next ≡ n = cc in record { token = t; is = next-is t n z; value = cc }
+got-value (refused r) w e = absurd (let z : _≡_ {A = ℕ} 0 1 = cc in omega arith)
+got-value (done t) w e =
+    let z : word (valueOf (t .kind)) (t .next) ≡ w = cc in
+    record { token = t; is = next-is t (w .next) (ap (λ (x : Word). x .next) z); value = ap (λ (x : Word). x .value) z }
 
 pub lost-value : (o : Out Token) (x : ℕ) → W.Refused x ≡ valuedOf o → o ≡ refuse x
 unfolding valuedOf
@@ -75,10 +78,17 @@ pub record GotNumber (o : Out Token) (negative : Bool) (v n : ℕ) : Type 0 wher
   pub sign : isNegative (token .kind) ≡ negative
   pub value : valueOf (token .kind) ≡ v
 
-pub got-number : (o : Out Token) (negative : Bool) (v n : ℕ) → N.Value negative v n ≡ numberOf o → GotNumber o negative v n
+pub got-number : (o : Out Token) (i : Signed) → N.Value i ≡ numberOf o → GotNumber o (i .negative) (i .magnitude) (i .next)
 unfolding numberOf
-got-number (refused r) b v n e = absurd (let z : _≡_ {A = ℕ} 0 1 = cc in omega arith)
-got-number (done t) b v n e = let z : t .next ≡ n = cc in record { token = t; is = next-is t n z; sign = cc; value = cc }
+got-number (refused r) i e = absurd (let z : _≡_ {A = ℕ} 0 1 = cc in omega arith)
+got-number (done t) i e =
+    let z : number (isNegative (t .kind)) (valueOf (t .kind)) (t .next) ≡ i = cc in
+    record {
+      token = t;
+      is = next-is t (i .next) (ap (λ (x : Signed). x .next) z);
+      sign = ap (λ (x : Signed). x .negative) z;
+      value = ap (λ (x : Signed). x .magnitude) z;
+    }
 
 pub lost-number : (o : Out Token) (x : ℕ) → N.Refused x ≡ numberOf o → o ≡ refuse x
 unfolding numberOf
@@ -89,28 +99,24 @@ lost-number (done t) x e = absurd (let z : _≡_ {A = ℕ} 0 1 = cc in omega ari
 abbrev pub string : TokenKind → ℕ → ℕ → ℕ → Token
 string k s l n = record { kind = k; start = s; size = l; next = n }
 
-pub got-quoted : (o : Out Token) (s l n : ℕ) → Q.String s l n ≡ quotedOf o → (k : TokenKind) × (o ≡ done (string k s l n))
+pub got-quoted : (o : Out Token) (p : Span) → Q.String p ≡ quotedOf o → (k : TokenKind) × (o ≡ done (string k (p .start) (p .size) (p .next)))
 unfolding quotedOf
-got-quoted (refused r) s l n e = absurd (let z : _≡_ {A = ℕ} 0 1 = cc in omega arith)
-got-quoted (done t) s l n e =
-    let x : t .start ≡ s = cc in
-    let y : t .size ≡ l = cc in
-    let z : t .next ≡ n = cc in
-    (t .kind, λ j. done (record { kind = t .kind; start = x j; size = y j; next = z j }))
+got-quoted (refused r) p e = absurd (let z : _≡_ {A = ℕ} 0 1 = cc in omega arith)
+got-quoted (done t) p e =
+    let z : span (t .start) (t .size) (t .next) ≡ p = cc in
+    (t .kind, λ j. done (record { kind = t .kind; start = z j .start; size = z j .size; next = z j .next }))
 
 pub lost-quoted : (o : Out Token) (x : ℕ) → Q.Refused x ≡ quotedOf o → o ≡ refuse x
 unfolding quotedOf
 lost-quoted (refused r) x e = same-refusal r x (let z : r .number ≡ x = cc in z)
 lost-quoted (done t) x e = absurd (let z : _≡_ {A = ℕ} 0 1 = cc in omega arith)
 
-pub got-zone : (o : Out Zone) (s l n : ℕ) → Q.String s l n ≡ zoneStep o → o ≡ done (record { start = s; size = l; next = n })
+pub got-zone : (o : Out Zone) (p : Span) → Q.String p ≡ zoneStep o → o ≡ done (record { start = p .start; size = p .size; next = p .next })
 unfolding zoneStep
-got-zone (refused r) s l n e = absurd (let z : _≡_ {A = ℕ} 0 1 = cc in omega arith)
-got-zone (done v) s l n e =
-    let x : v .start ≡ s = cc in
-    let y : v .size ≡ l = cc in
-    let z : v .next ≡ n = cc in
-    λ j. done (record { start = x j; size = y j; next = z j })
+got-zone (refused r) p e = absurd (let z : _≡_ {A = ℕ} 0 1 = cc in omega arith)
+got-zone (done v) p e =
+    let z : span (v .start) (v .size) (v .next) ≡ p = cc in
+    λ j. done (record { start = z j .start; size = z j .size; next = z j .next })
 
 pub lost-zone : (o : Out Zone) (x : ℕ) → Q.Refused x ≡ zoneStep o → o ≡ refuse x
 unfolding zoneStep
@@ -159,45 +165,3 @@ module _ (at left : ℕ) (before after : List ℕ) where
     unfolding MeetsFields
     lost-fields (refused y) x h e = same-refusal y x (let z : y .number ≡ x = cc in z)
     lost-fields (done fs) x h e = absurd (let f = h .0 in let z : _≡_ {A = ℕ} 0 1 = cc in omega arith)
-
-  module _ (r : Turn) where
-    pub got-end : (o : Out Item) (n : ℕ) → MeetsTurn o at left before r after → r ≡ T.End n → (o ≡ done (end n)) × (after ≡ before)
-    unfolding MeetsTurn
-    got-end (refused x) n h e = absurd (let z : _≡_ {A = ℕ} 0 1 = cc in omega arith)
-    got-end (done (end m)) n h e = let f = h .0 in let z : m ≡ n = cc in (ap (λ (i : ℕ). done (end i)) z, h .1)
-    got-end (done (last t m)) n h e = absurd (let f = h .0 in let z : _≡_ {A = ℕ} 0 1 = cc in omega arith)
-    got-end (done (more t m)) n h e = absurd (let f = h .0 in let z : _≡_ {A = ℕ} 0 1 = cc in omega arith)
-
-    -- a field of so many rows, and the place behind it and its mark
-    pub record GotField (o : Out Item) (turn : Tree → ℕ → Item) (n k : ℕ) : Type 0 where
-      pub tree : Tree
-      pub is : o ≡ done (turn tree n)
-      pub rows : k ≡ suc (count (tree .kids))
-      pub stored : Stored (node (tree .row) (tree .kids) ∅) at left before after
-
-    pub got-last : (o : Out Item) (n k : ℕ) → MeetsTurn o at left before r after → r ≡ T.Last n k → GotField o last n k
-    unfolding MeetsTurn
-    got-last (refused x) n k h e = absurd (let z : _≡_ {A = ℕ} 0 1 = cc in omega arith)
-    got-last (done (end m)) n k h e = absurd (let f = h .0 in let z : _≡_ {A = ℕ} 0 1 = cc in omega arith)
-    got-last (done (last t m)) n k h e =
-        let f = h .0 in
-        let z : m ≡ n = cc in
-        record { tree = t; is = ap (λ (i : ℕ). done (last t i)) z; rows = cc; stored = h .1 }
-    got-last (done (more t m)) n k h e = absurd (let f = h .0 in let z : _≡_ {A = ℕ} 0 1 = cc in omega arith)
-
-    pub got-more : (o : Out Item) (n k : ℕ) → MeetsTurn o at left before r after → r ≡ T.More n k → GotField o more n k
-    unfolding MeetsTurn
-    got-more (refused x) n k h e = absurd (let z : _≡_ {A = ℕ} 0 1 = cc in omega arith)
-    got-more (done (end m)) n k h e = absurd (let f = h .0 in let z : _≡_ {A = ℕ} 0 1 = cc in omega arith)
-    got-more (done (last t m)) n k h e = absurd (let f = h .0 in let z : _≡_ {A = ℕ} 0 1 = cc in omega arith)
-    got-more (done (more t m)) n k h e =
-        let f = h .0 in
-        let z : m ≡ n = cc in
-        record { tree = t; is = ap (λ (i : ℕ). done (more t i)) z; rows = cc; stored = h .1 }
-
-    pub lost-turn : (o : Out Item) (x : ℕ) → MeetsTurn o at left before r after → r ≡ T.Refused x → o ≡ refuse x
-    unfolding MeetsTurn
-    lost-turn (refused y) x h e = same-refusal y x (let z : y .number ≡ x = cc in z)
-    lost-turn (done (end m)) x h e = absurd (let f = h .0 in let z : _≡_ {A = ℕ} 0 1 = cc in omega arith)
-    lost-turn (done (last t m)) x h e = absurd (let f = h .0 in let z : _≡_ {A = ℕ} 0 1 = cc in omega arith)
-    lost-turn (done (more t m)) x h e = absurd (let f = h .0 in let z : _≡_ {A = ℕ} 0 1 = cc in omega arith)

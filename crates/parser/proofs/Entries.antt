@@ -1,25 +1,23 @@
--- Rows read back: Map's entries and run ends.
-use mathlib.Core.Path.{_≡_, refl, sym, ap, _∙_}
-use mathlib.Core.Bool.{Bool, true, false}
-use mathlib.Core.List.{List, [], _∷_, _++_, map, append-assoc}
-use Prim.Native.Nat.{ℕ, zero, suc, _+_, _-_, _*_, _≤_, _<_}
+-- Rows read back: Map's entries, run ends and union ids.
+use mathlib.Core.Path.{_≡_, refl, ap, _∙_}
+use mathlib.Core.List.{List, _++_, map, append-assoc}
+use Prim.Native.Nat.{ℕ, _+_, _-_, _*_, _≤_, _<_}
 use native.Mathlib.Omega.{arith}
-use lib.ListN.{length, take, drop, getD, length-append}
-use lib.Seq.{sets, sets-eq, take-at, drop-at, length-take-le, length-sets}
-use lib.Dec.{eqb}
-use borrow.Author.Tests.{eq-eqb, ne-eqb}
-use Rattle.tokenizer.specs.Text.{if_then_else_}
-use Rattle.datatype.specs.Kind.{keyRefusal, entriesRefusal, idsFit}
+use lib.ListN.{length, take, drop, getD}
+use lib.Seq.{sets-eq, take-at, drop-at, length-take-le, length-sets}
+use Rattle.datatype.specs.Kind.{entriesRefusal, idsFit}
 use Rattle.datatype.specs.Tree.{Forest, ∅, node, count, roots, Row}
-use Rattle.datatype.specs.Table.{rowWords, tableOf, rowsAt}
-use Rattle.row_table.specs.Internal.Run.{rowAt, forestAt, Nests}
-use Rattle.row_table.specs.UnionFields.{typeIdsFit}
+use Rattle.datatype.specs.Table.{rowWords, tableOf}
+use Rattle.subtrees.specs.Internal.Run.{rowAt, forestAt, Nests, entriesOf}
+use Rattle.subtrees.specs.UnionFields.{typeIdsFit}
+use Rattle.subtrees.specs.MapEntries.{entriesRefusalAt}
 use Rattle.datatype.proofs.Table.{length-table}
-use Rattle.row_table.proofs.UnionLaws.{type-ids-fit}
-use Rattle.row_table.proofs.Runs.{Turn, turn, forest-none, Is, nests-is, forest-is}
+use Rattle.subtrees.proofs.UnionLaws.{type-ids-fit}
+use Rattle.subtrees.proofs.EntryLaws.{entries-nest}
+use Rattle.subtrees.proofs.Runs.{turn, Is, nests-is, forest-is}
 use Rattle.tokenizer.specs.Answer.{Out}
 use Rattle.parser.specs.Parse.{Tree, Fields}
-use Rattle.parser.specs.Internal.Steps.{Room, Stored, entriesOf, roleOf}
+use Rattle.parser.specs.Internal.Steps.{Room, Stored, roleOf}
 use Rattle.parser.proofs.Answers.{GotTree, GotFields}
 
 -- ---- what was stored is there
@@ -44,127 +42,15 @@ module _ (f : Forest Row) (row left : ℕ) (before after : List ℕ) (s : Stored
         size = refl;
       }
 
--- ---- the entries of a Map
+-- ---- the first row of a run
 
 module _ (rows : List ℕ) (row end : ℕ) (n : Nests rows row (end - row)) (h : row < end) where
-  abbrev F : Forest Row
-  F = forestAt rows row (end - row)
-
-  pub role-is : getD rows (rowWords * row + 2) 0 ≡ roleOf F
+  pub role-is : getD rows (rowWords * row + 2) 0 ≡ roleOf (forestAt rows row (end - row))
   unfolding roleOf rowAt
   role-is = let t = turn rows row end n h in rw (t .is)
 
-  first : Turn rows row end
-  first = turn rows row end n h
-
-  pub entries-1 : (getD rows (rowWords * row + 2) 0 ≡ 2 → ⊥) → 13 ≡ entriesOf F
-  unfolding entriesOf entriesRefusal rowAt
-  entries-1 z = rw (first .is, ne-eqb (getD rows (rowWords * row + 2) 0) 2 z)
-
-  module _ (r : getD rows (rowWords * row + 2) 0 ≡ 2) where
-    pub entries-2 : (getD rows (rowWords * row + 0) 0 ≡ 32 → ⊥) → 14 ≡ entriesOf F
-    unfolding entriesOf entriesRefusal rowAt
-    entries-2 z = rw (first .is, eq-eqb (getD rows (rowWords * row + 2) 0) 2 r, ne-eqb (getD rows (rowWords * row + 0) 0) 32 z)
-
-    module _ (k : getD rows (rowWords * row + 0) 0 ≡ 32) where
-      -- the children's roles decide
-      by-children : entriesOf F ≡ keyRefusal (map (λ c. c .role) (roots (forestAt rows (row + 1) (row + rowsAt rows row - (row + 1)))))
-      unfolding entriesOf entriesRefusal rowAt
-      by-children = rw (first .is, eq-eqb (getD rows (rowWords * row + 2) 0) 2 r, eq-eqb (getD rows (rowWords * row + 0) 0) 32 k)
-
-      pub entries-3 : row + rowsAt rows row ≤ row + 1 → 14 ≡ entriesOf F
-      entries-3 z =
-          let e : row + rowsAt rows row - (row + 1) ≡ 0 = omega arith in
-          sym (by-children ∙ rw (e, forest-none rows (row + 1)))
-
-      module _ (z : row + 1 < row + rowsAt rows row) where
-        key : Turn rows (row + 1) (row + rowsAt rows row)
-        key = turn rows (row + 1) (row + rowsAt rows row) (first .kids) z
-
-        abbrev value : ℕ
-        value = row + 1 + rowsAt rows (row + 1)
-
-        pub key-within : value ≤ row + rowsAt rows row
-        key-within = key .within
-
-        by-key : entriesOf F ≡ keyRefusal (getD rows (rowWords * (row + 1) + 2) 0 ∷ map (λ c. c .role) (roots (forestAt rows value (row + rowsAt rows row - value))))
-        unfolding rowAt
-        by-key = by-children ∙ rw (key .is)
-
-        pub entries-4 : row + rowsAt rows row ≤ value → 14 ≡ entriesOf F
-        entries-4 y =
-            let e : row + rowsAt rows row - value ≡ 0 = omega arith in
-            sym (by-key ∙ rw (e, forest-none rows value))
-
-        module _ (y : value < row + rowsAt rows row) where
-          second : Turn rows value (row + rowsAt rows row)
-          second = turn rows value (row + rowsAt rows row) (key .rest) y
-
-          abbrev third : ℕ
-          third = value + rowsAt rows value
-
-          pub second-within : third ≤ row + rowsAt rows row
-          second-within = second .within
-
-          by-value : entriesOf F ≡ keyRefusal (getD rows (rowWords * (row + 1) + 2) 0 ∷ getD rows (rowWords * value + 2) 0 ∷ map (λ c. c .role) (roots (forestAt rows third (row + rowsAt rows row - third))))
-          unfolding rowAt
-          by-value = by-key ∙ rw (second .is)
-
-          pub entries-5 : (third ≡ row + rowsAt rows row → ⊥) → 14 ≡ entriesOf F
-          entries-5 x =
-              let w = second .within in
-              let t = turn rows third (row + rowsAt rows row) (second .rest) (omega arith) in
-              sym (by-value ∙ rw (t .is))
-
-          module _ (x : third ≡ row + rowsAt rows row) where
-            two : entriesOf F ≡ (if eqb (getD rows (rowWords * (row + 1) + 2) 0) 2 then 0 else 13)
-            two =
-                let e : row + rowsAt rows row - third ≡ 0 = omega arith in
-                by-value ∙ rw (e, forest-none rows third)
-
-            pub entries-6 : (getD rows (rowWords * (row + 1) + 2) 0 ≡ 2 → ⊥) → 13 ≡ entriesOf F
-            entries-6 w = sym (two ∙ rw (ne-eqb (getD rows (rowWords * (row + 1) + 2) 0) 2 w))
-
-            pub entries-7 : getD rows (rowWords * (row + 1) + 2) 0 ≡ 2 → 0 ≡ entriesOf F
-            entries-7 w = sym (two ∙ rw (eq-eqb (getD rows (rowWords * (row + 1) + 2) 0) 2 w))
-
--- the same with the words as they were read
-module _ (rows : List ℕ) (row end : ℕ) (n : Nests rows row (end - row)) (h : row < end) where
   pub row-room : rowWords * (row + 1) ≤ length rows
   row-room = let m = n .room in omega arith
-
-  module _ (s : ℕ) (e : s ≡ getD rows (rowWords * row + 1) 0) where
-    pub size-within : row + s ≤ end
-    size-within = let t = turn rows row end n h in let w = t .within in omega arith
-
-    pub key-room : row + 1 < row + s → rowWords * (row + 1 + 1) ≤ length rows
-    key-room z = let w = size-within in let m = n .room in omega arith
-
-    module _ (r : getD rows (rowWords * row + 2) 0 ≡ 2) (k : getD rows (rowWords * row + 0) 0 ≡ 32) where
-      pub no-key : row + s ≤ row + 1 → 14 ≡ entriesOf (forestAt rows row (end - row))
-      no-key z = entries-3 rows row end n h r k (omega arith)
-
-      module _ (t : ℕ) (f : t ≡ getD rows (rowWords * (row + 1) + 1) 0) (z : row + 1 < row + s) where
-        pub no-value : row + s ≤ row + 1 + t → 14 ≡ entriesOf (forestAt rows row (end - row))
-        no-value y = entries-4 rows row end n h r k (omega arith) (omega arith)
-
-        module _ (y : row + 1 + t < row + s) where
-          pub value-room : rowWords * (row + 1 + t + 1) ≤ length rows
-          value-room = let w = size-within in let m = n .room in omega arith
-
-          module _ (u : ℕ) (g : u ≡ getD rows (rowWords * (row + 1 + t) + 1) 0) where
-            same-value : rowsAt rows (row + 1 + rowsAt rows (row + 1)) ≡ u
-            same-value = ap (λ (i : ℕ). rowsAt rows (row + 1 + i)) (sym f) ∙ sym g
-
-            pub three : (row + 1 + t + u ≡ row + s → ⊥) → 14 ≡ entriesOf (forestAt rows row (end - row))
-            three x = entries-5 rows row end n h r k (omega arith) (omega arith) (λ q. x (let v = same-value in omega arith))
-
-            module _ (x : row + 1 + t + u ≡ row + s) where
-              pub key-nullable : (getD rows (rowWords * (row + 1) + 2) 0 ≡ 2 → ⊥) → 13 ≡ entriesOf (forestAt rows row (end - row))
-              key-nullable w = entries-6 rows row end n h r k (omega arith) (omega arith) (let v = same-value in omega arith) w
-
-              pub key-sure : getD rows (rowWords * (row + 1) + 2) 0 ≡ 2 → 0 ≡ entriesOf (forestAt rows row (end - row))
-              key-sure w = entries-7 rows row end n h r k (omega arith) (omega arith) (let v = same-value in omega arith) w
 
 -- ---- what was read is there
 
@@ -181,12 +67,11 @@ module _ (o : Out Tree) (n k at left : ℕ) (before after : List ℕ) (g : GotTr
   unfolding roleOf
   role-are = ap roleOf (forest-is after at (at + k - at) (node (g .row) (g .kids) ∅) tree-is)
 
-  pub entries-are : entriesOf (forestAt after at (at + k - at)) ≡ entriesRefusal (g .row .role) (g .row .kind) (map (λ r. r .role) (roots (g .kids)))
-  unfolding entriesOf
-  entries-are = ap entriesOf (forest-is after at (at + k - at) (node (g .row) (g .kids) ∅) tree-is)
-
-  pub child-asks : at + left ≤ 1024 → Nests after at (at + k - at) × (at < at + k) × (at + k ≤ 1024)
-  child-asks s = (tree-asks .0, tree-asks .1, let u = g .rows in let m = g .stored .room in omega arith)
+  -- the rows are refused as entries as the tree is
+  pub entries-are : entriesRefusalAt after at ≡ entriesRefusal (g .row .role) (g .row .kind) (map (λ r. r .role) (roots (g .kids)))
+  entries-are =
+      entries-nest after at (at + k) (tree-asks .0) (tree-asks .1)
+      ∙ ap entriesOf (forest-is after at (at + k - at) (node (g .row) (g .kids) ∅) tree-is)
 
 module _ (o : Out Fields) (n k at left : ℕ) (before after : List ℕ) (g : GotFields o n k at left before after) (fits : rowWords * (at + left) ≤ length before) where
   fields-are : Is after at (at + k - at) (g .trees)
@@ -204,6 +89,3 @@ module _ (o : Out Fields) (n k at left : ℕ) (before after : List ℕ) (g : Got
 module _ (text rows : List ℕ) (row left : ℕ) (r : Room text rows row (left + 1)) where
   pub below-fits : rowWords * (row + 1 + left) ≤ length rows
   below-fits = let f = r .fits in omega arith
-
-  pub below-small : row + 1 + left ≤ 1024
-  below-small = let s = r .small in omega arith

@@ -1,25 +1,21 @@
 -- Fields read side by side: run ends and values, and one turn of a Struct's or a Union's fields.
-use mathlib.Core.Path.{_≡_, refl, sym, ap, _∙_}
-use mathlib.Core.Bool.{Bool, true, false}
-use mathlib.Core.List.{List, [], _∷_}
-use Prim.Native.Nat.{ℕ, zero, suc, _+_, _-_, _*_, _≤_, _<_}
+use mathlib.Core.Path.{_≡_, refl, ap}
+use mathlib.Core.Bool.{true, false}
+use mathlib.Core.List.{List}
+use Prim.Native.Nat.{ℕ, _+_, _-_}
 use native.Mathlib.Omega.{arith}
-use lib.Dec.{eqb}
 use borrow.Author.Tests.{eq-eqb, ne-eqb}
-use Rattle.tokenizer.specs.Text.{if_then_else_}
 use Rattle.tokenizer.specs.Answer.{Refusal, Out, refused, done, refuse, _>>=_}
-use Rattle.tokenizer.specs.Token.{valueOf, lparen, rparen, comma, colon, doubleQuoted, xWord}
+use Rattle.tokenizer.specs.Token.{lparen, rparen, comma, colon, doubleQuoted, xWord}
 use Rattle.tokenizer.specs.declared.Token.{Token}
 use Rattle.datatype.specs.Tree.{Forest, ∅, node, count, Row}
-use Rattle.parser.specs.Parse.{Name, Tree, Fields, Item, end, last, more, item, run-ends, values, fieldRow, rowsIn, idOf, need, stands, roleAt, numberIn, closeAt, fieldAt, defaultField, listField, fixedListField, namedRunEnds, defaultRunEnds, runEndFields, structItem, unionField, unionItem}
-use Rattle.parser.specs.Internal.Steps.{Stored, Meets, MeetsFields, MeetsTurn, itemOf}
+use Rattle.parser.specs.Parse.{Tree, Fields, end, last, more, item, run-ends, values, fieldRow, idOf, need, stands, roleAt, signedByteAt, closeAt, fieldAt, defaultField, listField, fixedListField, namedRunEnds, defaultRunEnds, runEndFields, structItem, unionField, unionItem}
+use Rattle.parser.specs.Internal.Steps.{Stored, Meets, MeetsFields, FieldWords}
 use Rattle.parser.specs.declared.Read.{Read}
 use Rattle.parser.specs.declared.Read.the-variants as R
-use Rattle.parser.specs.declared.Turn.{Turn}
-use Rattle.parser.specs.declared.Turn.the-variants as T
 use Rattle.parser.proofs.Answers.{behind, GotTree}
 use Rattle.parser.proofs.Looks.{needed-stands, refused-stands}
-use Rattle.parser.proofs.Readers.{FieldWords, meets-done, field-stored}
+use Rattle.parser.proofs.Readers.{meets-done, field-stored}
 use Rattle.parser.proofs.Parents.{pair-stored}
 
 module _ (row left : ℕ) (before after : List ℕ) where
@@ -32,23 +28,14 @@ module _ (row left : ℕ) (before after : List ℕ) where
   unfolding MeetsFields
   fields-done o f n k e c s = rw e (ap (λ (i : ℕ). R.Tree n i) c, s)
 
-  pub turn-refused : (o : Out Item) (x : ℕ) → o ≡ refuse x → MeetsTurn o row left before (T.Refused x) after
-  unfolding MeetsTurn
-  turn-refused o x e = rw e refl
+  -- an answer that is a refusal is handed on
+  pub fields-lost : (o : Out Fields) (a : Read) (x : ℕ) → a ≡ R.Refused x → o ≡ refuse x → MeetsFields o row left before a after
+  unfolding MeetsFields
+  fields-lost o a x f e = rw e f
 
-  pub turn-end : (o : Out Item) (n : ℕ) → o ≡ done (end n) → after ≡ before → MeetsTurn o row left before (T.End n) after
-  unfolding MeetsTurn
-  turn-end o n e s = rw e (refl, s)
-
-  pub turn-last : (o : Out Item) (t : Tree) (n k : ℕ) → o ≡ done (last t n) → k ≡ suc (count (t .kids)) → Stored (node (t .row) (t .kids) ∅) row left before after
-      → MeetsTurn o row left before (T.Last n k) after
-  unfolding MeetsTurn
-  turn-last o t n k e c s = rw e (ap (λ (i : ℕ). T.Last n i) c, s)
-
-  pub turn-more : (o : Out Item) (t : Tree) (n k : ℕ) → o ≡ done (more t n) → k ≡ suc (count (t .kids)) → Stored (node (t .row) (t .kids) ∅) row left before after
-      → MeetsTurn o row left before (T.More n k) after
-  unfolding MeetsTurn
-  turn-more o t n k e c s = rw e (ap (λ (i : ℕ). T.More n i) c, s)
+-- a tree that was read
+abbrev pub treeOf : (o : Out Tree) (n k at left : ℕ) (before after : List ℕ) → GotTree o n k at left before after → Tree
+treeOf o n k at left before after g = record { row = g .row; kids = g .kids; next = n }
 
 module _ (text : List ℕ) (type : ℕ → ℕ → Out Tree) where
   -- ---- run ends and values
@@ -158,22 +145,13 @@ module _ (text : List ℕ) (type : ℕ → ℕ → Out Tree) where
       struct-field-1 x e = rw (refused-stands text rparen at s z, e) refl
 
       module _ (row n k : ℕ) (before after : List ℕ) (g : GotTree (fieldAt text type 0 at left) n k row left before after) where
-        pub struct-more : (c : Token) (d : ℕ) → need text comma n ≡ done (behind c d) → MeetsTurn (structItem text type at left) row left before (T.More d k) after
+        pub struct-more : (c : Token) (d : ℕ) → need text comma n ≡ done (behind c d) → structItem text type at left ≡ done (more (treeOf _ n k row left before after g) d)
         unfolding structItem
-        struct-more c d e =
-            turn-more row left before after (structItem text type at left) (record { row = g .row; kids = g .kids; next = n }) d k
-            (rw (refused-stands text rparen at s z, g .is, needed-stands text comma n (behind c d) e, e) refl) (g .rows) (g .stored)
+        struct-more c d e = rw (refused-stands text rparen at s z, g .is, needed-stands text comma n (behind c d) e, e) refl
 
-        module _ (t : Refusal) (y : need text comma n ≡ refused t) where
-          pub struct-last : (c : Token) (d : ℕ) → need text rparen n ≡ done (behind c d) → MeetsTurn (structItem text type at left) row left before (T.Last d k) after
-          unfolding structItem
-          struct-last c d e =
-              turn-last row left before after (structItem text type at left) (record { row = g .row; kids = g .kids; next = n }) d k
-              (rw (refused-stands text rparen at s z, g .is, refused-stands text comma n t y, e) refl) (g .rows) (g .stored)
-
-          pub struct-open : (x : ℕ) → need text rparen n ≡ refuse x → structItem text type at left ≡ refuse x
-          unfolding structItem
-          struct-open x e = rw (refused-stands text rparen at s z, g .is, refused-stands text comma n t y, e) refl
+        pub struct-last : (t : Refusal) → need text comma n ≡ refused t → structItem text type at left ≡ (need text rparen n >>= (λ c. done (last (treeOf _ n k row left before after g) (c .next))))
+        unfolding structItem
+        struct-last t y = rw (refused-stands text rparen at s z, g .is, refused-stands text comma n t y) refl
 
     -- ---- one turn of a Union's fields
 
@@ -182,45 +160,46 @@ module _ (text : List ℕ) (type : ℕ → ℕ → Out Tree) where
     union-end c n e = rw (needed-stands text rparen at (behind c n) e, e) refl
 
     module _ (s : Refusal) (z : need text rparen at ≡ refused s) where
-      pub union-1 : (x : ℕ) → need text comma at ≡ refuse x → unionItem text type at left ≡ refuse x
+      pub union-open : (x : ℕ) → need text comma at ≡ refuse x → unionItem text type at left ≡ refuse x
       unfolding unionItem
-      union-1 x e = rw (refused-stands text rparen at s z, e) refl
+      union-open x e = rw (refused-stands text rparen at s z, e) refl
 
       module _ (c : Token) (b : ℕ) (e : need text comma at ≡ done (behind c b)) where
-        pub union-2 : (x : ℕ) → numberIn text 128 127 b ≡ refuse x → unionItem text type at left ≡ refuse x
-        unfolding unionItem unionField
-        union-2 x f = rw (refused-stands text rparen at s z, e, f) refl
+        pub union-lost : (x : ℕ) → unionField text type b left ≡ refuse x → unionItem text type at left ≡ refuse x
+        unfolding unionItem
+        union-lost x f = rw (refused-stands text rparen at s z, e, f) refl
 
-        module _ (i : Token) (d id : ℕ) (f : numberIn text 128 127 b ≡ done (behind i d)) (w : id ≡ idOf (i .kind)) where
-          pub union-3 : (x : ℕ) → need text colon d ≡ refuse x → unionItem text type at left ≡ refuse x
-          unfolding unionItem unionField
-          union-3 x g = rw (refused-stands text rparen at s z, e, f, g) refl
+        pub union-more : (n k row : ℕ) (before after : List ℕ) (g : GotTree (unionField text type b left) n k row left before after)
+            → unionItem text type at left ≡ done (more (treeOf _ n k row left before after g) n)
+        unfolding unionItem
+        union-more n k row before after g = rw (refused-stands text rparen at s z, e, g .is) refl
 
-          module _ (l : Token) (m : ℕ) (g : need text colon d ≡ done (behind l m)) where
-            pub union-4 : (x : ℕ) → need text lparen m ≡ refuse x → unionItem text type at left ≡ refuse x
-            unfolding unionItem unionField
-            union-4 x h = rw (refused-stands text rparen at s z, e, f, g, h) refl
+    -- ---- a Union's field
 
-            module _ (p : Token) (q : ℕ) (h : need text lparen m ≡ done (behind p q)) where
-              pub union-5 : (x : ℕ) → fieldAt text type id q left ≡ refuse x → unionItem text type at left ≡ refuse x
-              unfolding unionItem unionField
-              union-5 x v = rw (refused-stands text rparen at s z, e, f, g, h, ← w, v) refl
+    pub union-1 : (x : ℕ) → signedByteAt text at ≡ refuse x → unionField text type at left ≡ refuse x
+    unfolding unionField
+    union-1 x e = rw e refl
 
-              module _ (row n k : ℕ) (before after : List ℕ) (v : GotTree (fieldAt text type id q left) n k row left before after) where
-                pub union-6 : (x : ℕ) → need text rparen n ≡ refuse x → unionItem text type at left ≡ refuse x
-                unfolding unionItem unionField closeAt
-                union-6 x y = rw (refused-stands text rparen at s z, e, f, g, h, ← w, v .is, y) refl
+    module _ (i : Token) (d id : ℕ) (f : signedByteAt text at ≡ done (behind i d)) (w : id ≡ idOf (i .kind)) where
+      pub union-2 : (x : ℕ) → need text colon d ≡ refuse x → unionField text type at left ≡ refuse x
+      unfolding unionField
+      union-2 x g = rw (f, g) refl
 
-                pub union-7 : (t : Token) (y : ℕ) → need text rparen n ≡ done (behind t y) → MeetsTurn (unionItem text type at left) row left before (T.More y k) after
-                unfolding unionItem unionField closeAt
-                union-7 t y u =
-                    turn-more row left before after (unionItem text type at left) (record { row = v .row; kids = v .kids; next = y }) y k
-                    (rw (refused-stands text rparen at s z, e, f, g, h, ← w, v .is, u) refl) (v .rows) (v .stored)
+      module _ (l : Token) (m : ℕ) (g : need text colon d ≡ done (behind l m)) where
+        pub union-3 : (x : ℕ) → need text lparen m ≡ refuse x → unionField text type at left ≡ refuse x
+        unfolding unionField
+        union-3 x h = rw (f, g, h) refl
 
--- One turn, by the kind.
-module _ (k : ℕ) (text : List ℕ) (type : ℕ → ℕ → Out Tree) (at left row : ℕ) (before : List ℕ) (r : Turn) (after : List ℕ) where
-  pub as-union : k ≡ 33 → MeetsTurn (unionItem text type at left) row left before r after → MeetsTurn (itemOf k text type at left) row left before r after
-  as-union e h = rw (eq-eqb k 33 e) h
+        module _ (p : Token) (q : ℕ) (h : need text lparen m ≡ done (behind p q)) where
+          pub union-4 : (x : ℕ) → fieldAt text type id q left ≡ refuse x → unionField text type at left ≡ refuse x
+          unfolding unionField
+          union-4 x v = rw (f, g, h, ← w, v) refl
 
-  pub as-struct : (k ≡ 33 → ⊥) → MeetsTurn (structItem text type at left) row left before r after → MeetsTurn (itemOf k text type at left) row left before r after
-  as-struct z h = rw (ne-eqb k 33 z) h
+          module _ (row n k : ℕ) (before after : List ℕ) (v : GotTree (fieldAt text type id q left) n k row left before after) where
+            pub union-5 : (x : ℕ) → need text rparen n ≡ refuse x → unionField text type at left ≡ refuse x
+            unfolding unionField closeAt
+            union-5 x y = rw (f, g, h, ← w, v .is, y) refl
+
+            pub union-6 : (t : Token) (y : ℕ) → need text rparen n ≡ done (behind t y) → Meets (unionField text type at left) row left before (R.Tree y k) after
+            unfolding unionField closeAt
+            union-6 t y u = meets-done row left before after (unionField text type at left) (v .row) (v .kids) y k (rw (f, g, h, ← w, v .is, u) refl) (v .rows) (v .stored)

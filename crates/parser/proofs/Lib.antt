@@ -4,7 +4,7 @@ pub mod Answers
 pub mod Looks
 pub mod WordLaws
 pub mod TokenLaws
-pub mod Zones
+pub mod ZoneLaws
 pub mod Values
 pub mod Readers
 pub mod Parents

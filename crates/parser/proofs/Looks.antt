@@ -6,7 +6,7 @@ use Prim.Native.Nat.{ℕ}
 use native.Mathlib.Omega.{arith}
 use lib.Dec.{eqb}
 use Rattle.tokenizer.specs.Text.{if_then_else_}
-use Rattle.tokenizer.specs.Answer.{Refusal, Out, refused, done, refuse}
+use Rattle.tokenizer.specs.Answer.{Refusal, refused, done, refuse}
 use Rattle.tokenizer.specs.Token.{tokenAt, sortOf}
 use Rattle.tokenizer.specs.declared.Token.{Token}
 use Rattle.parser.specs.Parse.{refusalOf, need, stands}

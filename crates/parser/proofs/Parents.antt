@@ -1,26 +1,21 @@
 -- Types with children: each return of their readers as a law.
-use mathlib.Core.Path.{_≡_, refl, sym, ap, _∙_}
-use mathlib.Core.Bool.{Bool, true, false}
-use mathlib.Core.List.{List, [], _∷_, map}
-use Prim.Native.Nat.{ℕ, zero, suc, _+_, _-_, _*_, _^_, _≤_, _<_}
+use mathlib.Core.Path.{_≡_, refl, _∙_}
+use mathlib.Core.List.{List, map}
+use Prim.Native.Nat.{ℕ, suc, _+_, _-_, _^_}
 use native.Mathlib.Omega.{arith}
-use lib.Seq.{sets}
-use lib.Dec.{eqb}
 use borrow.Author.Tests.{eq-eqb, ne-eqb}
-use Rattle.tokenizer.specs.Text.{if_then_else_}
-use Rattle.tokenizer.specs.Answer.{Out, refused, done, refuse, _>>=_}
-use Rattle.tokenizer.specs.Token.{valueOf, lparen, rparen, comma, doubleQuoted, typeWord, mapSorted, xWord}
+use Rattle.tokenizer.specs.Answer.{Out, done, refuse, _>>=_}
+use Rattle.tokenizer.specs.Token.{valueOf, lparen, rparen, comma, mapSorted}
 use Rattle.tokenizer.specs.declared.Token.{Token}
-use Rattle.datatype.specs.Kind.{Shape, shapeOf, entriesRefusal}
+use Rattle.datatype.specs.Kind.{entriesRefusal}
 use Rattle.datatype.specs.Tree.{Forest, ∅, node, count, roots, Row}
-use Rattle.datatype.specs.Table.{rowWords, wordsOf, tableOf}
-use Rattle.parser.specs.Parse.{Name, Tree, Fields, item, run-ends, values, bareRow, fieldRow, single, pair, rowsIn, need, stands, roleAt, numberIn, closeAt, fieldAt, defaultField, listField, fixedListField, entriesAt, namedRunEnds, defaultRunEnds, runEndFields, listAt, fixedSizeListAt, dictionaryAt, mapAt, runEndEncodedAt, shapeAt, typeWith, typeAt}
-use Rattle.parser.specs.Internal.Steps.{Stored, Meets, MeetsFields, Closed}
+use Rattle.parser.specs.Parse.{Tree, bareRow, need, numberIn, closeAt, fieldAt, listField, fixedListField, entriesAt, runEndFields, listAt, fixedSizeListAt, dictionaryAt, mapAt, runEndEncodedAt}
+use Rattle.parser.specs.Internal.Steps.{Stored, Meets, Closed}
 use Rattle.parser.specs.declared.Read.{Read}
 use Rattle.parser.specs.declared.Read.the-variants as R
 use Rattle.parser.proofs.Stores.{written-behind}
 use Rattle.parser.proofs.Answers.{behind, GotValue, GotTree, GotFields}
-use Rattle.parser.proofs.Readers.{meets-refused, meets-done, closes, FieldWords, field-stored}
+use Rattle.parser.proofs.Readers.{closes}
 
 -- two trees, one behind the other
 pub pair-stored : (row left k : ℕ) (before mid after : List ℕ) (t u : Row) (tk uk : Forest Row)

@@ -1,28 +1,25 @@
 -- Each return of a reader as a law: what the calls before it gave, and what the return has to show.
 use mathlib.Core.Path.{_≡_, refl, sym, ap, _∙_, subst}
-use mathlib.Core.Bool.{Bool, true, false}
+use mathlib.Core.Bool.{true, false}
 use mathlib.Core.List.{List, [], _∷_}
-use Prim.Native.Nat.{ℕ, zero, suc, _+_, _-_, _*_, _^_, _≤_, _<_}
+use Prim.Native.Nat.{ℕ, suc, _+_, _-_, _*_, _≤_}
 use native.Mathlib.Omega.{arith}
 use lib.ListN.{length, getD}
-use lib.Seq.{sets, length-sets}
-use mir.Val.{Fits}
-use mir.Syntax.{w32}
+use lib.Seq.{sets}
 use Rattle.tokenizer.specs.Text.{if_then_else_}
-use Rattle.tokenizer.specs.Answer.{Refusal, Out, refused, done, refuse, _>>=_}
-use Rattle.tokenizer.specs.Token.{valueOf, lparen, rparen, comma, colon, doubleQuoted, singleQuoted, typeWord, timeUnit, intervalUnit, unionMode, mapSorted, fieldWord, xWord}
+use Rattle.tokenizer.specs.Answer.{Out, refused, done, refuse, _>>=_}
+use Rattle.tokenizer.specs.Token.{valueOf, lparen, rparen, comma, colon, doubleQuoted, singleQuoted, timeUnit, fieldWord}
 use Rattle.tokenizer.specs.declared.Token.{Token}
 use Rattle.tokenizer.specs.declared.TokenKind.{TokenKind}
-use Rattle.datatype.specs.Kind.{Shape, shapeOf, unitFits, decimalFits}
+use Rattle.datatype.specs.Kind.{decimalFits}
 use Rattle.datatype.specs.Tree.{Forest, ∅, node, count, Row}
 use Rattle.datatype.specs.Table.{rowWords, wordsOf, tableOf}
-use Rattle.parser.specs.Parse.{Name, Tree, Fields, Zone, item, textName, bareRow, fieldRow, single, pair, rowsIn, scaleOf, need, stands, roleAt, afterRole, numberIn, unitAt, closeAt, zoneAt, timestampAt, timeAt, intervalAt, fixedSizeBinaryAt, scaleAt, decimalAt, listNameAt, fieldAt, defaultField, listField, fixedListField, entriesAt, namedRunEnds, defaultRunEnds, runEndFields, listAt, fixedSizeListAt, dictionaryAt, mapAt, runEndEncodedAt, shapeAt, typeWith, typeAt}
-use Rattle.parser.specs.Internal.Steps.{Room, Stored, Meets, MeetsFields, Closed}
+use Rattle.parser.specs.Parse.{Name, Tree, Fields, item, bareRow, fieldRow, scaleOf, need, stands, roleAt, afterRole, numberIn, closeAt, zoneAt, timestampAt, scaleAt, decimalAt, listNameAt, fieldAt, defaultField, listField}
+use Rattle.parser.specs.Internal.Steps.{Room, Stored, Meets, Put, Closed, FieldWords}
 use Rattle.parser.specs.declared.Read.{Read}
 use Rattle.parser.specs.declared.Read.the-variants as R
-use Rattle.datatype.proofs.Sets.{sets-append}
-use Rattle.parser.proofs.Stores.{in-front, as-field, rows-said, table-one}
-use Rattle.parser.proofs.Answers.{behind, string, GotValue, GotNumber, GotTree, GotFields, got-tree, lost-tree}
+use Rattle.parser.proofs.Stores.{in-front, as-field, rows-said}
+use Rattle.parser.proofs.Answers.{behind, string, GotValue, GotTree, GotFields, got-tree, lost-tree}
 
 -- ---- refusals, and rows
 
@@ -30,6 +27,11 @@ module _ (row left : ℕ) (before after : List ℕ) where
   pub meets-refused : (o : Out Tree) (x : ℕ) → o ≡ refuse x → Meets o row left before (R.Refused x) after
   unfolding Meets
   meets-refused o x e = rw e refl
+
+  -- an answer that is a refusal is handed on
+  pub meets-lost : (o : Out Tree) (a : Read) (x : ℕ) → a ≡ R.Refused x → o ≡ refuse x → Meets o row left before a after
+  unfolding Meets
+  meets-lost o a x f e = rw e f
 
   pub meets-done : (o : Out Tree) (r : Row) (kids : Forest Row) (n k : ℕ) → o ≡ done (record { row = r; kids = kids; next = n }) → k ≡ suc (count kids)
       → Stored (node r kids ∅) row left before after → Meets o row left before (R.Tree n k) after
@@ -53,9 +55,9 @@ module _ (row used : ℕ) (r : Row) (before after : List ℕ) (o : Out Token) wh
   unfolding Closed
   closed-lost x e = rw e refl
 
-  pub closed-done : (t : Token) (n : ℕ) → o ≡ done (behind t n) → after ≡ sets before (rowWords * row) (wordsOf r (used + 1)) → Closed o row used r before (R.Tree n (used + 1)) after
+  pub closed-done : (a : Read) (t : Token) (n : ℕ) → o ≡ done (behind t n) → Put n row used r before a after → Closed o row used r before a after
   unfolding Closed
-  closed-done t n e w = rw e (refl, w)
+  closed-done a t n e w = rw e w
 
 -- a type whose closing mark was read, or is missing
 pub closes : (text : List ℕ) (r : Row) (kids : Forest Row) (at row left used : ℕ) (before mid after : List ℕ) (a : Read)
@@ -92,11 +94,9 @@ module _ (text before after : List ℕ) (row left : ℕ) (r : Room text before r
   pub room-more : Room text after (row + 1 + used) (left - used)
   room-more = let s = r .small in let f = r .fits in record { short = r .short; small = omega arith; fits = omega arith }
 
-  pub front-fits : Fits w32 (used + 1)
-  front-fits = let s = r .small in omega arith
-
-  pub front-inside : rowWords * row + rowWords ≤ length after
-  front-inside = let f = r .fits in omega arith
+-- for the children, behind the parent's row
+pub room-below : (text rows : List ℕ) (row left : ℕ) → Room text rows row (left + 1) → Room text rows (row + 1) left
+room-below text rows row left r = let s = r .small in let f = r .fits in record { short = r .short; small = omega arith; fits = omega arith }
 
 module _ (text before after : List ℕ) (row left : ℕ) (r : Room text before row left) (l : length after ≡ length before) where
   -- for what follows so many rows
@@ -113,18 +113,6 @@ module _ (text : List ℕ) (k at : ℕ) where
   pub timestamp-1 : (x : ℕ) → need text lparen at ≡ refuse x → timestampAt text k at ≡ refuse x
   unfolding timestampAt
   timestamp-1 x e = rw e refl
-
-  pub time-1 : (x : ℕ) → need text lparen at ≡ refuse x → timeAt text k at ≡ refuse x
-  unfolding timeAt
-  time-1 x e = rw e refl
-
-  pub interval-1 : (x : ℕ) → need text lparen at ≡ refuse x → intervalAt text k at ≡ refuse x
-  unfolding intervalAt
-  interval-1 x e = rw e refl
-
-  pub binary-1 : (x : ℕ) → need text lparen at ≡ refuse x → fixedSizeBinaryAt text k at ≡ refuse x
-  unfolding fixedSizeBinaryAt
-  binary-1 x e = rw e refl
 
   pub decimal-1 : (x : ℕ) → need text lparen at ≡ refuse x → decimalAt text k at ≡ refuse x
   unfolding decimalAt
@@ -145,18 +133,6 @@ module _ (text : List ℕ) (k at : ℕ) where
       unfolding timestampAt
       timestamp-4 s l n f = rw (e, g .is, f) (ap (λ (i : ℕ). done (record { row = bareRow k i 0 s l; kids = ∅; next = n })) (g .value))
 
-    pub time-2 : (x : ℕ) → unitAt text k a ≡ refuse x → timeAt text k at ≡ refuse x
-    unfolding timeAt
-    time-2 x f = rw (e, f) refl
-
-    pub interval-2 : (x : ℕ) → need text intervalUnit a ≡ refuse x → intervalAt text k at ≡ refuse x
-    unfolding intervalAt
-    interval-2 x f = rw (e, f) refl
-
-    pub binary-2 : (x : ℕ) → numberIn text 0 (2 ^ 31 - 1) a ≡ refuse x → fixedSizeBinaryAt text k at ≡ refuse x
-    unfolding fixedSizeBinaryAt
-    binary-2 x f = rw (e, f) refl
-
     pub decimal-2 : (x : ℕ) → numberIn text 0 255 a ≡ refuse x → decimalAt text k at ≡ refuse x
     unfolding decimalAt
     decimal-2 x f = rw (e, f) refl
@@ -167,26 +143,27 @@ module _ (text : List ℕ) (k at : ℕ) where
       decimal-3 x f = rw (e, g .is, f) refl
 
     module _ (row : ℕ) (before after : List ℕ) (r : Read) where
-      -- Time32, Time64, Duration
-      pub time-3 : (v b : ℕ) → GotValue (unitAt text k a) v b → Closed (need text rparen b) row 0 (bareRow k v 0 0 0) before r after → Meets (timeAt text k at) row 1 before r after
-      unfolding timeAt tableOf
-      time-3 v b g h = rw (e, g .is, g .value) (closes text (bareRow k v 0 0 0) ∅ b row 0 0 before before after r refl refl (omega arith) h)
-
-      -- Interval
-      pub interval-3 : (v b : ℕ) → GotValue (need text intervalUnit a) v b → Closed (need text rparen b) row 0 (bareRow k v 0 0 0) before r after → Meets (intervalAt text k at) row 1 before r after
-      unfolding intervalAt tableOf
-      interval-3 v b g h = rw (e, g .is, g .value) (closes text (bareRow k v 0 0 0) ∅ b row 0 0 before before after r refl refl (omega arith) h)
-
-      -- FixedSizeBinary
-      pub binary-3 : (v b : ℕ) → GotValue (numberIn text 0 (2 ^ 31 - 1) a) v b → Closed (need text rparen b) row 0 (bareRow k v 0 0 0) before r after → Meets (fixedSizeBinaryAt text k at) row 1 before r after
-      unfolding fixedSizeBinaryAt tableOf
-      binary-3 v b g h = rw (e, g .is, g .value) (closes text (bareRow k v 0 0 0) ∅ b row 0 0 before before after r refl refl (omega arith) h)
-
       -- the decimals
       module _ (v b : ℕ) (g : GotValue (numberIn text 0 255 a) v b) where
         pub decimal-4 : (c : Token) (d : ℕ) → need text comma b ≡ done (behind c d) → Meets (scaleAt text k v d) row 1 before r after → Meets (decimalAt text k at) row 1 before r after
         unfolding decimalAt
         decimal-4 c d f h = rw (e, g .is, f, g .value) h
+
+-- a type of one value: Time32, Time64, Duration, Interval, FixedSizeBinary
+abbrev pub valueAt : List ℕ → (ℕ → Out Token) → ℕ → ℕ → Out Tree
+valueAt text value k at = need text lparen at >>= (λ p. value (p .next) >>= (λ v. closeAt text (bareRow k (valueOf (v .kind)) 0 0 0) ∅ (v .next)))
+
+module _ (text : List ℕ) (value : ℕ → Out Token) (k at : ℕ) where
+  pub value-1 : (x : ℕ) → need text lparen at ≡ refuse x → valueAt text value k at ≡ refuse x
+  value-1 x e = rw e refl
+
+  module _ (p : Token) (a : ℕ) (e : need text lparen at ≡ done (behind p a)) where
+    pub value-2 : (x : ℕ) → value a ≡ refuse x → valueAt text value k at ≡ refuse x
+    value-2 x f = rw (e, f) refl
+
+    pub value-3 : (v b row : ℕ) (before after : List ℕ) (r : Read) → GotValue (value a) v b → Closed (need text rparen b) row 0 (bareRow k v 0 0 0) before r after → Meets (valueAt text value k at) row 1 before r after
+    unfolding tableOf
+    value-3 v b row before after r g h = rw (e, g .is, g .value) (closes text (bareRow k v 0 0 0) ∅ b row 0 0 before before after r refl refl (omega arith) h)
 
 -- a decimal's scale
 module _ (text : List ℕ) (k v at : ℕ) where
@@ -208,8 +185,8 @@ module _ (text : List ℕ) (o : Out Tree) (k v scale n row : ℕ) (before mid : 
   unfolding tableOf
   closed-decimal = closes text (bareRow k v scale 0 0) ∅ n row 0 0 before before mid a refl refl (omega arith) h
 
-  pub decimal-lost : (x : ℕ) (after : List ℕ) → a ≡ R.Refused x → Meets o row 1 before (R.Refused x) after
-  decimal-lost x after f = meets-refused row 1 before after o x (e ∙ rw (lost-tree row 1 before mid a (closeAt text (bareRow k v scale 0 0) ∅ n) x closed-decimal f))
+  pub decimal-lost : (x : ℕ) (after : List ℕ) → a ≡ R.Refused x → Meets o row 1 before a after
+  decimal-lost x after f = meets-lost row 1 before after o a x f (e ∙ rw (lost-tree row 1 before mid a (closeAt text (bareRow k v scale 0 0) ∅ n) x closed-decimal f))
 
   module _ (m j : ℕ) (f : a ≡ R.Tree m j) where
     decimal-tree : GotTree (closeAt text (bareRow k v scale 0 0) ∅ n) m j row 1 before mid
@@ -234,10 +211,6 @@ pub field-stored : (row left role id : ℕ) (n : Name) (r : Row) (kids : Forest 
     → after ≡ sets (sets mid (rowWords * row + 2) (role ∷ id ∷ [])) (rowWords * row + 6) (n .home ∷ n .start ∷ n .size ∷ [])
     → Stored (node (fieldRow role id n r) kids ∅) row left before after
 field-stored row left role id n r kids before mid after s w = record { room = s .room; rows = as-field before mid after row role id n r kids (s .rows) w }
-
--- the words that make a row a field's, as they are written
-abbrev pub FieldWords : List ℕ → ℕ → ℕ → ℕ → ℕ → ℕ → ℕ → List ℕ → Type 0
-FieldWords mid row role id home start size after = after ≡ sets (sets mid (rowWords * row + 2) (role ∷ id ∷ [])) (rowWords * row + 6) (home ∷ start ∷ size ∷ [])
 
 module _ (text : List ℕ) (type : ℕ → ℕ → Out Tree) where
   -- "name": [nullability] type

@@ -1,9 +1,9 @@
 -- Runs of stores: one behind the other, one before another, inside another; and the words of rows.
 use mathlib.Core.Path.{_≡_, refl, sym, ap, _∙_}
-use Prim.Native.Nat.{ℕ, zero, suc, _+_, _*_, _≤_, _<_}
+use Prim.Native.Nat.{ℕ, suc, _+_, _*_, _<_}
 use native.Mathlib.Omega.{arith}
 use mathlib.Core.List.{List, [], _∷_, _++_, append-nil, append-assoc}
-use lib.ListN.{length, set, getD, length-append, length-set}
+use lib.ListN.{length, set, getD, length-set}
 use lib.Seq.{sets, set-comm, set-set, getD-set-same, getD-set-other}
 use Rattle.datatype.proofs.Sets.{sets-append}
 use Rattle.datatype.specs.Tree.{Forest, ∅, node, count, Row}

@@ -2,39 +2,35 @@
 use mathlib.Core.Path.{_≡_, refl, sym, ap, _∙_, subst}
 use mathlib.Core.Bool.{Bool, true, false, not}
 use mathlib.Core.List.{List, [], _∷_}
-use Prim.Native.Nat.{ℕ, zero, suc, _+_, _-_, _%_, _≤_, _<_}
+use Prim.Native.Nat.{ℕ, _+_, _%_, _≤_, _<_}
 use native.Mathlib.Omega.{arith}
 use lib.ListN.{length, drop, getD, List·getD-eq-default}
 use lib.Dec.{T, eqb, leb}
-use borrow.Author.Tests.{eq-eqb, ne-eqb, leb-true, le-leb, lt-leb, lt-ltb, le-ltb}
+use borrow.Author.Tests.{eq-eqb, ne-eqb, leb-true, le-leb, lt-leb}
 use types.Run.{OneOf, miss}
 use mir.Val.{hasKey}
 use denote.Enum.Declared.{tagOf}
 use Rattle.tokenizer.proofs.TokenKind.{the-type}
 use Rattle.tokenizer.specs.Text.{if_then_else_}
-use Rattle.tokenizer.specs.Answer.{Refusal, Out, refused, done, refuse, _>>=_}
+use Rattle.tokenizer.specs.Answer.{done, refuse}
 use Rattle.tokenizer.specs.Places.{afterSpaces}
-use Rattle.tokenizer.specs.Internal.Ends.{quoteEnd}
-use Rattle.tokenizer.specs.Token.{token, tokenAt, untilQuote, stringToken, sortOf, valueOf, isNegative, noToken, lparen, rparen, comma, colon, integer, doubleQuoted, singleQuoted, fieldWord, timeUnit, nullability, someWord, noneWord}
+use Rattle.tokenizer.specs.Token.{token, tokenAt, untilQuote, stringToken, sortOf, valueOf, noToken, integer, doubleQuoted, nullability}
 use Rattle.tokenizer.specs.declared.Token.{Token}
 use Rattle.tokenizer.specs.declared.TokenKind.{TokenKind}
 use Rattle.tokenizer.specs.declared.TokenKind.the-variants.{LParen, RParen, Comma, Colon, Integer, DoubleQuotedString, SingleQuotedString, DataType, TimeUnit, IntervalUnit, UnionMode, MapSorted, Nullability, Field, Some, None, X, Refused}
 use Rattle.tokenizer.proofs.Marks as Marks
 use Rattle.tokenizer.proofs.Basics.{of-true}
 use Rattle.tokenizer.proofs.Tokens.{token-spaces, token-end, token-34}
-use Rattle.tokenizer.proofs.Runs.{spaces-out, spaces-stop, spaces-go, string-open, string-empty, string-whole}
-use Rattle.tokenizer.proofs.StringLaws.{ordinary-byte, ordinary-go}
-use Rattle.datatype.specs.Kind.{unitFits}
-use Rattle.parser.specs.Parse.{Zone, refusalOf, need, stands, roleAt, afterRole, numberIn, unitAt, someZone, zoneString, zoneAt, listNameAt}
+use Rattle.tokenizer.proofs.Runs.{spaces-stop, spaces-go}
+use Rattle.parser.specs.Parse.{refusalOf, need, stands, roleAt, afterRole, numberIn}
 use Rattle.parser.specs.Internal.Sought.{Found}
-use Rattle.parser.specs.Internal.Steps.{markSort, isMark, stepOf, lookOf, valuedOf, numberOf, quotedOf, zoneStep}
+use Rattle.parser.specs.Internal.Steps.{word, number, span, markSort, isMark, stepOf, lookOf, valuedOf, numberOf, quotedOf}
 use Rattle.parser.specs.declared.Step.the-variants as S
 use Rattle.parser.specs.declared.Look.the-variants as L
 use Rattle.parser.specs.declared.Valued.the-variants as W
 use Rattle.parser.specs.declared.Number.the-variants as N
 use Rattle.parser.specs.declared.Quoted.the-variants as Q
 use Rattle.parser.proofs.Looks.{need-is, need-not}
-use Rattle.parser.proofs.Answers.{behind, string, GotValue, GotNumber}
 
 -- ---- sorts and tags: a sort is one more than the tag, and no token is the last tag
 
@@ -116,11 +112,11 @@ module _ (text : List ℕ) (sort at : ℕ) (t : Token) (e : t ≡ tokenAt text a
   pub not-here : eqb (sortOf (t .kind)) sort ≡ false → need text sort at ≡ refuse (refusalOf (t .kind))
   not-here s = need-not text sort at (sym (ap (λ (x : Token). eqb (sortOf (x .kind)) sort) e) ∙ s) ∙ ap (λ (x : Token). refuse (refusalOf (x .kind))) (sym e)
 
-  pub valued-here : (v : ℕ) → sortOf (t .kind) ≡ sort → valueOf (t .kind) ≡ v → W.Value v (t .next) ≡ valuedOf (need text sort at)
+  pub valued-here : (v : ℕ) → sortOf (t .kind) ≡ sort → valueOf (t .kind) ≡ v → W.Value (word v (t .next)) ≡ valuedOf (need text sort at)
   unfolding valuedOf
   valued-here v s w = rw (here s, w)
 
-  pub quoted-here : sortOf (t .kind) ≡ sort → Q.String (t .start) (t .size) (t .next) ≡ quotedOf (need text sort at)
+  pub quoted-here : sortOf (t .kind) ≡ sort → Q.String (span (t .start) (t .size) (t .next)) ≡ quotedOf (need text sort at)
   unfolding quotedOf
   quoted-here s = rw (here s)
 
@@ -170,11 +166,11 @@ module _ (text : List ℕ) (at from : ℕ) (f : from ≡ afterSpaces text at) wh
   unfolding need
   need-behind sort = rw behind-spaces
 
-  pub valued-found : (sort : ℕ) (k : TokenKind) (v next : ℕ) → Found k text from next → 0 < next → sortOf k ≡ sort → valueOf k ≡ v → W.Value v next ≡ valuedOf (need text sort at)
+  pub valued-found : (sort : ℕ) (k : TokenKind) (v next : ℕ) → Found k text from next → 0 < next → sortOf k ≡ sort → valueOf k ≡ v → W.Value (word v next) ≡ valuedOf (need text sort at)
   unfolding Found
   valued-found sort k v next w h s u =
       let p = w h in
-      ap (W.Value v) (sym (p .1))
+      ap (λ (i : ℕ). W.Value (word v i)) (sym (p .1))
       ∙ valued-here text sort at (tokenAt text from) behind-spaces v (ap sortOf (p .0) ∙ s) (ap valueOf (p .0) ∙ u)
 
   -- the token of a string whose opening mark stands there
@@ -203,16 +199,16 @@ module _ (text : List ℕ) (least most at : ℕ) (t : Token) (e : t ≡ tokenAt 
     unfolding numberOf numberIn
     number-out h = rw (here text integer at t e (ap sortOf k), k, ← l, lt-leb magnitude limit h)
 
-    pub number-in : magnitude ≤ limit → N.Value negative magnitude (t .next) ≡ numberOf (numberIn text least most at)
+    pub number-in : magnitude ≤ limit → N.Value (number negative magnitude (t .next)) ≡ numberOf (numberIn text least most at)
     unfolding numberOf numberIn
     number-in h = rw (here text integer at t e (ap sortOf k), k, ← l, le-leb magnitude limit h)
 
 pub number-found : (text : List ℕ) (at from : ℕ) → from ≡ afterSpaces text at → (least most m next : ℕ) → Found (Integer false m) text from next → 0 < next → m ≤ most
-    → N.Value false m next ≡ numberOf (numberIn text least most at)
+    → N.Value (number false m next) ≡ numberOf (numberIn text least most at)
 unfolding Found
 number-found text at from f least most m next w h l =
     let p = w h in
-    ap (N.Value false m) (sym (p .1))
+    ap (λ (i : ℕ). N.Value (number false m i)) (sym (p .1))
     ∙ number-in text least most at (tokenAt text from) (behind-spaces text at from f) false m most (p .0) refl l
 
 -- ---- marks, by the first byte that is no space

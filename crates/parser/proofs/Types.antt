@@ -1,36 +1,36 @@
 -- Struct and Union, whose fields were read turn by turn; a type by its word; a whole text.
-use mathlib.Core.Path.{_≡_, refl, sym, ap, _∙_}
-use mathlib.Core.Bool.{Bool, true, false, not, _||_}
-use mathlib.Core.List.{List, [], _∷_, map}
+use mathlib.Core.Path.{_≡_, refl, sym, ap, _∙_, subst}
+use mathlib.Core.Bool.{Bool, true, false}
+use mathlib.Core.List.{List, map}
 use Prim.Native.Nat.{ℕ, zero, suc, _+_, _-_, _*_, _≤_, _<_}
 use native.Mathlib.Omega.{arith}
-use lib.Seq.{sets}
-use lib.Dec.{T, eqb}
-use borrow.Author.Tests.{eqb-true, ne-eqb}
-use Rattle.tokenizer.specs.Text.{if_then_else_}
-use Rattle.tokenizer.specs.Answer.{Out, refused, done, refuse, _>>=_}
-use Rattle.tokenizer.specs.Token.{tokenAt, sortOf, valueOf, lparen, unionMode, typeWord}
-use Rattle.tokenizer.proofs.Marks.{type-value}
+use lib.ListN.{length}
+use Rattle.tokenizer.specs.Answer.{Refusal, Out, refused, done, refuse}
+use Rattle.tokenizer.specs.Token.{lparen, rparen, comma, unionMode, typeWord}
 use Rattle.tokenizer.specs.declared.Token.{Token}
-use Rattle.datatype.specs.Kind.{Shape, leaf, timestamp, time, interval, fixed, list, fixedList, struct, union, dictionary, decimal, mapping, runEnds, shapeOf, has, idsFit}
-use Rattle.datatype.specs.Tree.{Forest, ∅, node, count, roots, Row}
-use Rattle.datatype.specs.Table.{rowWords, wordsOf, tableOf}
-use Rattle.parser.specs.Parse.{Tree, Fields, bareRow, refusalOf, need, itemsBy, structItem, unionItem, structAt, unionAt, shapeAt, typeWith, typeAt}
-use Rattle.parser.specs.Internal.Steps.{Room, Stored, Meets}
+use Rattle.datatype.specs.Limits.{maxRows}
+use Rattle.datatype.proofs.ShapeLaws.{shapes-of, leaf-number}
+use Rattle.datatype.specs.Kind.{Shape, leaf, time, list, decimal, shapeOf, idsFit}
+use Rattle.datatype.specs.Tree.{Forest, ∅, count, roots, Row}
+use Rattle.datatype.specs.Table.{rowWords, tableOf}
+use Rattle.parser.specs.Parse.{Tree, bareRow, need, fieldAt, itemsBy, structItem, unionItem, structAt, unionAt, shapeAt, typeWith, typeAt}
+use Rattle.parser.specs.Internal.Steps.{Room, Stored, Meets, Put, Closed}
 use Rattle.parser.specs.declared.Read.{Read}
 use Rattle.parser.specs.declared.Read.the-variants as R
 use Rattle.parser.proofs.Stores.{in-front}
-use Rattle.parser.proofs.Answers.{behind, GotValue, GotFields}
-use Rattle.parser.proofs.Readers.{meets-done, meets-leaf, meets-more}
+use Rattle.parser.proofs.Answers.{behind, GotValue, GotTree, GotFields}
+use Rattle.parser.proofs.Readers.{meets-lost, meets-done, meets-more}
+use Rattle.parser.proofs.FieldLaws.{struct-last}
+use Rattle.parser.proofs.Loops.{Loop, loop-lost, loop-last}
 
 -- a row in front of its fields
-fronted : (o : Out Tree) (r : Row) (kids : Forest Row) (n used row left : ℕ) (before mid after : List ℕ) → o ≡ done (record { row = r; kids = kids; next = n })
-    → Stored kids (row + 1) left before mid → used ≡ count kids → after ≡ sets mid (rowWords * row) (wordsOf r (used + 1))
-    → Meets o row (left + 1) before (R.Tree n (used + 1)) after
-fronted o r kids n used row left before mid after e s u w =
+fronted : (o : Out Tree) (r : Row) (kids : Forest Row) (n used row left : ℕ) (before mid after : List ℕ) (a : Read) → o ≡ done (record { row = r; kids = kids; next = n })
+    → Stored kids (row + 1) left before mid → used ≡ count kids → Put n row used r mid a after → Meets o row (left + 1) before a after
+fronted o r kids n used row left before mid after a e s u w =
     let m = s .room in
-    meets-done row (left + 1) before after o r kids n (used + 1) e (omega arith)
-    (record { room = omega arith; rows = in-front before mid after row (used + 1) r kids (s .rows) w (omega arith) })
+    subst (λ (x : Read). Meets o row (left + 1) before x after) (sym (w .0))
+    (meets-done row (left + 1) before after o r kids n (used + 1) e (omega arith)
+    (record { room = omega arith; rows = in-front before mid after row (used + 1) r kids (s .rows) (w .1) (omega arith) }))
 
 module _ (text : List ℕ) (type : ℕ → ℕ → Out Tree) (k at left : ℕ) where
   pub struct-1 : (x : ℕ) → need text lparen at ≡ refuse x → structAt text type k at left ≡ refuse x
@@ -46,10 +46,27 @@ module _ (text : List ℕ) (type : ℕ → ℕ → Out Tree) (k at left : ℕ) w
     unfolding structAt
     struct-2 x f = rw (e, f) refl
 
-    pub struct-3 : (row n used : ℕ) (before mid after : List ℕ) → GotFields (itemsBy (structItem text type) (suc left) b left) n used (row + 1) left before mid
-        → after ≡ sets mid (rowWords * row) (wordsOf (bareRow k 0 0 0 0) (used + 1)) → Meets (structAt text type k at left) row (left + 1) before (R.Tree n (used + 1)) after
+    pub struct-3 : (row n used : ℕ) (before mid after : List ℕ) (a : Read) → GotFields (itemsBy (structItem text type) (suc left) b left) n used (row + 1) left before mid
+        → Put n row used (bareRow k 0 0 0 0) mid a after → Meets (structAt text type k at left) row (left + 1) before a after
     unfolding structAt
-    struct-3 row n used before mid after g w = fronted (structAt text type k at left) (bareRow k 0 0 0 0) (g .trees) n used row left before mid after (rw (e, g .is) refl) (g .stored) (g .rows) w
+    struct-3 row n used before mid after a g w = fronted (structAt text type k at left) (bareRow k 0 0 0 0) (g .trees) n used row left before mid after a (rw (e, g .is) refl) (g .stored) (g .rows) w
+
+    -- behind a field that no comma follows
+    module _ (row next used : ℕ) (before now : List ℕ) (l : Loop (structItem text type) b left (row + 1) before now next used) (s : Refusal) (z : need text rparen next ≡ refused s)
+        (n more : ℕ) (mid : List ℕ) (g : GotTree (fieldAt text type 0 next (left - used)) n more (row + 1 + used) (left - used) now mid) (t : Refusal) (y : need text comma n ≡ refused t) where
+      pub struct-4 : (after : List ℕ) (a : Read) → Closed (need text rparen n) row (used + more) (bareRow k 0 0 0 0) mid a after → Meets (structAt text type k at left) row (left + 1) before a after
+      unfolding Closed
+      struct-4 after a = go (need text rparen n) refl
+        where
+          go : (o : Out Token) → need text rparen n ≡ o → Closed o row (used + more) (bareRow k 0 0 0 0) mid a after → Meets (structAt text type k at left) row (left + 1) before a after
+          go (refused x) e₁ h =
+              meets-lost row (left + 1) before after (structAt text type k at left) a (x .number) h
+              (struct-2 (x .number) (loop-lost (structItem text type) b left (row + 1) before now next used l (x .number)
+              (struct-last text type next (left - used) s z (row + 1 + used) n more now mid g t y ∙ rw e₁ refl)))
+          go (done c) e₁ h =
+              struct-3 row (c .next) (used + more) before mid after a
+              (loop-last (structItem text type) b left (row + 1) before now next used l (fieldAt text type 0 next (left - used)) n more mid g (c .next)
+              (struct-last text type next (left - used) s z (row + 1 + used) n more now mid g t y ∙ rw e₁ refl)) h
 
     pub union-at-2 : (x : ℕ) → need text unionMode b ≡ refuse x → unionAt text type k at left ≡ refuse x
     unfolding unionAt
@@ -66,12 +83,54 @@ module _ (text : List ℕ) (type : ℕ → ℕ → Out Tree) (k at left : ℕ) w
         unfolding unionAt
         union-at-4 z = rw (e, m .is, g .is, ← q, z) refl
 
-        pub union-at-5 : (after : List ℕ) → fit ≡ true → after ≡ sets mid (rowWords * row) (wordsOf (bareRow k v 0 0 0) (used + 1))
-            → Meets (unionAt text type k at left) row (left + 1) before (R.Tree n (used + 1)) after
+        pub union-at-5 : (after : List ℕ) (a : Read) → fit ≡ true → Put n row used (bareRow k v 0 0 0) mid a after → Meets (unionAt text type k at left) row (left + 1) before a after
         unfolding unionAt
-        union-at-5 after z w =
-            fronted (unionAt text type k at left) (bareRow k v 0 0 0) (g .trees) n used row left before mid after
+        union-at-5 after a z w =
+            fronted (unionAt text type k at left) (bareRow k v 0 0 0) (g .trees) n used row left before mid after a
             (rw (e, m .is, g .is, ← q, z) (ap (λ (i : ℕ). done (record { row = bareRow k i 0 0 0; kids = g .trees; next = n })) (m .value))) (g .stored) (g .rows) w
+
+-- ---- the shapes of kinds that have an arm together
+
+-- by the distance from the first of them
+time-from : (k j : ℕ) → k ≡ 16 + j → j < 3 → shapeOf k ≡ time
+time-from k zero e h = ap shapeOf e ∙ shapes-of .1
+time-from k (suc zero) e h = ap shapeOf e ∙ shapes-of .2
+time-from k (suc (suc zero)) e h = ap shapeOf e ∙ shapes-of .3
+time-from k (suc (suc (suc j))) e h = absurd (omega arith)
+
+pub time-kind : (k : ℕ) → 16 ≤ k → k < 19 → shapeOf k ≡ time
+time-kind k l h = time-from k (k - 16) (omega arith) (omega arith)
+
+list-from : (k j : ℕ) → k ≡ 27 + j → j < 5 → (k ≡ 29 → ⊥) → shapeOf k ≡ list
+list-from k zero e h z = ap shapeOf e ∙ shapes-of .6
+list-from k (suc zero) e h z = ap shapeOf e ∙ shapes-of .7
+list-from k (suc (suc zero)) e h z = absurd (z (omega arith))
+list-from k (suc (suc (suc zero))) e h z = ap shapeOf e ∙ shapes-of .9
+list-from k (suc (suc (suc (suc zero)))) e h z = ap shapeOf e ∙ shapes-of .10
+list-from k (suc (suc (suc (suc (suc j))))) e h z = absurd (omega arith)
+
+pub list-kind : (k : ℕ) → 27 ≤ k → k < 32 → (k ≡ 29 → ⊥) → shapeOf k ≡ list
+list-kind k l h z = list-from k (k - 27) (omega arith) (omega arith) z
+
+decimal-from : (k j : ℕ) → k ≡ 35 + j → j < 4 → shapeOf k ≡ decimal
+decimal-from k zero e h = ap shapeOf e ∙ shapes-of .14
+decimal-from k (suc zero) e h = ap shapeOf e ∙ shapes-of .15
+decimal-from k (suc (suc zero)) e h = ap shapeOf e ∙ shapes-of .16
+decimal-from k (suc (suc (suc zero))) e h = ap shapeOf e ∙ shapes-of .17
+decimal-from k (suc (suc (suc (suc j)))) e h = absurd (omega arith)
+
+pub decimal-kind : (k : ℕ) → 32 ≤ k → k < 39 → (k ≡ 32 → ⊥) → (k ≡ 33 → ⊥) → (k ≡ 34 → ⊥) → shapeOf k ≡ decimal
+decimal-kind k l h a b c = decimal-from k (k - 35) (omega arith) (omega arith)
+
+-- the leaves below the times, from there to the lists, and past the decimals
+pub leaf-low : (k : ℕ) → k < 16 → (k ≡ 13 → ⊥) → shapeOf k ≡ leaf
+leaf-low k h a = leaf-number k ((((((((((((((((((((tt, λ e. omega arith), λ e. omega arith), λ e. omega arith), λ e. omega arith), λ e. omega arith), λ e. omega arith), λ e. omega arith), λ e. omega arith), λ e. omega arith), λ e. omega arith), λ e. omega arith), λ e. omega arith), λ e. omega arith), λ e. omega arith), λ e. omega arith), λ e. omega arith), λ e. omega arith), λ e. omega arith), λ e. omega arith), λ e. omega arith)
+
+pub leaf-mid : (k : ℕ) → 19 ≤ k → k < 27 → (k ≡ 19 → ⊥) → (k ≡ 21 → ⊥) → shapeOf k ≡ leaf
+leaf-mid k l h a b = leaf-number k ((((((((((((((((((((tt, λ e. omega arith), λ e. omega arith), λ e. omega arith), λ e. omega arith), λ e. omega arith), λ e. omega arith), λ e. omega arith), λ e. omega arith), λ e. omega arith), λ e. omega arith), λ e. omega arith), λ e. omega arith), λ e. omega arith), λ e. omega arith), λ e. omega arith), λ e. omega arith), λ e. omega arith), λ e. omega arith), λ e. omega arith), λ e. omega arith)
+
+pub leaf-high : (k : ℕ) → 39 ≤ k → (k ≡ 39 → ⊥) → (k ≡ 40 → ⊥) → shapeOf k ≡ leaf
+leaf-high k l a b = leaf-number k ((((((((((((((((((((tt, λ e. omega arith), λ e. omega arith), λ e. omega arith), λ e. omega arith), λ e. omega arith), λ e. omega arith), λ e. omega arith), λ e. omega arith), λ e. omega arith), λ e. omega arith), λ e. omega arith), λ e. omega arith), λ e. omega arith), λ e. omega arith), λ e. omega arith), λ e. omega arith), λ e. omega arith), λ e. omega arith), λ e. omega arith), λ e. omega arith)
 
 -- ---- a type
 
@@ -82,18 +141,14 @@ room-less text rows row left r z =
     let e : left - 1 + 1 ≡ left = omega arith in
     record { short = r .short; small = omega arith; fits = omega arith }
 
--- a type's word has the kind of a type
-pub kind-small : (text : List ℕ) (at k n : ℕ) → GotValue (need text typeWord at) k n → k < 41
-unfolding need
-kind-small text at k n g = go (eqb (sortOf ((tokenAt text at) .kind)) typeWord) refl (g .is)
-  where
-    go : (b : Bool) → eqb (sortOf ((tokenAt text at) .kind)) typeWord ≡ b
-        → (if b then done (tokenAt text at) else refuse (refusalOf ((tokenAt text at) .kind))) ≡ done (behind (g .token) n) → k < 41
-    go true e f =
-        let z : tokenAt text at ≡ behind (g .token) n = cc in
-        let w : valueOf ((tokenAt text at) .kind) ≡ k = ap (λ (t : Token). valueOf (t .kind)) z ∙ g .value in
-        omega (arith, type-value text at (eqb-true (sortOf ((tokenAt text at) .kind)) typeWord e))
-    go false e f = absurd (let z : _≡_ {A = ℕ} 0 1 = cc in omega arith)
+pub room-one : (text rows : List ℕ) (row left : ℕ) → Room text rows row left → (left ≡ 0 → ⊥) → Room text rows row 1
+room-one text rows row left r z =
+    let s = r .small in
+    let f = r .fits in
+    record { short = r .short; small = omega arith; fits = omega arith }
+
+pub leaf-asks : (text rows : List ℕ) (row left : ℕ) → Room text rows row left → (left ≡ 0 → ⊥) → (rowWords * row + rowWords ≤ length rows) × (0 < maxRows)
+leaf-asks text rows row left r z = let f = r .fits in (omega arith, omega arith)
 
 module _ (text : List ℕ) (level at left : ℕ) where
   pub type-deep : level ≡ 0 → typeAt text level at left ≡ refuse 3
@@ -118,25 +173,20 @@ module _ (text : List ℕ) (level at left : ℕ) where
       type-word x e = one-row ∙ rw e refl
 
       -- its word is read: the rest is the reader's of its shape
-      pub type-shape : (k n row : ℕ) (before after : List ℕ) (a : Read) → GotValue (need text typeWord at) k n
-          → Meets (shapeAt text (typeAt text (level - 1)) (shapeOf k) k n (left - 1)) row (left - 1 + 1) before a after → Meets (typeAt text level at left) row left before a after
-      unfolding typeWith
-      type-shape k n row before after a g h =
-          let e : left - 1 + 1 ≡ left = omega arith in
-          rw (one-row, g .is, g .value) (rw e at h)
+      module _ (k n : ℕ) (g : GotValue (need text typeWord at) k n) (s : Shape) (i : shapeOf k ≡ s) (row : ℕ) (before after : List ℕ) (a : Read) where
+        pub type-parent : Meets (shapeAt text (typeAt text (level - 1)) s k n (left - 1)) row (left - 1 + 1) before a after → Meets (typeAt text level at left) row left before a after
+        unfolding typeWith
+        type-parent h =
+            let e : left - 1 + 1 ≡ left = omega arith in
+            rw (one-row, g .is, g .value, i) (rw e at h)
 
--- ---- by the shape of a kind
+        pub type-childless : Meets (shapeAt text (typeAt text (level - 1)) s k n (left - 1)) row 1 before a after → Meets (typeAt text level at left) row left before a after
+        type-childless h = type-parent (meets-more row 1 before after (shapeAt text (typeAt text (level - 1)) s k n (left - 1)) a (left - 1 + 1) (omega arith) h)
 
-module _ (text : List ℕ) (type : ℕ → ℕ → Out Tree) (s : Shape) (j k at left row : ℕ) (before after : List ℕ) (a : Read) (e : shapeOf j ≡ s) (i : k ≡ j) where
-  -- the reader of a shape is that of the kind
-  pub as-shape : Meets (shapeAt text type s k at left) row (left + 1) before a after → Meets (shapeAt text type (shapeOf k) k at left) row (left + 1) before a after
-  as-shape h = rw (ap shapeOf i, e) h
-
-  pub as-childless : Meets (shapeAt text type s k at left) row 1 before a after → Meets (shapeAt text type (shapeOf k) k at left) row (left + 1) before a after
-  as-childless h = as-shape (meets-more row 1 before after (shapeAt text type s k at left) a (left + 1) (omega arith) h)
-
--- a leaf's row
-pub leaf-done : (text : List ℕ) (type : ℕ → ℕ → Out Tree) (k at left row : ℕ) (before after : List ℕ) → shapeOf k ≡ leaf
-    → after ≡ sets before (rowWords * row) (wordsOf (bareRow k 0 0 0 0) 1) → Meets (shapeAt text type (shapeOf k) k at left) row (left + 1) before (R.Tree at 1) after
-unfolding shapeAt
-leaf-done text type k at left row before after e w = rw e (meets-leaf row (left + 1) before after (done (record { row = bareRow k 0 0 0 0; kids = ∅; next = at })) (bareRow k 0 0 0 0) at refl (omega arith) w)
+      -- a leaf's row
+      pub type-leaf : (k n row : ℕ) (before after : List ℕ) (a : Read) → GotValue (need text typeWord at) k n → shapeOf k ≡ leaf → Put n row 0 (bareRow k 0 0 0 0) before a after
+          → Meets (typeAt text level at left) row left before a after
+      unfolding shapeAt tableOf
+      type-leaf k n row before after a g i w =
+          type-childless k n g leaf i row before after a
+          (fronted (done (record { row = bareRow k 0 0 0 0; kids = ∅; next = n })) (bareRow k 0 0 0 0) ∅ n 0 row 0 before before after a refl (record { room = omega arith; rows = refl }) refl w)

@@ -1,9 +1,7 @@
 -- Signed bytes as the rows keep them, and the kinds of types.
-use mathlib.Core.Path.{_≡_, refl, sym, ap, _∙_}
+use mathlib.Core.Path.{_≡_, sym}
 use mathlib.Core.Bool.{Bool, true, false}
-use mathlib.Core.List.{List}
-use Prim.Native.Nat.{ℕ, _+_, _-_, _%_, _≤_, _<_}
-use native.Mathlib.Omega.{arith}
+use Prim.Native.Nat.{ℕ, _+_, _-_, _%_, _≤_}
 use Rattle.tokenizer.specs.Text.{if_then_else_}
 use Rattle.tokenizer.specs.Answer.{Out}
 use Rattle.tokenizer.specs.declared.Token.{Token}

@@ -1,7 +1,7 @@
 -- The reader (document 01, 'Types' and 'Numbers a caller may get'). A definition for each `parse_` function of the Rust.
 -- A place is a number of bytes into the text. What is met first, from left to right, decides.
-use mathlib.Core.Bool.{Bool, true, false}
-use mathlib.Core.List.{List, [], _∷_, _++_, map}
+use mathlib.Core.Bool.{Bool}
+use mathlib.Core.List.{List, _++_, map}
 use Prim.Native.Nat.{ℕ, zero, suc, _+_, _-_, _%_, _^_}
 use lib.ListN.{length, drop, replicate}
 use lib.Dec.{leb, eqb}

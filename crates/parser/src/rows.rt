@@ -1,19 +1,22 @@
 // Rows as the reader writes them: a type's own row, and the words that make it a field's.
 ghost use mathlib.Core.Path.{_≡_};
 ghost use Prim.Native.Nat.{_+_, _*_, _-_, _≤_, _<_};
-ghost use mathlib.Core.List.{List, [], _∷_};
 ghost use lib.ListN.{length, getD};
 ghost use lib.Seq.{sets};
+ghost use Rattle.tokenizer.specs.Token.{rparen};
 ghost use Rattle.datatype.specs.Limits.{maxRows};
 ghost use Rattle.datatype.specs.Table.{rowWords, wordsOf};
-ghost use Rattle.row_table.specs.Internal.Run.{Nests, forestAt};
-ghost use Rattle.parser.specs.Parse.{bareRow};
-ghost use Rattle.parser.specs.Internal.Steps.{entriesOf, roleOf};
-use datatype::kind::STRUCT;
+ghost use Rattle.subtrees.specs.Internal.Run.{Nests, forestAt};
+ghost use Rattle.parser.specs.Parse.{bareRow, item, run-ends, values, need};
+ghost use Rattle.parser.specs.Internal.Steps.{Room, Put, Closed, FieldWords, Named, roleOf};
+use crate::Read;
+use crate::Step;
+use crate::tokens::expect_token;
+use datatype::Field;
 use datatype::rows::HOME;
-use datatype::rows::KIND;
 use datatype::rows::NAME_LENGTH;
 use datatype::rows::NAME_START;
+use datatype::rows::NON_NULL;
 use datatype::rows::NUMBER;
 use datatype::rows::PARENT;
 use datatype::rows::ROLE;
@@ -23,7 +26,6 @@ use datatype::rows::SCALE;
 use datatype::rows::UNION_ID;
 use datatype::rows::ZONE_LENGTH;
 use datatype::rows::ZONE_START;
-use tokenizer::refusal;
 
 // Writes the row of a type that is no field.
 pub(crate) fn put_row(
@@ -54,6 +56,43 @@ pub(crate) fn put_row(
     rows[i + PARENT] = 0;
 }
 
+// The row of a type whose children's rows stand behind it, once all of it is read.
+pub(crate) fn put_parent(
+    rows: &mut [u32],
+    row: usize,
+    used: usize,
+    kind: u32,
+    param: u32,
+    scale: u32,
+    next: usize,
+) -> Read
+    requires { ⌜ (rowWords * row + rowWords ≤ length (now rows)) × (used < maxRows) ⌝ }
+    ensures { λ r. ⌜ Put next row used (bareRow kind param scale 0 0) (now (rows .entry)) r (now (rows .exit)) ⌝ }
+{
+    put_row(rows, row, kind, (used + 1) as u32, param, scale, 0, 0);
+    Read::Tree(next, used + 1)
+}
+
+// The mark that closes a type; its row is then written in front of the rows of its children.
+pub(crate) fn close(
+    text: &[u8],
+    rows: &mut [u32],
+    at: usize,
+    row: usize,
+    used: usize,
+    kind: u32,
+    param: u32,
+    scale: u32,
+) -> Read
+    requires { ⌜ Room (now text) (now rows) row (used + 1) ⌝ }
+    ensures { λ r. ⌜ Closed (need (now (text .entry)) rparen at) row used (bareRow kind param scale 0 0) (now (rows .entry)) r (now (rows .exit)) ⌝ }
+{
+    match expect_token(text, at, b')') {
+        Step::Next(next) => put_parent(rows, row, used, kind, param, scale, next),
+        Step::Refused(n) => Read::Refused(n),
+    }
+}
+
 // Writes what makes a row a field's: role, union id, and where its name stands.
 pub(crate) fn put_field(
     rows: &mut [u32],
@@ -65,7 +104,7 @@ pub(crate) fn put_field(
     size: u32,
 )
     requires { ⌜ rowWords * row + rowWords ≤ length (now rows) ⌝ }
-    ensures { λ _. ⌜ now (rows .exit) ≡ sets (sets (now (rows .entry)) (rowWords * row + 2) (role ∷ id ∷ [])) (rowWords * row + 6) (home ∷ start ∷ size ∷ []) ⌝ }
+    ensures { λ _. ⌜ FieldWords (now (rows .entry)) row role id home start size (now (rows .exit)) ⌝ }
 {
     let i = ROW_WORDS * row;
     rows[i + ROLE] = role;
@@ -73,6 +112,54 @@ pub(crate) fn put_field(
     rows[i + HOME] = home;
     rows[i + NAME_START] = start;
     rows[i + NAME_LENGTH] = size;
+}
+
+// Makes a row a list's field, named by the name list.
+pub(crate) fn put_list_field(rows: &mut [u32], row: usize, role: u32)
+    requires { ⌜ rowWords * row + rowWords ≤ length (now rows) ⌝ }
+    ensures { λ _. ⌜ Named (now (rows .entry)) row role item (now (rows .exit)) ⌝ }
+{
+    put_field(
+        rows,
+        row,
+        role,
+        0,
+        Field::IN_NAME_LIST,
+        Field::LIST_FIELD_START,
+        Field::LIST_FIELD_LENGTH,
+    );
+}
+
+// The same for run ends, which are never nullable.
+pub(crate) fn put_run_ends_field(rows: &mut [u32], row: usize)
+    requires { ⌜ rowWords * row + rowWords ≤ length (now rows) ⌝ }
+    ensures { λ _. ⌜ Named (now (rows .entry)) row 2 run-ends (now (rows .exit)) ⌝ }
+{
+    put_field(
+        rows,
+        row,
+        NON_NULL,
+        0,
+        Field::IN_NAME_LIST,
+        Field::REE_RUN_ENDS_START,
+        Field::REE_RUN_ENDS_LENGTH,
+    );
+}
+
+// The same for the values of run ends.
+pub(crate) fn put_values_field(rows: &mut [u32], row: usize, role: u32)
+    requires { ⌜ rowWords * row + rowWords ≤ length (now rows) ⌝ }
+    ensures { λ _. ⌜ Named (now (rows .entry)) row role values (now (rows .exit)) ⌝ }
+{
+    put_field(
+        rows,
+        row,
+        role,
+        0,
+        Field::IN_NAME_LIST,
+        Field::REE_VALUES_START,
+        Field::REE_VALUES_LENGTH,
+    );
 }
 
 // Word k of a row.
@@ -97,33 +184,4 @@ pub(crate) fn role_of(rows: &[u32], row: usize, end: usize) -> usize
     ensures { λ r. ⌜ r ≡ roleOf (forestAt (now (rows .entry)) row (end - row)) ⌝ }
 {
     word(rows, row, ROLE)
-}
-
-// The refusal of Map's entries, whose row stands before the row `end` with all of its subtree, or 0.
-pub(crate) fn entries_refusal(rows: &[u32], row: usize, end: usize) -> u32
-    requires { ⌜ Nests (now rows) row (end - row) × (row < end) × (end ≤ maxRows) ⌝ }
-    ensures { λ r. ⌜ r ≡ entriesOf (forestAt (now (rows .entry)) row (end - row)) ⌝ }
-{
-    if word(rows, row, ROLE) != 2 {
-        return refusal::MUST_BE_NON_NULL;
-    }
-    if word(rows, row, KIND) != STRUCT as usize {
-        return refusal::WRONG_MAP_ENTRIES;
-    }
-    let behind = row + word(rows, row, ROWS);
-    let key = row + 1;
-    if key >= behind {
-        return refusal::WRONG_MAP_ENTRIES;
-    }
-    let value = key + word(rows, key, ROWS);
-    if value >= behind {
-        return refusal::WRONG_MAP_ENTRIES;
-    }
-    if value + word(rows, value, ROWS) != behind {
-        return refusal::WRONG_MAP_ENTRIES;
-    }
-    if word(rows, key, ROLE) != 2 {
-        return refusal::MUST_BE_NON_NULL;
-    }
-    0
 }

@@ -1,31 +1,34 @@
-// Tokens where one is needed or looked for: the small functions of the Rust's `Parser`.
+// One token where it is needed or looked for: the small functions of the Rust's `Parser`.
 ghost use mathlib.Core.Path.{_≡_};
 ghost use mathlib.Core.Bool.{true, false};
-ghost use Prim.Native.Nat.{_+_, _≤_, _<_};
+ghost use Prim.Native.Nat.{_≤_, _<_};
 ghost use lib.ListN.{length, getD};
 ghost use Rattle.tokenizer.specs.Text.{if_then_else_};
 ghost use Rattle.tokenizer.specs.Places.{afterSpaces};
-ghost use Rattle.tokenizer.specs.Token.{tokenAt, doubleQuoted, singleQuoted, typeWord, timeUnit, intervalUnit, unionMode, mapSorted, fieldWord, xWord};
+ghost use Rattle.tokenizer.specs.Token.{doubleQuoted, singleQuoted, typeWord, timeUnit, intervalUnit, unionMode, mapSorted, fieldWord, xWord};
 ghost use Rattle.tokenizer.specs.declared.TokenKind.the-variants.{Integer};
-ghost use Rattle.datatype.specs.Kind.{unitFits};
-ghost use Rattle.parser.specs.Parse.{refusalOf, need, roleAt, afterRole, numberIn, unitAt, someZone, zoneString, zoneAt, listNameAt, stands};
+ghost use Rattle.parser.specs.Parse.{refusalOf, need, roleAt, afterRole, numberIn, lengthAt, precisionAt, signedByteAt, stands};
 ghost use Rattle.parser.specs.Internal.Sought.{Found};
-ghost use Rattle.parser.specs.Internal.Steps.{markSort, isMark, stepOf, lookOf, valuedOf, numberOf, quotedOf, zoneStep};
+ghost use Rattle.parser.specs.Internal.Steps.{markSort, isMark, stepOf, lookOf, valuedOf, numberOf, quotedOf};
 use crate::Look;
 use crate::Nullability;
 use crate::Number;
 use crate::Quoted;
+use crate::Signed;
+use crate::Span;
 use crate::Step;
 use crate::Valued;
 use crate::quick::Word;
 use crate::quick::behind_word;
 use crate::quick::type_word;
 use crate::quick::unit_word;
+use datatype::rows::NON_NULL;
+use datatype::rows::NULLABLE;
 use tokenizer::TokenKind;
 use tokenizer::refusal;
 
 // The refusal at a token that is not of the sort needed.
-fn refusal_of(kind: TokenKind) -> u32
+pub(crate) fn refusal_of(kind: TokenKind) -> u32
     ensures { λ r. ⌜ r ≡ refusalOf kind ⌝ }
 {
     let TokenKind::Refused(n) = kind else {
@@ -96,21 +99,24 @@ fn nullability_word(text: &[u8], at: usize, from: usize) -> Nullability
     let sure = behind_word(text, from, b"non-null");
     if sure > 0 {
         return Nullability {
-            role: 2,
+            role: NON_NULL,
             next: sure,
         };
     }
     let null = behind_word(text, from, b"nullable");
     if null > 0 {
         return Nullability {
-            role: 1,
+            role: NULLABLE,
             next: null,
         };
     }
     let token = tokenizer::next_token(text, from);
     let kind = token.kind;
     let TokenKind::Nullability(role) = kind else {
-        return Nullability { role: 1, next: at };
+        return Nullability {
+            role: NULLABLE,
+            next: at,
+        };
     };
     Nullability {
         role: role,
@@ -127,7 +133,10 @@ fn nullability_behind(text: &[u8], at: usize) -> Nullability
     if starts(text, from, b'n') {
         return nullability_word(text, at, from);
     }
-    Nullability { role: 1, next: at }
+    Nullability {
+        role: NULLABLE,
+        next: at,
+    }
 }
 
 // Whether a capital letter stands at a place, as in every word of a type.
@@ -158,12 +167,15 @@ pub(crate) fn parse_opt_nullable(text: &[u8], at: usize) -> Nullability
     }
     let from = at + 1;
     if starts_type(text, from) {
-        return Nullability { role: 1, next: at };
+        return Nullability {
+            role: NULLABLE,
+            next: at,
+        };
     }
     let sure = behind_word(text, from, b"non-null");
     if sure > 0 {
         return Nullability {
-            role: 2,
+            role: NON_NULL,
             next: sure,
         };
     }
@@ -195,7 +207,11 @@ pub(crate) fn parse_double_quoted_string(text: &[u8], at: usize) -> Quoted
     let TokenKind::DoubleQuotedString = kind else {
         return Quoted::Refused(refusal_of(kind));
     };
-    Quoted::String(token.start, token.size, token.next)
+    Quoted::String(Span {
+        start: token.start,
+        size: token.size,
+        next: token.next,
+    })
 }
 
 // A single-quoted string is needed.
@@ -207,7 +223,11 @@ pub(crate) fn parse_single_quoted_string(text: &[u8], at: usize) -> Quoted
     let TokenKind::SingleQuotedString = kind else {
         return Quoted::Refused(refusal_of(kind));
     };
-    Quoted::String(token.start, token.size, token.next)
+    Quoted::String(Span {
+        start: token.start,
+        size: token.size,
+        next: token.next,
+    })
 }
 
 // The word of a type is needed.
@@ -217,14 +237,17 @@ pub(crate) fn parse_type_word(text: &[u8], at: usize) -> Valued
     let from = tokenizer::skip_spaces(text, at);
     let word = type_word(text, from);
     if word.next > 0 {
-        return Valued::Value(word.value, word.next);
+        return Valued::Value(word);
     }
     let token = tokenizer::next_token(text, at);
     let kind = token.kind;
     let TokenKind::DataType(k) = kind else {
         return Valued::Refused(refusal_of(kind));
     };
-    Valued::Value(k, token.next)
+    Valued::Value(Word {
+        value: k,
+        next: token.next,
+    })
 }
 
 pub(crate) fn parse_time_unit(text: &[u8], at: usize) -> Valued
@@ -233,14 +256,17 @@ pub(crate) fn parse_time_unit(text: &[u8], at: usize) -> Valued
     let from = tokenizer::skip_spaces(text, at);
     let word = unit_word(text, from);
     if word.next > 0 {
-        return Valued::Value(word.value, word.next);
+        return Valued::Value(word);
     }
     let token = tokenizer::next_token(text, at);
     let kind = token.kind;
     let TokenKind::TimeUnit(unit) = kind else {
         return Valued::Refused(refusal_of(kind));
     };
-    Valued::Value(unit, token.next)
+    Valued::Value(Word {
+        value: unit,
+        next: token.next,
+    })
 }
 
 pub(crate) fn parse_interval_unit(text: &[u8], at: usize) -> Valued
@@ -251,7 +277,10 @@ pub(crate) fn parse_interval_unit(text: &[u8], at: usize) -> Valued
     let TokenKind::IntervalUnit(unit) = kind else {
         return Valued::Refused(refusal_of(kind));
     };
-    Valued::Value(unit, token.next)
+    Valued::Value(Word {
+        value: unit,
+        next: token.next,
+    })
 }
 
 pub(crate) fn parse_union_mode(text: &[u8], at: usize) -> Valued
@@ -262,8 +291,14 @@ pub(crate) fn parse_union_mode(text: &[u8], at: usize) -> Valued
     let TokenKind::UnionMode(mode) = kind else {
         return Valued::Refused(refusal_of(kind));
     };
-    Valued::Value(mode, token.next)
+    Valued::Value(Word {
+        value: mode,
+        next: token.next,
+    })
 }
+
+// The number of the word `unsorted`.
+const UNSORTED: u32 = 0;
 
 pub(crate) fn parse_map_sorted(text: &[u8], at: usize) -> Valued
     ensures { λ r. ⌜ r ≡ valuedOf (need (now (text .entry)) mapSorted at) ⌝ }
@@ -271,18 +306,24 @@ pub(crate) fn parse_map_sorted(text: &[u8], at: usize) -> Valued
     let from = tokenizer::skip_spaces(text, at);
     let plain = behind_word(text, from, b"unsorted");
     if plain > 0 {
-        return Valued::Value(0, plain);
+        return Valued::Value(Word {
+            value: UNSORTED,
+            next: plain,
+        });
     }
     let token = tokenizer::next_token(text, at);
     let kind = token.kind;
     let TokenKind::MapSorted(sorted) = kind else {
         return Valued::Refused(refusal_of(kind));
     };
-    Valued::Value(sorted, token.next)
+    Valued::Value(Word {
+        value: sorted,
+        next: token.next,
+    })
 }
 
 // The word `field` is needed.
-fn expect_field(text: &[u8], at: usize) -> Step
+pub(crate) fn expect_field(text: &[u8], at: usize) -> Step
     ensures { λ r. ⌜ r ≡ stepOf (need (now (text .entry)) fieldWord at) ⌝ }
 {
     let token = tokenizer::next_token(text, at);
@@ -304,6 +345,17 @@ pub(crate) fn next_if_x(text: &[u8], at: usize) -> Look
     };
     Look::Next(token.next)
 }
+
+// ---- numbers
+
+// The greatest magnitudes: of a negative signed byte and of one that is not, of a byte, and of 32 signed bits.
+const I8_LEAST: u64 = 128;
+
+const I8_MOST: u64 = 127;
+
+const U8_MOST: u64 = 255;
+
+const I32_MOST: u64 = 2147483647;
 
 // The greatest magnitude of a number by its sign.
 fn limit(negative: bool, least: u64, most: u64) -> u64
@@ -371,11 +423,15 @@ fn number_token(text: &[u8], at: usize, least: u64, most: u64) -> Number
     if magnitude > limit(negative, least, most) {
         return Number::Refused(refusal::NUMBER_OUT_OF_RANGE);
     }
-    Number::Value(negative, magnitude, token.next)
+    Number::Value(Signed {
+        negative: negative,
+        magnitude: magnitude,
+        next: token.next,
+    })
 }
 
-// A number from -least to most is needed: the Rust's `parse_i8`, `parse_u8` and `parse_i32`.
-pub(crate) fn parse_number(text: &[u8], at: usize, least: u64, most: u64) -> Number
+// A number from -least to most is needed.
+fn parse_number(text: &[u8], at: usize, least: u64, most: u64) -> Number
     ensures { λ r. ⌜ r ≡ numberOf (numberIn (now (text .entry)) least most at) ⌝ }
 {
     let from = tokenizer::skip_spaces(text, at);
@@ -383,118 +439,48 @@ pub(crate) fn parse_number(text: &[u8], at: usize, least: u64, most: u64) -> Num
     let magnitude = short.value as u64;
     if short.next > 0 {
         if magnitude <= most {
-            return Number::Value(false, magnitude, short.next);
+            return Number::Value(Signed {
+                negative: false,
+                magnitude: magnitude,
+                next: short.next,
+            });
         }
     }
     number_token(text, at, least, most)
 }
 
 // A number from 0 to most is needed.
-pub(crate) fn parse_unsigned(text: &[u8], at: usize, most: u64) -> Valued
+fn parse_unsigned(text: &[u8], at: usize, most: u64) -> Valued
     requires { ⌜ most ≤ 2147483647 ⌝ }
     ensures { λ r. ⌜ r ≡ valuedOf (numberIn (now (text .entry)) 0 most at) ⌝ }
 {
-    match parse_number(text, at, 0, most) {
-        Number::Refused(n) => Valued::Refused(n),
-        Number::Value(_, magnitude, next) => Valued::Value(magnitude as u32, next),
-    }
-}
-
-// Whether a kind takes a unit: Time32 s and ms, Time64 µs and ns, the others all.
-fn unit_fits(kind: u32, unit: u32) -> bool
-    ensures { λ r. ⌜ r ≡ unitFits kind unit ⌝ }
-{
-    if kind == 16 {
-        return unit < 2;
-    }
-    if kind == 17 {
-        return 2 <= unit;
-    }
-    true
-}
-
-// The unit of a kind of time is needed.
-pub(crate) fn parse_unit(text: &[u8], kind: u32, at: usize) -> Valued
-    ensures { λ r. ⌜ r ≡ valuedOf (unitAt (now (text .entry)) kind at) ⌝ }
-{
-    match parse_time_unit(text, at) {
-        Valued::Refused(n) => Valued::Refused(n),
-        Valued::Value(unit, next) => {
-            if unit_fits(kind, unit) {
-                return Valued::Value(unit, next);
-            }
-            Valued::Refused(refusal::WRONG_TIME_UNIT)
-        }
-    }
-}
-
-// A zone in `Some(..)`, behind the word.
-fn parse_some(text: &[u8], at: usize) -> Quoted
-    ensures { λ r. ⌜ r ≡ zoneStep (someZone (now (text .entry)) at) ⌝ }
-{
-    let open = match expect_token(text, at, b'(') {
-        Step::Next(next) => next,
-        Step::Refused(n) => {
-            return Quoted::Refused(n);
-        }
+    let number = match parse_number(text, at, 0, most) {
+        Number::Value(number) => number,
+        Number::Refused(n) => return Valued::Refused(n),
     };
-    match parse_double_quoted_string(text, open) {
-        Quoted::Refused(n) => Quoted::Refused(n),
-        Quoted::String(start, size, behind) => match expect_token(text, behind, b')') {
-            Step::Refused(n) => Quoted::Refused(n),
-            Step::Next(next) => Quoted::String(start, size, next),
-        },
-    }
+    Valued::Value(Word {
+        value: number.magnitude as u32,
+        next: number.next,
+    })
 }
 
-// A timestamp's zone behind the comma: a string, `Some(string)` or `None`.
-fn parse_zone_string(text: &[u8], at: usize) -> Quoted
-    ensures { λ r. ⌜ r ≡ zoneStep (zoneString (now (text .entry)) at) ⌝ }
+// The Rust's `parse_i8`: a scale or a union id.
+pub(crate) fn parse_i8(text: &[u8], at: usize) -> Number
+    ensures { λ r. ⌜ r ≡ numberOf (signedByteAt (now (text .entry)) at) ⌝ }
 {
-    let token = tokenizer::next_token(text, at);
-    let kind = token.kind;
-    match kind {
-        TokenKind::None => Quoted::String(0, 0, token.next),
-        TokenKind::Some => parse_some(text, token.next),
-        TokenKind::DoubleQuotedString => Quoted::String(token.start, token.size, token.next),
-        _ => Quoted::Refused(refusal_of(kind)),
-    }
+    parse_number(text, at, I8_LEAST, I8_MOST)
 }
 
-// What follows a timestamp's unit: the closing mark, or a comma, a zone and the closing mark.
-pub(crate) fn parse_zone(text: &[u8], at: usize) -> Quoted
-    ensures { λ r. ⌜ r ≡ zoneStep (zoneAt (now (text .entry)) at) ⌝ }
+// The Rust's `parse_u8`: a precision.
+pub(crate) fn parse_u8(text: &[u8], at: usize) -> Valued
+    ensures { λ r. ⌜ r ≡ valuedOf (precisionAt (now (text .entry)) at) ⌝ }
 {
-    if let Look::Next(next) = next_if(text, at, b')') {
-        return Quoted::String(0, 0, next);
-    }
-    let from = match expect_token(text, at, b',') {
-        Step::Next(next) => next,
-        Step::Refused(n) => {
-            return Quoted::Refused(n);
-        }
-    };
-    match parse_zone_string(text, from) {
-        Quoted::Refused(n) => Quoted::Refused(n),
-        Quoted::String(start, size, behind) => match expect_token(text, behind, b')') {
-            Step::Refused(n) => Quoted::Refused(n),
-            Step::Next(next) => Quoted::String(start, size, next),
-        },
-    }
+    parse_unsigned(text, at, U8_MOST)
 }
 
-// A list's name behind the comma.
-pub(crate) fn parse_list_name(text: &[u8], at: usize) -> Quoted
-    ensures { λ r. ⌜ r ≡ quotedOf (listNameAt (now (text .entry)) at) ⌝ }
+// The Rust's `parse_i32`, of which no negative number is taken: a length.
+pub(crate) fn parse_length(text: &[u8], at: usize) -> Valued
+    ensures { λ r. ⌜ r ≡ valuedOf (lengthAt (now (text .entry)) at) ⌝ }
 {
-    let word = match expect_field(text, at) {
-        Step::Next(next) => next,
-        Step::Refused(n) => {
-            return Quoted::Refused(n);
-        }
-    };
-    match expect_token(text, word, b':') {
-        Step::Refused(n) => Quoted::Refused(n),
-        Step::Next(next) => parse_single_quoted_string(text, next),
-    }
+    parse_unsigned(text, at, I32_MOST)
 }

@@ -12,10 +12,10 @@ use Rattle.tokenizer.specs.Text.{same}
 use Rattle.datatype.specs.Tree.{nameOf, zoneOf, labelOf, part}
 use Rattle.datatype.specs.Table.{rowWords, rowOf}
 use Rattle.row_table.specs.Sound.{isSound, depthOf}
-use Rattle.row_table.specs.Equal.{equalTrees}
-use Rattle.row_table.specs.Layout.{verdictOf, verdictMeans}
-use Rattle.row_table.specs.declared.Verdict.{Verdict}
-use Rattle.row_table.specs.declared.Verdict.the-variants.{Yes, Row, Refused}
+use Rattle.subtrees.specs.Equal.{equalTrees}
+use Rattle.layout.specs.Layout.{verdictOf, verdictMeans}
+use Rattle.layout.specs.declared.Verdict.{Verdict}
+use Rattle.layout.specs.declared.Verdict.the-variants.{Yes, Row, Refused}
 use Rattle.arrow_types.specs.Status.{statusOf, valueOf, flag}
 use Rattle.replay.specs.Sample.{numberAt, numbersAt, afterNumbers, afterPart, counted}
 use Rattle.replay.specs.TableCase.{tableAt, tableCaseAt, verdictValue, isVerdict, treeAlike, rowAlike, changeAlike, oneChange, changes, groupCases, groupOf, oneGroup, groups, tableAll}

@@ -14,8 +14,8 @@ use Rattle.tokenizer.specs.Answer.{Out, refused, done}
 use Rattle.datatype.specs.Tree.{labelOf}
 use Rattle.datatype.specs.Table.{rowWords, rowOf}
 use Rattle.row_table.specs.Sound.{isSound, depthOf}
-use Rattle.row_table.specs.Equal.{equalTrees}
-use Rattle.row_table.specs.Layout.{verdictOf}
+use Rattle.subtrees.specs.Equal.{equalTrees}
+use Rattle.layout.specs.Layout.{verdictOf}
 use Rattle.arrow_types.specs.Status.{statusOf, valueOf, flag}
 use Rattle.replay.specs.Sample.{numberAt, numbersAt, afterNumbers, afterPart, counted}
 use Rattle.replay.specs.PrintCase.{bytesOf}

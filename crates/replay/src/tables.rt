@@ -4,7 +4,7 @@ ghost use mathlib.Core.Path.{_≡_};
 ghost use Prim.Native.Nat.{_*_, _/_};
 ghost use lib.ListN.{length, getD, set};
 ghost use Rattle.datatype.specs.Table.{rowWords};
-ghost use Rattle.row_table.specs.Layout.{verdictMeans};
+ghost use Rattle.layout.specs.Layout.{verdictMeans};
 ghost use Rattle.replay.specs.TableCase.{tableAt, tableCaseAt, isVerdict, treeAlike, rowAlike, changeAlike, oneChange, changes, groupCases, groupOf, oneGroup, tableAll};
 use crate::Answer;
 use crate::Table;
@@ -23,7 +23,7 @@ use datatype::rows::NAME_START;
 use datatype::rows::ROW_WORDS;
 use datatype::rows::ZONE_LENGTH;
 use datatype::rows::ZONE_START;
-use row_table::Verdict;
+use layout::Verdict;
 
 // What stands before the words of a table.
 fn table_at(sample: &[u8], at: usize) -> Table
@@ -135,7 +135,7 @@ fn tree_alike(text: &[u8], list: &[u8], words: &[u32], case: TableCase) -> bool
     if depth != case.depth.value as usize {
         return false;
     }
-    let verdict = row_table::layout::verdict(text, list, words);
+    let verdict = layout::verdict_of(text, list, words);
     is_verdict(verdict, case.verdict.status, case.verdict.value)
 }
 

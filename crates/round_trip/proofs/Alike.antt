@@ -23,7 +23,7 @@ use Rattle.tokenizer.proofs.Utf8Laws.{utf8-append}
 use Rattle.datatype.specs.Kind.{list, decimal, kinds, decimal32Kind, shapeOf, decimalFits}
 use Rattle.datatype.specs.Tree.{Forest, ∅, node, Row, Label}
 use Rattle.datatype.proofs.Tests.{below-at}
-use Rattle.row_table.specs.Parents.{withParent, parentedFrom, parented}
+use Rattle.subtrees.specs.Parents.{withParent, parentedFrom, parented}
 use Rattle.parser.specs.Parse.{Tree, bareRow, single, need, closeAt, listField, listAt, decimalAt, shapeAt, typeWith, typeAt}
 use Rattle.parser.proofs.FirstType.{first-type}
 use Rattle.datatype_parse.specs.Parse.{textOver, parse}

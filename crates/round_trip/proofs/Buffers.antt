@@ -10,7 +10,7 @@ use Rattle.tokenizer.specs.Answer.{done}
 use Rattle.datatype.specs.Tree.{Forest, count, Row}
 use Rattle.datatype.specs.Table.{rowWords, tableOf, treeOf, rowsLent}
 use Rattle.row_table.specs.Sound.{isSound}
-use Rattle.row_table.specs.Equal.{equalTrees}
+use Rattle.subtrees.specs.Equal.{equalTrees}
 use Rattle.datatype.proofs.Table.{length-table}
 use Rattle.datatype_parse.specs.Parse.{parse, filled, parseAnswer, parseRows}
 use Rattle.datatype_display.specs.Print.{printAnswer, printBytes}

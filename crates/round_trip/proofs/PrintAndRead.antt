@@ -14,7 +14,7 @@ use lib.Dec.{T}
 use Rattle.tokenizer.specs.Answer.{Out, refused, done, refuse}
 use Rattle.datatype.specs.Tree.{count}
 use Rattle.datatype.specs.Table.{rowWords, treeOf}
-use Rattle.row_table.specs.Equal.{equalTrees}
+use Rattle.subtrees.specs.Equal.{equalTrees}
 use Rattle.datatype_parse.specs.Parse.{parseAnswer, parseRows, parsedMeans}
 use Rattle.datatype_parse.specs.declared.Parsed.{Parsed}
 use Rattle.datatype_parse.specs.declared.Parsed.the-variants as parsed

@@ -12,8 +12,8 @@ use Rattle.tokenizer.specs.declared.TokenKind.the-variants.{Refused}
 use Rattle.datatype.specs.Kind.{Shape, leaf, timestamp, time, interval, fixed, list, fixedList, struct, union, dictionary, decimal, mapping, runEnds, shapeOf}
 use Rattle.datatype.specs.Tree.{Forest, ∅, node, count, depth, Row, Label, nameList, labels}
 use Rattle.row_table.specs.Sound.{Place, bare}
-use Rattle.row_table.specs.Parents.{parented}
-use Rattle.row_table.proofs.ParentFixed.{labels-parented}
+use Rattle.subtrees.specs.Parents.{parented}
+use Rattle.subtrees.proofs.ParentFixed.{labels-parented}
 use Rattle.row_table.proofs.SoundTree.{rulesAt}
 use Rattle.parser.specs.Parse.{Tree, single, shapeAt, typeWith, typeAt}
 use Rattle.parser.proofs.FirstType.{first-type}

@@ -21,12 +21,12 @@ use Rattle.tokenizer.proofs.Basics.{and-l, and-r, both, is-true}
 use Rattle.datatype.specs.Tree.{Forest, ∅, node, count, depth, Row, Label, nameList, labelOf, labels}
 use Rattle.datatype.specs.Table.{tableOf, treeOf}
 use Rattle.row_table.specs.Sound.{bare, rowsFit, isSound}
-use Rattle.row_table.specs.Equal.{equalTrees}
+use Rattle.subtrees.specs.Equal.{equalTrees}
 use Rattle.datatype.proofs.Table.{table-view}
 use Rattle.row_table.proofs.SoundTree.{SoundTree, sound-tree, sound-labels}
-use Rattle.row_table.proofs.RowList.{count-labels}
-use Rattle.row_table.proofs.LevelLaws.{depth-labels}
-use Rattle.row_table.proofs.Equivalence.{labels-equal}
+use Rattle.subtrees.proofs.RowList.{count-labels}
+use Rattle.row_table.proofs.DepthLaws.{depth-labels}
+use Rattle.subtrees.proofs.Equivalence.{labels-equal}
 use Rattle.datatype_parse.specs.Parse.{parse}
 use Rattle.datatype_parse.proofs.MoreRows.{more-rows}
 use Rattle.datatype_parse.proofs.ReadSound.{read-sound}

@@ -13,7 +13,7 @@ use Rattle.tokenizer.proofs.Basics.{of-true}
 use Rattle.datatype.specs.Kind.{Shape, leaf, timestamp, time, interval, fixed, list, fixedList, struct, union, dictionary, decimal, mapping, runEnds, kinds, shapeOf}
 use Rattle.datatype.specs.Tree.{Forest, ∅, node, count, roots, Row, Label, nameList, nameOf, zoneOf, labelOf, labels}
 use Rattle.row_table.specs.Sound.{rolesOf, idsOf}
-use Rattle.row_table.proofs.RowList.{count-labels}
+use Rattle.subtrees.proofs.RowList.{count-labels}
 use Rattle.parser.specs.Parse.{Name, Tree, Fields, bareRow, fieldRow, stands, roleAt, afterRole}
 use Rattle.datatype_display.specs.Display.{Shown, kindWord, nullityText, shapeText, typeText, shown}
 use Rattle.round_trip.proofs.Tokens.{Stop, isListedWord, isWordOf, word-is, kind-word}

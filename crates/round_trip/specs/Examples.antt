@@ -11,7 +11,7 @@ use Rattle.tokenizer.specs.Answer.{Out, refused, done}
 use Rattle.datatype.specs.Limits.{maxText, maxRows}
 use Rattle.datatype.specs.Tree.{Forest, Row, count, nameList}
 use Rattle.datatype.specs.Table.{tableOf}
-use Rattle.row_table.specs.Parents.{parentColumn}
+use Rattle.subtrees.specs.Parents.{parentColumn}
 use Rattle.datatype_parse.specs.Internal.Computed as parser
 use Rattle.datatype_parse.specs.Parse.{parse}
 use Rattle.datatype_display.specs.Internal.Computed as printer

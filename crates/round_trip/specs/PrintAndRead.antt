@@ -9,7 +9,7 @@ use Rattle.tokenizer.specs.Answer.{Out, refused, done}
 use Rattle.datatype.specs.Tree.{count}
 use Rattle.datatype.specs.Table.{rowWords, treeOf}
 use Rattle.row_table.specs.Sound.{isSound}
-use Rattle.row_table.specs.Equal.{equalTrees}
+use Rattle.subtrees.specs.Equal.{equalTrees}
 use Rattle.datatype_parse.specs.Parse.{parseAnswer, parseRows}
 use Rattle.datatype_display.specs.Print.{print}
 use Rattle.round_trip.specs.Plain.{printed, inDemand3}

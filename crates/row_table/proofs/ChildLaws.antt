@@ -1,23 +1,26 @@
 -- What the functions of `children.rt` say of the children of a row.
 use mathlib.Core.Path.{_≡_, refl, sym, ap, _∙_}
 use mathlib.Core.Bool.{Bool, true, false, _&&_, _||_, and-true, false≢true}
-use mathlib.Core.List.{List, [], _∷_, map}
+use mathlib.Core.List.{List, map}
 use Prim.Native.Nat.{ℕ, zero, suc, _+_, _-_, _*_, _≤_, _<_}
 use native.Mathlib.Omega.{arith}
-use lib.ListN.{length, getD, length-map}
+use lib.ListN.{length, getD}
 use lib.Dec.{T, leb, ltb, eqb, eqb→eq, eqb·suc-suc}
-use borrow.Author.Tests.{lt-ltb, le-ltb, eq-eqb, ne-eqb, eqb-true, leb-true, ltb-true, ltb-false}
-use Rattle.tokenizer.specs.Text.{if_then_else_}
+use borrow.Author.Tests.{lt-ltb, le-ltb, eq-eqb, ne-eqb, leb-true, ltb-true, ltb-false}
 use Rattle.tokenizer.proofs.Basics.{and-r, is-true, of-true}
-use Rattle.datatype.specs.Kind.{Shape, leaf, timestamp, time, interval, fixed, list, fixedList, struct, union, dictionary, decimal, mapping, runEnds, kinds, shapeOf, keyRefusal, entriesRefusal, idsFit}
+use Rattle.datatype.specs.Kind.{Shape, leaf, timestamp, time, interval, fixed, list, fixedList, struct, union, dictionary, decimal, mapping, runEnds, kinds, shapeOf, idsFit}
 use Rattle.datatype.specs.Tree.{Forest, ∅, node, count, roots, Row}
 use Rattle.datatype.specs.Table.{rowWords, rowsAt}
 use Rattle.row_table.specs.Sound.{noChild, oneChild, twoChildren, arityFits, rulesOf}
-use Rattle.row_table.specs.Internal.Run.{rowAt, forestAt, Nests}
+use Rattle.subtrees.specs.Internal.Run.{rowAt, forestAt, Nests}
 use Rattle.row_table.specs.Internal.Check.{isDecimal, isList, entriesOk, firstNonNull, overKids, childrenFit}
+use Rattle.subtrees.specs.MapEntries.{entriesRefusalAt}
+use Rattle.subtrees.specs.UnionFields.{typeIdsFit}
 use Rattle.datatype.proofs.Tests.{iff-eq, allBelow, below-at, sameBool, same-bool}
 use Rattle.datatype.proofs.KindLaws.{past-kinds}
-use Rattle.row_table.proofs.Runs.{Turn, turn, forest-none, count-forest}
+use Rattle.subtrees.proofs.EntryLaws.{entries-nest}
+use Rattle.subtrees.proofs.UnionLaws.{type-ids-fit}
+use Rattle.subtrees.proofs.Runs.{Turn, turn, forest-none, count-forest}
 
 -- ---- how many
 
@@ -37,9 +40,6 @@ module _ (table : List ℕ) (first end : ℕ) (h : Nests table first (end - firs
 
   pub two-1 : first ≡ end → false ≡ eqb (length (roots run)) 2
   two-1 e = rw (none-here e)
-
-  pub entries-1 : first ≡ end → false ≡ entriesOk run
-  entries-1 e = rw (none-here e)
 
   -- no tree exactly where there are no rows
   pub none-is : eqb first end ≡ eqb (length (roots run)) 0
@@ -78,22 +78,7 @@ module _ (table : List ℕ) (first end : ℕ) (h : Nests table first (end - firs
     pub kids-nest : Nests table (first + 1) (first + s - (first + 1)) × (first + 1 ≤ first + s)
     kids-nest = rw is (let w = child-turn .some-rows in (child-turn .kids, omega arith))
 
--- ---- Map's entries
-
-key-not : (rs : List ℕ) → eqb (length rs) 2 ≡ false → eqb (keyRefusal rs) 0 ≡ false
-key-not [] e = refl
-key-not (a ∷ []) e = refl
-key-not (a ∷ b ∷ []) e = absurd (false≢true (sym e))
-key-not (a ∷ b ∷ c ∷ rs) e = refl
-
-key-first : (x : ℕ) (rs : List ℕ) → eqb (length (x ∷ rs)) 2 ≡ true → eqb (keyRefusal (x ∷ rs)) 0 ≡ eqb x 2
-key-first x [] e = absurd (false≢true e)
-key-first x (b ∷ []) e = go (eqb x 2)
-  where
-    go : (t : Bool) → eqb (if t then 0 else 13) 0 ≡ t
-    go true = refl
-    go false = refl
-key-first x (b ∷ c ∷ rs) e = absurd (let z = eqb-true (suc (suc (suc (length rs)))) 2 e in omega arith)
+-- ---- Map's entries, run ends and union ids
 
 -- two trees: the first one's role is that of the first row
 module _ (table : List ℕ) (first end : ℕ) (h : Nests table first (end - first)) (l : first ≤ end) (two : eqb (length (roots (forestAt table first (end - first)))) 2 ≡ true) where
@@ -108,61 +93,18 @@ module _ (table : List ℕ) (first end : ℕ) (h : Nests table first (end - firs
       let room = h .room in
       omega arith
 
-  key-at : (v : ℕ) → v ≡ getD table (rowWords * first + 2) 0 → eqb (keyRefusal (map (λ c. c .role) (roots (forestAt table first (end - first))))) 0 ≡ eqb v 2
-  key-at v u = go (child-turn table first end h l two-some)
-    where
-      tail : Forest Row
-      tail = forestAt table (first + rowsAt table first) (end - (first + rowsAt table first))
-
-      keyed : (r : Row) (k n : Forest Row) → eqb (length (roots (node r k n))) 2 ≡ true → eqb (keyRefusal (map (λ c. c .role) (roots (node r k n)))) 0 ≡ eqb (r .role) 2
-      keyed r k n e = key-first (r .role) (map (λ c. c .role) (roots n)) (ap (λ (m : ℕ). eqb (suc m) 2) (length-map (roots n) (λ c. c .role)) ∙ e)
-
-      role-is : (rowAt table first) .role ≡ v
-      role-is = unfold rowAt in sym u
-
-      go : Turn table first end → eqb (keyRefusal (map (λ c. c .role) (roots (forestAt table first (end - first))))) 0 ≡ eqb v 2
-      go t = rw (t .is) (keyed (rowAt table first) (forestAt table (first + 1) (first + rowsAt table first - (first + 1))) tail (rw (t .is) at two)) ∙ ap (λ (m : ℕ). eqb m 2) role-is
-
   pub non-null-at : (v : ℕ) → v ≡ getD table (rowWords * first + 2) 0 → eqb v 2 ≡ firstNonNull (forestAt table first (end - first))
   unfolding rowAt
   non-null-at v u = rw (child-turn table first end h l two-some .is, u)
 
-module _ (table : List ℕ) (first end : ℕ) (h : Nests table first (end - first)) (l : first ≤ end) (some : first ≡ end → ⊥) where
-  abbrev roleAt : ℕ
-  roleAt = getD table (rowWords * first + 2) 0
+module _ (table : List ℕ) (first end : ℕ) (h : Nests table first (end - first)) (l : first ≤ end) where
+  -- one tree: it is Map's entries, or is refused as such
+  pub entries-at : (n : ℕ) → eqb (length (roots (forestAt table first (end - first)))) 1 ≡ true → n ≡ entriesRefusalAt table first → eqb n 0 ≡ entriesOk (forestAt table first (end - first))
+  entries-at n one e =
+      ap (λ (m : ℕ). eqb m 0) (e ∙ entries-nest table first end h (let d : first ≡ end → ⊥ = λ z. false≢true (one-1 table first end h l z ∙ one) in omega arith))
 
-  abbrev kindAt : ℕ
-  kindAt = getD table (rowWords * first + 0) 0
-
-  abbrev kidsAt : ℕ → Forest Row
-  kidsAt s = forestAt table (first + 1) (first + s - (first + 1))
-
-  -- the entries are judged by their role, their kind and the roles of their fields
-  entries-are : Turn table first end → entriesOk (forestAt table first (end - first)) ≡ eqb (entriesRefusal roleAt kindAt (map (λ c. c .role) (roots (kidsAt (rowsAt table first))))) 0
-  unfolding rowAt
-  entries-are t = rw (t .is)
-
-  pub entries-2 : (w : ℕ) → w ≡ roleAt → (w ≡ 2 → ⊥) → false ≡ entriesOk (forestAt table first (end - first))
-  unfolding entriesRefusal
-  entries-2 w e d = sym (entries-are (child-turn table first end h l some) ∙ rw (← e, ne-eqb w 2 d))
-
-  module _ (w : ℕ) (e : w ≡ roleAt) (two : w ≡ 2) where
-    pub entries-3 : (k : ℕ) → k ≡ kindAt → (k ≡ 32 → ⊥) → false ≡ entriesOk (forestAt table first (end - first))
-    unfolding entriesRefusal
-    entries-3 k f d = sym (entries-are (child-turn table first end h l some) ∙ rw (← e, two, ← f, ne-eqb k 32 d))
-
-    module _ (k : ℕ) (f : k ≡ kindAt) (str : k ≡ 32) (s : ℕ) (is : s ≡ rowsAt table first) where
-      entries-key : entriesOk (forestAt table first (end - first)) ≡ eqb (keyRefusal (map (λ c. c .role) (roots (kidsAt s)))) 0
-      unfolding entriesRefusal
-      entries-key = entries-are (child-turn table first end h l some) ∙ rw (← e, two, ← f, str, is)
-
-      pub entries-4 : eqb (length (roots (kidsAt s))) 2 ≡ false → false ≡ entriesOk (forestAt table first (end - first))
-      entries-4 q = sym (entries-key ∙ key-not (map (λ c. c .role) (roots (kidsAt s))) (ap (λ (n : ℕ). eqb n 2) (length-map (roots (kidsAt s)) (λ c. c .role)) ∙ q))
-
-      pub entries-5 : (v : ℕ) → eqb (length (roots (kidsAt s))) 2 ≡ true → v ≡ getD table (rowWords * (first + 1) + 2) 0 → eqb v 2 ≡ entriesOk (forestAt table first (end - first))
-      entries-5 v q u =
-          let nest = kids-nest table first end h l some s is in
-          sym (entries-key ∙ key-at table (first + 1) (first + s) (nest .0) (nest .1) q v u)
+  pub ids-at : (r : Bool) → r ≡ typeIdsFit table first end → r ≡ idsFit (map (λ c. c .unionId) (roots (forestAt table first (end - first))))
+  ids-at r e = e ∙ type-ids-fit table first end h l
 
 -- ---- the children of a kind
 

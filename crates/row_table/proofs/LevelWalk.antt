@@ -12,8 +12,8 @@ use Rattle.tokenizer.proofs.Basics.{of-true}
 use Rattle.datatype.specs.Tree.{count, depth}
 use Rattle.datatype.specs.Table.{rowWords, rowsAt}
 use Rattle.row_table.specs.Sound.{isSound}
-use Rattle.row_table.specs.Internal.Run.{forestAt, Nests}
-use Rattle.row_table.proofs.Runs.{Turn, turn}
+use Rattle.subtrees.specs.Internal.Run.{forestAt, Nests}
+use Rattle.subtrees.proofs.Runs.{Turn, turn}
 use Rattle.row_table.proofs.SoundTree.{SoundTree, sound-tree, sound-count, sound-nests, sound-forest}
 
 module _ (table : List ℕ) (level at end : ℕ) (nests : Nests table at (end - at)) (flat : depth (forestAt table at (end - at)) ≤ level) (l : at < end) where

@@ -1,12 +1,12 @@
 -- What the functions of `names.rt` look at: the name list, parts that cut no character, names and zones.
 use mathlib.Core.Path.{_≡_, refl, sym, ap, _∙_}
 use mathlib.Core.Bool.{Bool, true, false, not, _&&_, _||_, or-false}
-use mathlib.Core.List.{List, [], _∷_, _++_}
-use Prim.Native.Nat.{ℕ, zero, suc, _+_, _*_, _≤_, _<_}
+use mathlib.Core.List.{List, _++_}
+use Prim.Native.Nat.{ℕ, zero, suc, _+_, _≤_, _<_}
 use native.Mathlib.Omega.{arith}
 use lib.ListN.{length, take, drop, getD, take-append-drop, length-drop}
 use lib.Seq.{take-all, length-take-le, drop-drop}
-use lib.Dec.{T, leb, ltb, eqb, ltb→lt, eqb→eq}
+use lib.Dec.{T, leb, eqb, eqb→eq}
 use borrow.Author.Tests.{le-leb, lt-leb, eq-eqb, ne-eqb, leb-true, leb-false}
 use Rattle.tokenizer.specs.Text.{same, bytes, all}
 use Rattle.tokenizer.specs.Internal.Keys.{packed}

@@ -13,16 +13,16 @@ use lib.Dec.{T}
 use Rattle.tokenizer.specs.Utf8.{isUtf8}
 use Rattle.tokenizer.proofs.Basics.{of-true}
 use Rattle.datatype.specs.Tree.{Forest, ∅, node, count, depth, Row, nameList, labels}
-use Rattle.datatype.specs.Table.{tableOf, viewOf}
+use Rattle.datatype.specs.Table.{viewOf}
 use Rattle.datatype.proofs.Table.{view-table, table-view}
 use Rattle.row_table.specs.Sound.{bare, rowsFit, namePlaced, zonePlaced, placed, isSound}
-use Rattle.row_table.specs.Equal.{equalTrees}
-use Rattle.row_table.specs.Parents.{parentColumn, withParent, parentedFrom, parented, tableWith, withParents}
+use Rattle.subtrees.specs.Equal.{equalTrees}
+use Rattle.subtrees.specs.Parents.{parentColumn, withParent, parentedFrom, parented, tableWith, withParents}
 use Rattle.row_table.proofs.SoundTree.{SoundTree, tree-sound}
-use Rattle.row_table.proofs.ParentTree.{count-parented, view-with-parents}
-use Rattle.row_table.proofs.ParentFit.{parented-right}
-use Rattle.row_table.proofs.ParentFixed.{labels-fix, labels-parented}
-use Rattle.row_table.proofs.Equivalence.{equal-labels}
+use Rattle.subtrees.proofs.ParentTree.{count-parented, view-with-parents}
+use Rattle.subtrees.proofs.ParentFit.{parented-right}
+use Rattle.subtrees.proofs.ParentFixed.{labels-fix, labels-parented}
+use Rattle.subtrees.proofs.Equivalence.{equal-labels}
 
 pub depth-parented : (p i : ℕ) (f : Forest Row) → depth (parentedFrom p i f) ≡ depth f
 unfolding parentedFrom

@@ -1,28 +1,19 @@
 -- What the functions of `rules.rt` say of every kind: a rule of the table of shapes is one computed test.
 use mathlib.Core.Path.{_≡_, refl, sym, ap, _∙_}
-use mathlib.Core.Bool.{Bool, true, false, _&&_, _||_, and-true, false≢true}
+use mathlib.Core.Bool.{Bool, true, false, _&&_, _||_, and-true, and-false, false≢true}
 use mathlib.Core.List.{List, [], _∷_}
 use Prim.Native.Nat.{ℕ, _+_, _≤_, _<_}
 use native.Mathlib.Omega.{arith}
-use lib.Dec.{T, leb, ltb, eqb, leb→le, ltb→lt, lt→ltb, eqb→eq}
-use borrow.Author.Tests.{le-leb, lt-leb, lt-ltb, le-ltb, ne-eqb, ltb-true, ltb-false}
+use lib.Dec.{T, leb, ltb, eqb, leb→le, lt→ltb, eqb→eq}
+use borrow.Author.Tests.{lt-ltb, le-ltb, ne-eqb, eqb-true, eqb-false, ltb-true, ltb-false}
 use Rattle.tokenizer.proofs.Basics.{and-l, and-r, both}
 use Rattle.datatype.specs.Kind.{Shape, leaf, timestamp, time, interval, fixed, list, fixedList, struct, union, dictionary, decimal, mapping, runEnds, kinds, shapeOf, unitFits, maxPrecision, decimalFits, has}
 use Rattle.row_table.specs.Sound.{Place, bare, field, unionField, rulesOf}
 use Rattle.row_table.specs.Internal.Check.{placeOf, belowOf, isDecimal, ownShape, numbersFit}
 use Rattle.datatype.proofs.Tests.{iff-eq, allBelow, below-at, sameBool, same-bool}
-use Rattle.datatype.proofs.KindLaws.{past-kinds}
+use Rattle.datatype.proofs.KindLaws.{past-kinds, unit-any}
 use Rattle.datatype.proofs.ShapeLaws.{else-value}
 use Rattle.tokenizer.proofs.Listed.{NoneOf}
-
--- ---- a kind between two others
-
-module _ (least k most : ℕ) where
-  pub between-below : k < least → false ≡ (leb least k && leb k most)
-  between-below h = rw (lt-leb least k h)
-
-  pub between-from : least ≤ k → leb k most ≡ (leb least k && leb k most)
-  between-from h = rw (le-leb least k h)
 
 -- ---- the four decimals
 
@@ -119,23 +110,43 @@ decimal-room k p s h t =
     let y = leb→le s (128 + p) (and-r (a && b) c t) in
     (omega arith, omega arith)
 
--- what a shape that is no decimal's asks of words 4 and 5
-plain-shape : (sh : Shape) (k p s : ℕ) → decimalShape sh ≡ false → (k ≡ 16 → ⊥) → (k ≡ 17 → ⊥)
+-- what a shape that is no decimal's asks of words 4 and 5, where it is not one of a time
+plain-shape : (sh : Shape) (k p s : ℕ) → decimalShape sh ≡ false → true ≡ unitFits k p
     → (ltb p ((rulesOf sh) .params) && ltb s ((rulesOf sh) .scales) && ownShape sh k p s) ≡ (ltb p ((rulesOf sh) .params) && ltb s 1)
-unfolding rulesOf unitFits
-plain-shape leaf k p s e a b = and-true _
-plain-shape timestamp k p s e a b = and-true _
-plain-shape time k p s e a b = rw (ne-eqb k 16 a, ne-eqb k 17 b) (and-true _)
-plain-shape interval k p s e a b = and-true _
-plain-shape fixed k p s e a b = and-true _
-plain-shape list k p s e a b = and-true _
-plain-shape fixedList k p s e a b = and-true _
-plain-shape struct k p s e a b = and-true _
-plain-shape union k p s e a b = and-true _
-plain-shape dictionary k p s e a b = and-true _
-plain-shape decimal k p s e a b = absurd (false≢true (sym e))
-plain-shape mapping k p s e a b = and-true _
-plain-shape runEnds k p s e a b = and-true _
+unfolding rulesOf
+plain-shape leaf k p s e u = and-true _
+plain-shape timestamp k p s e u = and-true _
+plain-shape time k p s e u = rw (← u) (and-true _)
+plain-shape interval k p s e u = and-true _
+plain-shape fixed k p s e u = and-true _
+plain-shape list k p s e u = and-true _
+plain-shape fixedList k p s e u = and-true _
+plain-shape struct k p s e u = and-true _
+plain-shape union k p s e u = and-true _
+plain-shape dictionary k p s e u = and-true _
+plain-shape decimal k p s e u = absurd (false≢true (sym e))
+plain-shape mapping k p s e u = and-true _
+plain-shape runEnds k p s e u = and-true _
+
+time-32 : shapeOf 16 ≡ time
+unfolding shapeOf
+time-32 = refl
+
+time-64 : shapeOf 17 ≡ time
+unfolding shapeOf
+time-64 = refl
+
+-- only Time32 and Time64 have units that do not fit
+no-unit : (k p s : ℕ) → unitFits k p ≡ false → numbersFit k p s ≡ false
+no-unit k p s u = go (eqb k 16) refl (eqb k 17) refl
+  where
+    timed : shapeOf k ≡ time → numbersFit k p s ≡ false
+    timed e = unfold numbersFit rulesOf in rw (e, u) (and-false (ltb p 4 && ltb s 1))
+
+    go : (a : Bool) → eqb k 16 ≡ a → (b : Bool) → eqb k 17 ≡ b → numbersFit k p s ≡ false
+    go true e b f = timed (ap shapeOf (eqb-true k 16 e) ∙ time-32)
+    go false e true f = timed (ap shapeOf (eqb-true k 17 f) ∙ time-64)
+    go false e false f = absurd (false≢true (sym u ∙ sym (unit-any k p (eqb-false k 16 e) (eqb-false k 17 f))))
 
 one-scale : (sh : Shape) → decimalShape sh ≡ false → (rulesOf sh) .scales ≡ 1
 unfolding rulesOf
@@ -166,21 +177,12 @@ module _ (k p s : ℕ) where
       (λ t. let w = decimal-room k p s h t in both (ltb p 256 && ltb s 256) (decimalFits k p s) (both (ltb p 256) (ltb s 256) (lt→ltb p 256 (w .0)) (lt→ltb s 256 (w .1))) t)
       (λ t. and-r (ltb p 256 && ltb s 256) (decimalFits k p s) t))
 
-  pub numbers-rest : (m : ℕ) → k < kinds → isDecimal k ≡ false → s ≤ 0 → (k ≡ 16 → ⊥) → (k ≡ 17 → ⊥) → m ≡ (rulesOf (shapeOf k)) .params → ltb p m ≡ numbersFit k p s
+  pub numbers-rest : (m : ℕ) (fits : Bool) → k < kinds → isDecimal k ≡ false → s ≤ 0 → fits ≡ unitFits k p → fits ≡ true → m ≡ (rulesOf (shapeOf k)) .params → ltb p m ≡ numbersFit k p s
   unfolding numbersFit
-  numbers-rest m h e z a b f = sym (plain-shape (shapeOf k) k p s (decimal-shape k h ∙ e) a b ∙ rw (← f, lt-ltb s 1 (omega arith)) (and-true _))
+  numbers-rest m fits h e z q u f = sym (plain-shape (shapeOf k) k p s (decimal-shape k h ∙ e) (sym u ∙ q) ∙ rw (← f, lt-ltb s 1 (omega arith)) (and-true _))
 
-  pub numbers-time32 : s ≤ 0 → k ≡ 16 → ltb p 2 ≡ numbersFit k p s
-  unfolding numbersFit rulesOf shapeOf unitFits
-  numbers-time32 z e = rw (e, lt-ltb s 1 (omega arith)) (iff-eq (ltb p 2) (ltb p 4 && true && ltb p 2) (λ t. both (ltb p 4 && true) (ltb p 2) (both (ltb p 4) true (let u = ltb→lt p 2 t in lt→ltb p 4 (omega arith)) tt) t) (λ t. and-r (ltb p 4 && true) (ltb p 2) t))
-
-  pub numbers-time64-low : s ≤ 0 → k ≡ 17 → p < 2 → false ≡ numbersFit k p s
-  unfolding numbersFit rulesOf shapeOf unitFits
-  numbers-time64-low z e l = rw (e, lt-ltb s 1 (omega arith), lt-ltb p 4 (omega arith), lt-leb 2 p l)
-
-  pub numbers-time64 : s ≤ 0 → k ≡ 17 → 2 ≤ p → ltb p 4 ≡ numbersFit k p s
-  unfolding numbersFit rulesOf shapeOf unitFits
-  numbers-time64 z e l = rw (e, lt-ltb s 1 (omega arith), le-leb 2 p l) (sym (and-true _ ∙ and-true _))
+  pub numbers-unit : (fits : Bool) → fits ≡ unitFits k p → fits ≡ false → false ≡ numbersFit k p s
+  numbers-unit fits q u = sym (no-unit k p s (sym q ∙ u))
 
   scales-one : (sh : Shape) → decimalShape sh ≡ false → 0 < s → (ltb p ((rulesOf sh) .params) && ltb s ((rulesOf sh) .scales) && ownShape sh k p s) ≡ false
   scales-one sh e l = rw (one-scale sh e, le-ltb s 1 (omega arith)) (and-off (ltb p ((rulesOf sh) .params)) (ownShape sh k p s))
@@ -196,7 +198,7 @@ module _ (k p s : ℕ) where
 
     pub numbers-one : s ≤ 0 → ltb p m ≡ numbersFit k p s
     unfolding rulesOf shapeOf
-    numbers-one z = numbers-rest m h (one-plain k m h one is) z (one-not k m h one is 16 4 refl (omega arith)) (one-not k m h one is 17 4 refl (omega arith)) is
+    numbers-one z = numbers-rest m true h (one-plain k m h one is) z (unit-any k p (one-not k m h one is 16 4 refl (omega arith)) (one-not k m h one is 17 4 refl (omega arith))) refl is
 
 -- ---- the place of a kind's children
 

@@ -15,14 +15,14 @@ use Rattle.datatype.specs.Kind.{kinds, shapeOf}
 use Rattle.datatype.specs.Tree.{Forest, ∅, node, count, depth, Row, nameList, labels}
 use Rattle.datatype.specs.Table.{rowWords, wordsOf, tableOf, join, viewOf, rowsAt}
 use Rattle.row_table.specs.Sound.{Place, bare, idFits, rulesOf, rowsFit, placed, isSound}
-use Rattle.row_table.specs.Internal.Run.{rowAt, runAt, isRun, runOr, forestAt, Nests}
+use Rattle.subtrees.specs.Internal.Run.{rowAt, runAt, isRun, runOr, forestAt, Nests}
 use Rattle.row_table.specs.Internal.Check.{placeOf, belowOf, numbersFit, nameOk, zoneOk, ownFits, childrenFit, runFits}
 use Rattle.datatype.proofs.Table.{table-view}
 use Rattle.datatype.proofs.Same.{same-eq}
 use Rattle.datatype.proofs.Tests.{iff-eq, false-of}
-use Rattle.row_table.specs.Internal.Climb.{parentsFit}
-use Rattle.row_table.proofs.ParentFit.{view-fits as parents-view}
-use Rattle.row_table.proofs.Runs.{run-step, run-none, no-rows, forest-none, run-all, run-is, view-rows}
+use Rattle.subtrees.specs.Parents.{parentsFit}
+use Rattle.subtrees.proofs.ParentFit.{view-fits as parents-view}
+use Rattle.subtrees.proofs.Runs.{run-step, run-none, no-rows, forest-none, run-all, run-is, view-rows}
 use Rattle.row_table.proofs.SoundTree.{SoundTree, sound-tree, tree-sound, sound-count}
 use Rattle.row_table.proofs.Clauses.{own-of, Run, run-of, of-run, run-in, run-out}
 

@@ -17,10 +17,10 @@ use Rattle.datatype.specs.Kind.{kinds, shapeOf}
 use Rattle.datatype.specs.Tree.{Forest, ∅, node, count, roots, depth, Row, Label, nameList, labels}
 use Rattle.datatype.specs.Table.{rowWords, viewOf, treeOf}
 use Rattle.row_table.specs.Sound.{Rules, Place, bare, arityFits, roleFits, idFits, nameFits, rulesOf, zoneFits, shapeFits, rowFits, rowsFit, placed, viewSound, isSound}
-use Rattle.row_table.specs.Parents.{parentsRight}
-use Rattle.row_table.specs.Internal.Run.{forestAt, Nests}
+use Rattle.subtrees.specs.Parents.{parentsRight}
+use Rattle.subtrees.specs.Internal.Run.{forestAt, Nests}
 use Rattle.datatype.proofs.Same.{same-eq, eq-same}
-use Rattle.row_table.proofs.Runs.{view-rows, nests-all, forest-all}
+use Rattle.subtrees.proofs.Runs.{view-rows, nests-all, forest-all}
 
 -- ---- one row
 

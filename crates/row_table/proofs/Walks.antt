@@ -3,7 +3,7 @@
 --   labels-turn            the labels of a run: its first row's, its children's, those of the run behind
 --   fits-turn, placed-turn   the clauses of soundness for the same three
 --   kind-word to scale-word, name-words, zone-words   what a row says, by the words that the code reads
-use mathlib.Core.Path.{_≡_, refl, sym, ap, _∙_, subst}
+use mathlib.Core.Path.{_≡_, refl}
 use mathlib.Core.Bool.{_&&_}
 use mathlib.Core.List.{List}
 use Prim.Native.Nat.{ℕ, _+_, _-_, _*_}
@@ -13,8 +13,8 @@ use Rattle.tokenizer.proofs.Basics.{and-l, and-r}
 use Rattle.datatype.specs.Tree.{Forest, node, Row, Label, nameOf, zoneOf, labelOf, labels}
 use Rattle.datatype.specs.Table.{rowWords, rowsAt}
 use Rattle.row_table.specs.Sound.{Place, namePlaced, zonePlaced, placed, rowsFit}
-use Rattle.row_table.specs.Internal.Run.{rowAt, forestAt}
-use Rattle.row_table.proofs.Runs.{Turn}
+use Rattle.subtrees.specs.Internal.Run.{rowAt, forestAt}
+use Rattle.subtrees.proofs.Runs.{Turn}
 use Rattle.row_table.proofs.SoundTree.{RowFits, rulesAt, rows-fit}
 
 module _ (text names table : List ℕ) (at end : ℕ) (t : Turn table at end) where

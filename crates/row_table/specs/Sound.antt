@@ -2,7 +2,7 @@
 use mathlib.Core.Bool.{Bool, true, false, _&&_, _||_}
 use mathlib.Core.List.{List, [], _∷_, map}
 use mathlib.Core.Option.{Option, none, some}
-use Prim.Native.Nat.{ℕ, zero, suc, _+_, _^_, min}
+use Prim.Native.Nat.{ℕ, zero, suc, _+_, _^_}
 use lib.ListN.{length}
 use lib.Dec.{leb, ltb, eqb}
 use Rattle.tokenizer.specs.Text.{if_then_else_, same, isEmpty}
@@ -12,7 +12,7 @@ use Rattle.datatype.specs.Limits.{maxText, maxRows, maxLevels}
 use Rattle.datatype.specs.Kind.{Shape, leaf, timestamp, time, interval, fixed, list, fixedList, struct, union, dictionary, decimal, mapping, runEnds, kinds, shapeOf, unitFits, decimalFits, entriesRefusal, idsFit}
 use Rattle.datatype.specs.Tree.{Forest, ∅, node, count, roots, depth, Row, Label, nameList, labels}
 use Rattle.datatype.specs.Table.{viewOf, treeOf}
-use Rattle.row_table.specs.Parents.{parentsRight}
+use Rattle.subtrees.specs.Parents.{parentsRight}
 use Rattle.row_table.specs.declared.Depth.{Depth}
 use Rattle.row_table.specs.declared.Depth.the-variants.{Levels, Refused}
 
@@ -178,18 +178,7 @@ viewSound text names (some f) =
 unfoldable pub isSound : List ℕ → List ℕ → List ℕ → Bool
 isSound text names table = leb (length text) maxText && isUtf8 text && same names nameList && viewSound text names (viewOf table)
 
--- ---- levels
-
--- How many levels a run of trees has, where it nests and has at most so many; one more than these else.
-unfoldable pub levelsUpTo : ℕ → Option (Forest Row) → ℕ
-levelsUpTo most none = suc most
-levelsUpTo most (some f) = min (depth f) (suc most)
-
--- How many levels the rows of a table have, by their subtrees alone: 0 where they do not nest, or have more than 64.
-unfoldable pub levelsOf : List ℕ → ℕ
-levelsOf table = let n = levelsUpTo maxLevels (viewOf table) in if leb n maxLevels then n else 0
-
--- The depth of a sound tree, else 17.
+-- ---- its depth, else 17
 
 unfoldable pub depthOf : List ℕ → List ℕ → List ℕ → Out ℕ
 depthOf text names table = if isSound text names table then done (depth (treeOf text names table)) else refuse 17

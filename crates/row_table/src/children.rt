@@ -5,12 +5,10 @@ ghost use lib.ListN.{length};
 ghost use lib.Dec.{eqb};
 ghost use Rattle.datatype.specs.Kind.{kinds};
 ghost use Rattle.datatype.specs.Tree.{∅, roots};
-ghost use Rattle.row_table.specs.Internal.Run.{Nests, forestAt};
-ghost use Rattle.row_table.specs.Internal.Check.{entriesOk, isList, childrenFit};
-use crate::ids::ids_fit;
+ghost use Rattle.subtrees.specs.Internal.Run.{Nests, forestAt};
+ghost use Rattle.row_table.specs.Internal.Check.{isList, childrenFit};
 use crate::rows::subtree;
 use crate::rows::word;
-use crate::rules::between;
 use crate::rules::is_decimal;
 use datatype::kind::DICTIONARY;
 use datatype::kind::LARGE_LIST_VIEW;
@@ -19,8 +17,11 @@ use datatype::kind::MAP;
 use datatype::kind::RUN_END_ENCODED;
 use datatype::kind::STRUCT;
 use datatype::kind::UNION;
-use datatype::rows::KIND;
+use datatype::kind::between;
+use datatype::rows::NON_NULL;
 use datatype::rows::ROLE;
+use subtrees::entries_refusal;
+use subtrees::try_new;
 
 // Whether rows first to end are one tree.
 fn one_child(rows: &[u32], first: usize, end: usize) -> bool
@@ -42,26 +43,6 @@ fn two_children(rows: &[u32], first: usize, end: usize) -> bool
         return false;
     }
     one_child(rows, first + subtree(rows, first), end)
-}
-
-// Whether rows first to end begin with Map's entries: a non-null Struct of two whose first is non-null.
-fn entries_fit(rows: &[u32], first: usize, end: usize) -> bool
-    requires { ⌜ Nests (now rows) first (end - first) × (first ≤ end) ⌝ }
-    ensures { λ r. ⌜ r ≡ entriesOk (forestAt (now (rows .entry)) first (end - first)) ⌝ }
-{
-    if first == end {
-        return false;
-    }
-    if word(rows, first, ROLE) != 2 {
-        return false;
-    }
-    if word(rows, first, KIND) != STRUCT {
-        return false;
-    }
-    if !two_children(rows, first + 1, first + subtree(rows, first)) {
-        return false;
-    }
-    word(rows, first + 1, ROLE) == 2
 }
 
 // Whether a kind is one of the lists, of fixed size or not.
@@ -97,7 +78,7 @@ pub(crate) fn children_fit(rows: &[u32], kind: u32, first: usize, end: usize) ->
         return true;
     }
     if kind == UNION {
-        return ids_fit(rows, first, end);
+        return try_new(rows, first, end);
     }
     if kind == DICTIONARY {
         return two_children(rows, first, end);
@@ -109,13 +90,13 @@ pub(crate) fn children_fit(rows: &[u32], kind: u32, first: usize, end: usize) ->
         if !one_child(rows, first, end) {
             return false;
         }
-        return entries_fit(rows, first, end);
+        return entries_refusal(rows, first) == 0;
     }
     if kind == RUN_END_ENCODED {
         if !two_children(rows, first, end) {
             return false;
         }
-        return word(rows, first, ROLE) == 2;
+        return word(rows, first, ROLE) == NON_NULL;
     }
     first == end
 }

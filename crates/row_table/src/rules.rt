@@ -1,8 +1,6 @@
 // What each kind asks of a row's numbers, and where its children stand.
 ghost use mathlib.Core.Path.{_≡_};
-ghost use mathlib.Core.Bool.{_&&_};
 ghost use Prim.Native.Nat.{_<_};
-ghost use lib.Dec.{leb};
 ghost use Rattle.datatype.specs.Kind.{kinds, shapeOf};
 ghost use Rattle.row_table.specs.Sound.{rulesOf};
 ghost use Rattle.row_table.specs.Internal.Check.{placeOf, belowOf, isDecimal, numbersFit};
@@ -21,16 +19,8 @@ use datatype::kind::TIME32;
 use datatype::kind::TIME64;
 use datatype::kind::TIMESTAMP;
 use datatype::kind::UNION;
-
-// Whether a kind lies between two others, in the order of `DataType`, or is one of them.
-pub(crate) fn between(least: u32, kind: u32, most: u32) -> bool
-    ensures { λ r. ⌜ r ≡ (leb least kind && leb kind most) ⌝ }
-{
-    if kind < least {
-        return false;
-    }
-    kind <= most
-}
+use datatype::kind::between;
+use datatype::kind::unit_fits;
 
 // Whether a kind is one of the four decimals.
 pub(crate) fn is_decimal(kind: u32) -> bool
@@ -87,14 +77,8 @@ pub(crate) fn numbers_fit(kind: u32, param: u32, scale: u32) -> bool
     if 0 < scale {
         return false;
     }
-    if kind == TIME32 {
-        return param < 2;
-    }
-    if kind == TIME64 {
-        if param < 2 {
-            return false;
-        }
-        return param < 4;
+    if !unit_fits(kind, param) {
+        return false;
     }
     param < values
 }

@@ -6,14 +6,13 @@ ghost use lib.Dec.{T};
 ghost use Rattle.tokenizer.specs.Utf8.{isUtf8};
 ghost use Rattle.datatype.specs.Table.{rowWords};
 ghost use Rattle.row_table.specs.Sound.{idFits, isSound};
-ghost use Rattle.row_table.specs.Internal.Run.{rowAt, runAt};
+ghost use Rattle.subtrees.specs.Internal.Run.{rowAt, runAt};
 ghost use Rattle.row_table.specs.Internal.Check.{placeOf, ownFits, runFits};
 use crate::children::children_fit;
 use crate::children::is_childless;
 use crate::names::is_name_list;
 use crate::names::name_fits;
 use crate::names::zone_fits;
-use crate::parents::parents_fit;
 use crate::rows::subtree;
 use crate::rows::word;
 use crate::rules::below;
@@ -33,6 +32,7 @@ use datatype::rows::SCALE;
 use datatype::rows::UNION_ID;
 use datatype::rows::ZONE_LENGTH;
 use datatype::rows::ZONE_START;
+use subtrees::parents_fit;
 
 // Whether the union id is one of a row in a place.
 fn id_fits(place: u32, id: u32) -> bool

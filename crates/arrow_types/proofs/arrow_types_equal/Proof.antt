@@ -4,7 +4,7 @@ use Rattle.arrow_types.proofs.arrow_types_equal.Statement.{statement}
 use Rattle.arrow_types.proofs.arrow_types_equal.Tie as tie
 use Rattle.arrow_types.proofs.arrow_types_equal.Reads as reads
 use Rattle.arrow_types.proofs.arrow_types_equal.Lts as lts
-use Rattle.row_table.proofs.equal_trees.Reads as equal-trees-reads
+use Rattle.subtrees.proofs.equal_trees.Reads as equal-trees-reads
 
 equal-trees-requires : tie.Need-equal-trees-requires
 equal-trees-requires c κs = search needs

@@ -4,10 +4,10 @@ use Rattle.arrow_types.proofs.arrow_types_verdict.Statement.{statement}
 use Rattle.arrow_types.proofs.arrow_types_verdict.Tie as tie
 use Rattle.arrow_types.proofs.arrow_types_verdict.Reads as reads
 use Rattle.arrow_types.proofs.arrow_types_verdict.Lts as lts
-use Rattle.row_table.proofs.layout.verdict.Reads as verdict-reads
+use Rattle.layout.proofs.verdict_of.Reads as verdict-of-reads
 
-verdict-requires : tie.Need-verdict-requires
-verdict-requires c κs = search needs
+verdict-of-requires : tie.Need-verdict-of-requires
+verdict-of-requires c κs = search needs
 
 enum-told : tie.Need-enum-told
 enum-told c = search needs
@@ -19,15 +19,15 @@ enum-known-n : tie.Need-enum-known-n
 enum-known-n c = search needs
 
 returns : tie.Need-returns
-returns c = verdict-yes _ _ (c .before .before .verdict .ensures) (c .enum-told .given .1)
+returns c = verdict-yes _ _ (c .before .before .verdict-of .ensures) (c .enum-told .given .1)
 
 returns-2 : tie.Need-returns-2
-returns-2 c = verdict-row _ _ (c .before .before .before .verdict .ensures) _ (c .before .i .given .1)
+returns-2 c = verdict-row _ _ (c .before .before .before .verdict-of .ensures) _ (c .before .i .given .1)
 
 returns-3 : tie.Need-returns-3
-returns-3 c = verdict-refused _ _ (c .before .before .before .verdict .ensures) _ (c .before .n .given .1)
+returns-3 c = verdict-refused _ _ (c .before .before .before .verdict-of .ensures) _ (c .before .n .given .1)
 
 pub arrow-types-verdict-spec : {M : Type 1} → statement M
 arrow-types-verdict-spec =
     tie.close
-    (tie.spec verdict-requires enum-told enum-known-i enum-known-n returns returns-2 returns-3)
+    (tie.spec verdict-of-requires enum-told enum-known-i enum-known-n returns returns-2 returns-3)

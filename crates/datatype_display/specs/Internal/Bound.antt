@@ -9,7 +9,7 @@ use lib.Dec.{ltb, eqb}
 use Rattle.tokenizer.specs.Text.{if_then_else_}
 use Rattle.datatype.specs.Limits.{maxText}
 use Rattle.datatype.specs.Table.{rowWords, treeOf}
-use Rattle.row_table.specs.Equal.{wholeRows}
+use Rattle.subtrees.specs.Equal.{wholeRows}
 use Rattle.datatype_display.specs.Display.{display}
 use Rattle.datatype_display.specs.Print.{quotedAscii}
 

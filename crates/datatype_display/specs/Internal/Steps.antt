@@ -13,7 +13,7 @@ use Rattle.datatype.specs.Limits.{maxText, maxRows}
 use Rattle.datatype.specs.Kind.{Shape, leaf, timestamp, time, interval, fixed, list, fixedList, struct, union, dictionary, decimal, mapping, runEnds, kinds, shapeOf}
 use Rattle.datatype.specs.Tree.{Forest, ∅, node, roots, depth, Label, labelOf, labels}
 use Rattle.datatype.specs.Table.{rowWords, rowsAt}
-use Rattle.row_table.specs.Internal.Run.{rowAt, forestAt, Nests}
+use Rattle.subtrees.specs.Internal.Run.{rowAt, forestAt, Nests}
 use Rattle.datatype_display.specs.Display.{kindWord, digits, unitText, intervalText, modeText, sortedText, scaleText, hex, quoted, listNameText, zoneText, Shown}
 use Rattle.datatype_display.specs.Print.{quotesNames, isAscii, namesAscii}
 use Rattle.datatype_display.specs.declared.shape.Shape.{Shape as CodeShape}

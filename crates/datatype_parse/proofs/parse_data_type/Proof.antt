@@ -10,7 +10,7 @@ use Rattle.datatype_parse.proofs.parse_data_type.Lts as lts
 use Rattle.datatype.proofs.clear_words.Reads as clear-words-reads
 use Rattle.datatype_parse.proofs.text_over.Reads as text-over-reads
 use Rattle.parser.proofs.parse_first_type.Reads as parse-first-type-reads
-use Rattle.row_table.proofs.set_first_parents.Reads as set-first-parents-reads
+use Rattle.subtrees.proofs.set_first_parents.Reads as set-first-parents-reads
 
 -- src/lib.rt:28:11
 parse-first-type-requires : tie.Need-parse-first-type-requires

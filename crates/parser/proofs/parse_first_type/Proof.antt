@@ -4,8 +4,7 @@ use Rattle.datatype.specs.Table.{rowsLent}
 use borrow.Author.Tests.{not-true, not-false}
 use Prim.Native.Nat.{ℕ}
 use lib.ListN.{length, replicate}
-use mathlib.Core.Path.{_≡_, sym, ap, _∙_}
-use native.Mathlib.Omega.{arith}
+use mathlib.Core.Path.{sym, ap, _∙_}
 use borrow.Author.Needs.{needs}
 use Rattle.parser.proofs.parse_first_type.Statement.{statement}
 use Rattle.parser.proofs.parse_first_type.Tie as tie

@@ -1,9 +1,9 @@
 -- What the answers of the reader's own functions mean, and how they and the rows match the definitions. This is how the
 -- code finds its way; what must be believed is in Parse.antt.
 use mathlib.Core.Path.{_≡_}
-use mathlib.Core.Bool.{Bool, true, false, _||_}
-use mathlib.Core.List.{List, [], _∷_, map}
-use Prim.Native.Nat.{ℕ, suc, _+_, _*_, _≤_}
+use mathlib.Core.Bool.{Bool, _||_}
+use mathlib.Core.List.{List, [], _∷_}
+use Prim.Native.Nat.{ℕ, _+_, _*_, _≤_}
 use lib.ListN.{length}
 use lib.Seq.{sets}
 use lib.Dec.{eqb}
@@ -12,10 +12,9 @@ use Rattle.tokenizer.specs.Answer.{Out, refused, done}
 use Rattle.tokenizer.specs.Token.{valueOf, isNegative, lparen, rparen, comma, colon}
 use Rattle.tokenizer.specs.declared.Token.{Token}
 use Rattle.datatype.specs.Limits.{maxText, maxRows}
-use Rattle.datatype.specs.Kind.{entriesRefusal}
-use Rattle.datatype.specs.Tree.{Forest, ∅, node, count, roots, Row}
+use Rattle.datatype.specs.Tree.{Forest, ∅, node, count, Row}
 use Rattle.datatype.specs.Table.{rowWords, wordsOf, tableOf}
-use Rattle.parser.specs.Parse.{Tree, Fields, Zone, Item, end, last, more, single, rowsIn, structItem, unionItem}
+use Rattle.parser.specs.Parse.{Name, Tree, Fields, Zone, single, rowsIn}
 use Rattle.parser.specs.declared.Step.{Step}
 use Rattle.parser.specs.declared.Step.the-variants as S
 use Rattle.parser.specs.declared.Look.{Look}
@@ -28,8 +27,9 @@ use Rattle.parser.specs.declared.Quoted.{Quoted}
 use Rattle.parser.specs.declared.Quoted.the-variants as Q
 use Rattle.parser.specs.declared.Read.{Read}
 use Rattle.parser.specs.declared.Read.the-variants as R
-use Rattle.parser.specs.declared.Turn.{Turn}
-use Rattle.parser.specs.declared.Turn.the-variants as T
+use Rattle.parser.specs.declared.quick.Word.{Word}
+use Rattle.parser.specs.declared.Signed.{Signed}
+use Rattle.parser.specs.declared.Span.{Span}
 
 -- ---- tokens
 
@@ -39,6 +39,16 @@ markSort c = if eqb c 40 then lparen else if eqb c 41 then rparen else if eqb c 
 
 abbrev pub isMark : ℕ → Bool
 isMark c = eqb c 40 || eqb c 41 || eqb c 44 || eqb c 58
+
+-- A word, a number and a string that were read.
+abbrev pub word : ℕ → ℕ → Word
+word v n = record { value = v; next = n }
+
+abbrev pub number : Bool → ℕ → ℕ → Signed
+number negative v n = record { negative = negative; magnitude = v; next = n }
+
+abbrev pub span : ℕ → ℕ → ℕ → Span
+span s l n = record { start = s; size = l; next = n }
 
 unfoldable pub stepOf : Out Token → Step
 stepOf (refused r) = S.Refused (r .number)
@@ -50,19 +60,19 @@ lookOf (done t) = L.Next (t .next)
 
 unfoldable pub valuedOf : Out Token → Valued
 valuedOf (refused r) = W.Refused (r .number)
-valuedOf (done t) = W.Value (valueOf (t .kind)) (t .next)
+valuedOf (done t) = W.Value (word (valueOf (t .kind)) (t .next))
 
 unfoldable pub numberOf : Out Token → Number
 numberOf (refused r) = N.Refused (r .number)
-numberOf (done t) = N.Value (isNegative (t .kind)) (valueOf (t .kind)) (t .next)
+numberOf (done t) = N.Value (number (isNegative (t .kind)) (valueOf (t .kind)) (t .next))
 
 unfoldable pub quotedOf : Out Token → Quoted
 quotedOf (refused r) = Q.Refused (r .number)
-quotedOf (done t) = Q.String (t .start) (t .size) (t .next)
+quotedOf (done t) = Q.String (span (t .start) (t .size) (t .next))
 
 unfoldable pub zoneStep : Out Zone → Quoted
 zoneStep (refused r) = Q.Refused (r .number)
-zoneStep (done z) = Q.String (z .start) (z .size) (z .next)
+zoneStep (done z) = Q.String (span (z .start) (z .size) (z .next))
 
 -- ---- rows
 
@@ -82,33 +92,28 @@ unfoldable pub Meets : Out Tree → ℕ → ℕ → List ℕ → Read → List �
 Meets (refused x) row left before r after = r ≡ R.Refused (x .number)
 Meets (done t) row left before r after = (r ≡ R.Tree (t .next) (rowsIn t)) × Stored (single t) row left before after
 
--- A row that is written in front of the rows of its children, behind the mark that closes the type.
+-- A row that is written in front of the rows of its children, and where the type ends.
+abbrev pub Put : ℕ → ℕ → ℕ → Row → List ℕ → Read → List ℕ → Type 0
+Put next row used r before a after = (a ≡ R.Tree next (used + 1)) × (after ≡ sets before (rowWords * row) (wordsOf r (used + 1)))
+
+-- The same, behind the mark that closes the type.
 unfoldable pub Closed : Out Token → ℕ → ℕ → Row → List ℕ → Read → List ℕ → Type 0
 Closed (refused x) row used r before a after = a ≡ R.Refused (x .number)
-Closed (done t) row used r before a after = (a ≡ R.Tree (t .next) (used + 1)) × (after ≡ sets before (rowWords * row) (wordsOf r (used + 1)))
+Closed (done t) row used r before a after = Put (t .next) row used r before a after
+
+-- The words that make a row a field's, as they are written; and for a name of the name list.
+abbrev pub FieldWords : List ℕ → ℕ → ℕ → ℕ → ℕ → ℕ → ℕ → List ℕ → Type 0
+FieldWords before row role id home start size after = after ≡ sets (sets before (rowWords * row + 2) (role ∷ id ∷ [])) (rowWords * row + 6) (home ∷ start ∷ size ∷ [])
+
+abbrev pub Named : List ℕ → ℕ → ℕ → Name → List ℕ → Type 0
+Named before row role n after = FieldWords before row role 0 (n .home) (n .start) (n .size) after
 
 -- Some fields.
 unfoldable pub MeetsFields : Out Fields → ℕ → ℕ → List ℕ → Read → List ℕ → Type 0
 MeetsFields (refused x) row left before r after = r ≡ R.Refused (x .number)
 MeetsFields (done fs) row left before r after = (r ≡ R.Tree (fs .next) (count (fs .trees))) × Stored (fs .trees) row left before after
 
--- One turn of the fields of a Union, kind 33, or of a Struct.
-abbrev pub itemOf : ℕ → List ℕ → (ℕ → ℕ → Out Tree) → ℕ → ℕ → Out Item
-itemOf k text type = if eqb k 33 then unionItem text type else structItem text type
-
--- One turn of reading fields.
-unfoldable pub MeetsTurn : Out Item → ℕ → ℕ → List ℕ → Turn → List ℕ → Type 0
-MeetsTurn (refused x) row left before r after = r ≡ T.Refused (x .number)
-MeetsTurn (done (end next)) row left before r after = (r ≡ T.End next) × (after ≡ before)
-MeetsTurn (done (last t next)) row left before r after = (r ≡ T.Last next (rowsIn t)) × Stored (single t) row left before after
-MeetsTurn (done (more t next)) row left before r after = (r ≡ T.More next (rowsIn t)) × Stored (single t) row left before after
-
 -- ---- rows read back
-
--- The refusal of Map's entries, the first tree of a run, or 0.
-unfoldable pub entriesOf : Forest Row → ℕ
-entriesOf ∅ = 14
-entriesOf (node r kids next) = entriesRefusal (r .role) (r .kind) (map (λ c. c .role) (roots kids))
 
 -- The role of the first tree of a run.
 unfoldable pub roleOf : Forest Row → ℕ

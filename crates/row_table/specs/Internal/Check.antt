@@ -8,8 +8,9 @@ use lib.ListN.{length, take}
 use lib.Dec.{leb, ltb, eqb}
 use Rattle.tokenizer.specs.Text.{if_then_else_}
 use Rattle.tokenizer.specs.Utf8.{utf8State, isUtf8}
-use Rattle.datatype.specs.Kind.{Shape, leaf, timestamp, time, interval, fixed, list, fixedList, struct, union, dictionary, decimal, mapping, runEnds, kinds, shapeOf, unitFits, decimalFits, entriesRefusal, idsFit}
+use Rattle.datatype.specs.Kind.{Shape, leaf, timestamp, time, interval, fixed, list, fixedList, struct, union, dictionary, decimal, mapping, runEnds, kinds, shapeOf, unitFits, decimalFits, idsFit}
 use Rattle.datatype.specs.Tree.{Forest, ∅, node, roots, depth, Row, nameList, part, labels}
+use Rattle.subtrees.specs.Internal.Run.{entriesOf}
 use Rattle.row_table.specs.Sound.{Place, bare, field, unionField, arityFits, idFits, rulesOf, isListed, rowsFit, placed}
 
 -- A place as the code has it: 0 bare, 1 a field, 2 a field of a union.
@@ -80,8 +81,7 @@ ownFits text place r =
 
 -- Map's entries: a non-null Struct of two whose first is non-null.
 abbrev pub entriesOk : Forest Row → Bool
-entriesOk ∅ = false
-entriesOk (node r kids next) = eqb (entriesRefusal (r .role) (r .kind) (map (λ c. c .role) (roots kids))) 0
+entriesOk f = eqb (entriesOf f) 0
 
 -- Run ends are non-null.
 abbrev pub firstNonNull : Forest Row → Bool

@@ -1,6 +1,6 @@
 use mathlib.Core.Path.{subst, sym}
 use Prim.Native.Nat.{ℕ, _≤_}
-use Rattle.row_table.proofs.LevelLaws.{levels-few}
+use Rattle.subtrees.proofs.LevelLaws.{levels-few}
 use Rattle.answer_line.proofs.Trees.{table-printed}
 use borrow.Author.Needs.{needs}
 use Rattle.answer_line.proofs.tree.answer_tree.Statement.{statement}

@@ -1,5 +1,4 @@
 use Rattle.datatype_display.proofs.Escapes.{hex-low, hex-high}
-use native.Mathlib.Omega.{arith}
 use borrow.Author.Needs.{needs}
 use Rattle.datatype_display.proofs.escape.hex_digit.Statement.{statement}
 use Rattle.datatype_display.proofs.escape.hex_digit.Tie as tie

@@ -1,6 +1,4 @@
 use Rattle.datatype_display.proofs.Escapes.{itself-low, itself-first, itself-middle, itself-high}
-use borrow.Author.Needs.{needs}
-use native.Mathlib.Omega.{arith}
 use Rattle.datatype_display.proofs.escape.is_itself.Statement.{statement}
 use Rattle.datatype_display.proofs.escape.is_itself.Tie as tie
 use Rattle.datatype_display.proofs.escape.is_itself.Reads as reads

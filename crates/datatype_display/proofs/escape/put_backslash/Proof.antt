@@ -1,5 +1,4 @@
 use Rattle.datatype_display.proofs.Writes.{put-then}
-use native.Mathlib.Omega.{arith}
 use borrow.Author.Needs.{needs}
 use Rattle.datatype_display.proofs.escape.put_backslash.Statement.{statement}
 use Rattle.datatype_display.proofs.escape.put_backslash.Tie as tie

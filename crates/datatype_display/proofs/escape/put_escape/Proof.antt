@@ -1,6 +1,5 @@
 use Rattle.datatype_display.proofs.Writes.{put-as}
 use Rattle.datatype_display.proofs.Escapes.{escape-34, escape-92, escape-0, escape-9, escape-13, escape-10, escape-low, escape-127, escape-rest}
-use native.Mathlib.Omega.{arith}
 use borrow.Author.Needs.{needs}
 use Rattle.datatype_display.proofs.escape.put_escape.Statement.{statement}
 use Rattle.datatype_display.proofs.escape.put_escape.Tie as tie

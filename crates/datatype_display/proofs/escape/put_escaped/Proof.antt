@@ -4,7 +4,6 @@ use Rattle.datatype_display.specs.Internal.Steps.{Put}
 use Prim.Native.Nat.{_-_}
 use lib.ListN.{length, take}
 use borrow.Author.Needs.{needs}
-use native.Mathlib.Omega.{arith}
 use Rattle.datatype_display.proofs.escape.put_escaped.Statement.{statement}
 use Rattle.datatype_display.proofs.escape.put_escaped.Tie as tie
 use Rattle.datatype_display.proofs.escape.put_escaped.Reads as reads

@@ -1,5 +1,4 @@
 use Rattle.datatype_display.proofs.Escapes.{put-marks}
-use native.Mathlib.Omega.{arith}
 use borrow.Author.Needs.{needs}
 use Rattle.datatype_display.proofs.escape.put_quoted.Statement.{statement}
 use Rattle.datatype_display.proofs.escape.put_quoted.Tie as tie

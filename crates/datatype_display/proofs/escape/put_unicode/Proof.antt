@@ -1,5 +1,4 @@
 use Rattle.datatype_display.proofs.Escapes.{unicode-low, unicode-high}
-use native.Mathlib.Omega.{arith}
 use borrow.Author.Needs.{needs}
 use Rattle.datatype_display.proofs.escape.put_unicode.Statement.{statement}
 use Rattle.datatype_display.proofs.escape.put_unicode.Tie as tie

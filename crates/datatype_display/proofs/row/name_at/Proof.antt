@@ -1,5 +1,4 @@
 use Rattle.datatype_display.proofs.Rows.{name-is}
-use native.Mathlib.Omega.{arith}
 use borrow.Author.Needs.{needs}
 use Rattle.datatype_display.proofs.row.name_at.Statement.{statement}
 use Rattle.datatype_display.proofs.row.name_at.Tie as tie

@@ -1,7 +1,6 @@
 use Rattle.datatype_display.proofs.Writes.{put-none, put-as}
 use Rattle.datatype_display.specs.Internal.Steps.{comma}
 use mathlib.Core.Path.{ap, sym}
-use native.Mathlib.Omega.{arith}
 use borrow.Author.Needs.{needs}
 use Rattle.datatype_display.proofs.row.put_comma.Statement.{statement}
 use Rattle.datatype_display.proofs.row.put_comma.Tie as tie

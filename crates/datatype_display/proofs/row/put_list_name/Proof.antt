@@ -1,6 +1,5 @@
 use Rattle.datatype_display.proofs.Writes.{put-none, put-as}
 use Rattle.datatype_display.proofs.Rows.{name-item, name-other}
-use native.Mathlib.Omega.{arith}
 use borrow.Author.Needs.{needs}
 use Rattle.datatype_display.proofs.row.put_list_name.Statement.{statement}
 use Rattle.datatype_display.proofs.row.put_list_name.Tie as tie

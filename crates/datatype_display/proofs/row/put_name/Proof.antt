@@ -1,7 +1,6 @@
 use Rattle.datatype_display.proofs.Writes.{put-none, put-then}
 use Rattle.datatype_display.proofs.Rows.{put-as-name}
 use Rattle.datatype_display.specs.Internal.Steps.{nameText}
-use native.Mathlib.Omega.{arith}
 use borrow.Author.Needs.{needs}
 use Rattle.datatype_display.proofs.row.put_name.Statement.{statement}
 use Rattle.datatype_display.proofs.row.put_name.Tie as tie

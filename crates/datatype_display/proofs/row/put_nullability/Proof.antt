@@ -1,6 +1,5 @@
 use Rattle.datatype_display.proofs.Writes.{put-none, put-as}
 use Rattle.datatype_display.proofs.Rows.{non-null, nullable}
-use native.Mathlib.Omega.{arith}
 use borrow.Author.Needs.{needs}
 use Rattle.datatype_display.proofs.row.put_nullability.Statement.{statement}
 use Rattle.datatype_display.proofs.row.put_nullability.Tie as tie

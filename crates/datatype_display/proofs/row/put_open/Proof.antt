@@ -4,7 +4,6 @@ use Rattle.datatype_display.specs.declared.shape.Shape.the-variants as S
 use Rattle.datatype_display.proofs.Writes.{put-none, put-then, put-as}
 use Rattle.datatype_display.proofs.Rows.{as-shape}
 use Rattle.datatype_display.proofs.ShapeTexts.{opened}
-use native.Mathlib.Omega.{arith}
 use borrow.Author.Needs.{needs}
 use Rattle.datatype_display.proofs.row.put_open.Statement.{statement}
 use Rattle.datatype_display.proofs.row.put_open.Tie as tie

@@ -2,7 +2,6 @@ use Rattle.datatype_display.specs.Internal.Steps.{separator, shapeMeans}
 use Rattle.datatype_display.specs.declared.shape.Shape.the-variants as S
 use Rattle.datatype_display.proofs.Writes.{put-none, put-then}
 use Rattle.datatype_display.proofs.Rows.{as-shape}
-use native.Mathlib.Omega.{arith}
 use borrow.Author.Needs.{needs}
 use Rattle.datatype_display.proofs.row.put_separator.Statement.{statement}
 use Rattle.datatype_display.proofs.row.put_separator.Tie as tie

@@ -5,7 +5,6 @@ use Rattle.datatype_display.specs.declared.shape.Shape.the-variants as S
 use Rattle.datatype_display.proofs.Writes.{put-none, put-as}
 use Rattle.datatype_display.proofs.Rows.{as-shape}
 use Rattle.datatype_display.proofs.ShapeTexts.{trail-list, trail-none}
-use native.Mathlib.Omega.{arith}
 use borrow.Author.Needs.{needs}
 use Rattle.datatype_display.proofs.row.put_trail.Statement.{statement}
 use Rattle.datatype_display.proofs.row.put_trail.Tie as tie

@@ -1,5 +1,4 @@
 use Rattle.datatype_display.proofs.Rows.{put-no-zone, put-some-zone}
-use native.Mathlib.Omega.{arith}
 use borrow.Author.Needs.{needs}
 use Rattle.datatype_display.proofs.row.put_zone.Statement.{statement}
 use Rattle.datatype_display.proofs.row.put_zone.Tie as tie

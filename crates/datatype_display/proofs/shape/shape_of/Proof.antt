@@ -3,7 +3,6 @@ use Rattle.datatype.proofs.ShapeLaws.{leaf-number}
 use Rattle.datatype_display.specs.Internal.Steps.{shapeMeans}
 use mathlib.Core.Path.{sym}
 use borrow.Author.Needs.{needs}
-use native.Mathlib.Omega.{arith}
 use Rattle.datatype_display.proofs.shape.shape_of.Statement.{statement}
 use Rattle.datatype_display.proofs.shape.shape_of.Tie as tie
 use Rattle.datatype_display.proofs.shape.shape_of.Reads as reads

@@ -1,6 +1,5 @@
 use Rattle.datatype_display.proofs.Writes.{wrote-as}
 use Rattle.datatype_display.proofs.KindWords.{map-word, map-room}
-use native.Mathlib.Omega.{arith}
 use borrow.Author.Needs.{needs}
 use Rattle.datatype_display.proofs.words.copy_kind.Statement.{statement}
 use Rattle.datatype_display.proofs.words.copy_kind.Tie as tie

@@ -1,5 +1,4 @@
 use Rattle.datatype_display.proofs.KindWords.{long-wrote}
-use native.Mathlib.Omega.{arith}
 use borrow.Author.Needs.{needs}
 use Rattle.datatype_display.proofs.words.copy_long.Statement.{statement}
 use Rattle.datatype_display.proofs.words.copy_long.Tie as tie

@@ -1,5 +1,4 @@
 use Rattle.datatype_display.proofs.KindWords.{short-wrote}
-use native.Mathlib.Omega.{arith}
 use borrow.Author.Needs.{needs}
 use Rattle.datatype_display.proofs.words.copy_short.Statement.{statement}
 use Rattle.datatype_display.proofs.words.copy_short.Tie as tie

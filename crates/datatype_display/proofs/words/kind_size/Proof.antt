@@ -1,6 +1,5 @@
 use Rattle.datatype_display.proofs.KindWords.{sized}
 use mathlib.Core.Path.{_∙_}
-use native.Mathlib.Omega.{arith}
 use borrow.Author.Needs.{needs}
 use Rattle.datatype_display.proofs.words.kind_size.Statement.{statement}
 use Rattle.datatype_display.proofs.words.kind_size.Tie as tie

@@ -1,8 +1,6 @@
 use Rattle.datatype_display.specs.Internal.Steps.{kindSizes}
 use Rattle.datatype_display.proofs.KindWords.{sizes-rest}
 use mathlib.Core.Path.{ap, sym}
-use borrow.Author.Needs.{needs}
-use native.Mathlib.Omega.{arith}
 use Rattle.datatype_display.proofs.words.kind_sizes.Statement.{statement}
 use Rattle.datatype_display.proofs.words.kind_sizes.Tie as tie
 use Rattle.datatype_display.proofs.words.kind_sizes.Reads as reads

@@ -1,5 +1,4 @@
 use Rattle.datatype_display.proofs.WordLaws.{put-negative, put-positive}
-use native.Mathlib.Omega.{arith}
 use borrow.Author.Needs.{needs}
 use Rattle.datatype_display.proofs.words.put_scale.Statement.{statement}
 use Rattle.datatype_display.proofs.words.put_scale.Tie as tie

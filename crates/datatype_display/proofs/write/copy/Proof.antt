@@ -2,7 +2,6 @@ use Rattle.datatype_display.proofs.Writes.{Copied, copied-start, copied
 use Prim.Native.Nat.{_-_}
 use lib.ListN.{length}
 use borrow.Author.Needs.{needs}
-use native.Mathlib.Omega.{arith}
 use Rattle.datatype_display.proofs.write.copy.Statement.{statement}
 use Rattle.datatype_display.proofs.write.copy.Tie as tie
 use Rattle.datatype_display.proofs.write.copy.Reads as reads

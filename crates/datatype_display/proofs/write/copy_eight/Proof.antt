@@ -1,5 +1,4 @@
 use Rattle.datatype_display.proofs.KindWords.{eight-wrote}
-use native.Mathlib.Omega.{arith}
 use borrow.Author.Needs.{needs}
 use Rattle.datatype_display.proofs.write.copy_eight.Statement.{statement}
 use Rattle.datatype_display.proofs.write.copy_eight.Tie as tie

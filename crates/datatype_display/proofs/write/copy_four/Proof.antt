@@ -1,6 +1,4 @@
 use lib.ListN.{length-set}
-use mathlib.Core.Path.{refl, ap}
-use Rattle.datatype_display.specs.Internal.Steps.{four}
 use Rattle.datatype_display.proofs.Writes.{four-wrote}
 use native.Mathlib.Omega.{arith}
 use borrow.Author.Needs.{needs}

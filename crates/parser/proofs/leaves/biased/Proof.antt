@@ -1,7 +1,5 @@
 use Rattle.parser.proofs.Values.{limit-high, limit-low, scale-high, scale-low}
-use mathlib.Core.Path.{_≡_, refl, sym, _∙_}
 use native.Mathlib.Omega.{arith}
-use borrow.Author.Needs.{needs}
 use Rattle.parser.proofs.leaves.biased.Statement.{statement}
 use Rattle.parser.proofs.leaves.biased.Tie as tie
 use Rattle.parser.proofs.leaves.biased.Reads as reads

@@ -1,15 +1,11 @@
 use Rattle.parser.proofs.Answers.{got-step, got-value, lost-step, lost-value}
-use Rattle.parser.proofs.Readers.{interval-1, interval-2, interval-3, meets-refused}
-use mathlib.Core.Path.{_≡_, refl, sym, _∙_}
-use native.Mathlib.Omega.{arith}
+use Rattle.parser.proofs.Readers.{meets-refused, value-1, value-2, value-3}
+use Rattle.parser.specs.Parse.{intervalAt, need}
+use Rattle.tokenizer.specs.Token.{intervalUnit}
 use borrow.Author.Needs.{needs}
+use mathlib.Core.Path.{_∙_, sym}
 use Rattle.parser.proofs.leaves.parse_interval.Statement.{statement}
 use Rattle.parser.proofs.leaves.parse_interval.Tie as tie
-use Rattle.parser.proofs.leaves.parse_interval.Reads as reads
-use Rattle.parser.proofs.leaves.parse_interval.Lts as lts
-use Rattle.parser.proofs.leaves.close.Reads as close-reads
-use Rattle.parser.proofs.tokens.expect_token.Reads as expect-token-reads
-use Rattle.parser.proofs.tokens.parse_interval_unit.Reads as parse-interval-unit-reads
 
 expect-token-requires : tie.Need-expect-token-requires
 expect-token-requires c κs = search needs
@@ -21,28 +17,31 @@ enum-known-n : tie.Need-enum-known-n
 enum-known-n c = search needs
 
 returns : tie.Need-returns
-returns c = meets-refused _ _ _ _ _ _ (interval-1 _ _ _ _ (lost-step _ _ (sym (c .before .n .given .1) ∙ c .before .before .before .expect-token .ensures)))
+unfolding intervalAt
+returns c = meets-refused _ _ _ _ _ _ (value-1 _ (need _ intervalUnit) _ _ _ (lost-step _ _ (sym (c .before .n .given .1) ∙ c .before .before .before .expect-token .ensures)))
 
 parse-interval-unit-requires : tie.Need-parse-interval-unit-requires
 parse-interval-unit-requires c κs = search needs
 
-enum-known-n-2 : tie.Need-enum-known-n-2
-enum-known-n-2 c = search needs
-
 enum-known-unit : tie.Need-enum-known-unit
 enum-known-unit c = search needs
 
-close-requires : tie.Need-close-requires
-close-requires c κs = search needs
+enum-known-n-2 : tie.Need-enum-known-n-2
+enum-known-n-2 c = search needs
 
 returns-2 : tie.Need-returns-2
-returns-2 c = let o = (got-step _ _ (sym (c .before .before .before .before .before .next .given .1) ∙ c .before .before .before .before .before .before .before .expect-token .ensures)) in meets-refused _ _ _ _ _ _ (interval-2 _ _ _ (o .0) _ (o .1) _ (lost-value _ _ (sym (c .before .n2 .given .1) ∙ c .before .before .before .parse-interval-unit .ensures)))
+unfolding intervalAt
+returns-2 c = let o = got-step _ _ (sym (c .before .before .before .before .before .next .given .1) ∙ c .before .before .before .before .before .before .before .expect-token .ensures) in meets-refused _ _ _ _ _ _ (value-2 _ (need _ intervalUnit) _ _ (o .0) _ (o .1) _ (lost-value _ _ (sym (c .before .n2 .given .1) ∙ c .before .before .before .parse-interval-unit .ensures)))
+
+close-requires : tie.Need-close-requires
+close-requires c κs = search needs
 
 same-length : tie.Need-same-length
 same-length c = search needs
 
 returns-3 : tie.Need-returns-3
-returns-3 c = let o = (got-step _ _ (sym (c .before .before .before .before .before .before .before .before .before .next .given .1) ∙ c .before .before .before .before .before .before .before .before .before .before .before .expect-token .ensures)) in interval-3 _ _ _ (o .0) _ (o .1) _ _ _ _ _ _ (got-value _ _ _ (sym (c .before .before .before .before .before .unit .given .1) ∙ c .before .before .before .before .before .before .before .parse-interval-unit .ensures)) (c .before .before .close .ensures)
+unfolding intervalAt
+returns-3 c = let o = got-step _ _ (sym (c .before .before .before .before .before .before .before .before .before .next .given .1) ∙ c .before .before .before .before .before .before .before .before .before .before .before .expect-token .ensures) in value-3 _ (need _ intervalUnit) _ _ (o .0) _ (o .1) _ _ _ _ _ _ (got-value _ _ (sym (c .before .before .before .before .before .unit .given .1) ∙ c .before .before .before .before .before .before .before .parse-interval-unit .ensures)) (c .before .before .close .ensures)
 
 pub parse-interval-spec : {M : Type 1} → statement M
 parse-interval-spec =
@@ -53,9 +52,9 @@ parse-interval-spec =
     enum-known-n
     returns
     parse-interval-unit-requires
-    enum-known-n-2
     enum-known-unit
-    close-requires
+    enum-known-n-2
     returns-2
+    close-requires
     same-length
     returns-3)

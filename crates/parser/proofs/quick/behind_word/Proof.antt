@@ -1,7 +1,6 @@
 -- `behind_word` meets its contract: the bytes are the word's, and no more of a word follows.
 use borrow.Author.Tests.{not-false}
 use Rattle.parser.proofs.WordLaws.{word-found, none-found}
-use native.Mathlib.Omega.{arith}
 use borrow.Author.Needs.{needs}
 use Rattle.parser.proofs.quick.behind_word.Statement.{statement}
 use Rattle.parser.proofs.quick.behind_word.Tie as tie

@@ -1,7 +1,6 @@
 -- `ends_word` meets its contract.
 use mathlib.Core.Path.{sym, _∙_}
 use Rattle.parser.proofs.WordLaws.{word-over, word-at-end}
-use native.Mathlib.Omega.{arith}
 use borrow.Author.Needs.{needs}
 use Rattle.parser.proofs.quick.ends_word.Statement.{statement}
 use Rattle.parser.proofs.quick.ends_word.Tie as tie

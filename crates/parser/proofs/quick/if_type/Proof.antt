@@ -1,6 +1,5 @@
 -- `if_type` meets its contract.
 use Rattle.parser.proofs.WordLaws.{found-as}
-use native.Mathlib.Omega.{arith}
 use borrow.Author.Needs.{needs}
 use Rattle.parser.proofs.quick.if_type.Statement.{statement}
 use Rattle.parser.proofs.quick.if_type.Tie as tie

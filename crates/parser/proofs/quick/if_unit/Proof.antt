@@ -1,6 +1,5 @@
 -- `if_unit` meets its contract.
 use Rattle.parser.proofs.WordLaws.{found-as}
-use native.Mathlib.Omega.{arith}
 use borrow.Author.Needs.{needs}
 use Rattle.parser.proofs.quick.if_unit.Statement.{statement}
 use Rattle.parser.proofs.quick.if_unit.Tie as tie

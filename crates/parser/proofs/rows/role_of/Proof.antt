@@ -1,7 +1,6 @@
 use Rattle.parser.proofs.Entries.{role-is, row-room}
-use mathlib.Core.Path.{_≡_, refl, sym, ap, _∙_}
+use mathlib.Core.Path.{_∙_}
 use native.Mathlib.Omega.{arith}
-use borrow.Author.Needs.{needs}
 use Rattle.parser.proofs.rows.role_of.Statement.{statement}
 use Rattle.parser.proofs.rows.role_of.Tie as tie
 use Rattle.parser.proofs.rows.role_of.Reads as reads

@@ -1,5 +1,4 @@
 use Rattle.parser.proofs.TokenLaws.{but, step-here, step-lost, only-sort}
-use native.Mathlib.Omega.{arith}
 use borrow.Author.Needs.{needs}
 use Rattle.parser.proofs.tokens.expect_field.Statement.{statement}
 use Rattle.parser.proofs.tokens.expect_field.Tie as tie

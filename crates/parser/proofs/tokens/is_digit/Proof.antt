@@ -1,5 +1,4 @@
 use Rattle.tokenizer.proofs.StringLaws.{never}
-use native.Mathlib.Omega.{arith}
 use borrow.Author.Needs.{needs}
 use Rattle.parser.proofs.tokens.is_digit.Statement.{statement}
 use Rattle.parser.proofs.tokens.is_digit.Tie as tie

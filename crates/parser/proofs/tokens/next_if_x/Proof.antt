@@ -1,5 +1,4 @@
 use Rattle.parser.proofs.TokenLaws.{but, look-here, look-lost, only-sort}
-use native.Mathlib.Omega.{arith}
 use borrow.Author.Needs.{needs}
 use Rattle.parser.proofs.tokens.next_if_x.Statement.{statement}
 use Rattle.parser.proofs.tokens.next_if_x.Tie as tie

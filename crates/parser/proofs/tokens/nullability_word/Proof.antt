@@ -1,7 +1,6 @@
 use Rattle.parser.proofs.WordLaws.{found-non-null, found-nullable}
 use Rattle.parser.proofs.TokenLaws.{but, null-found, null-not, null-here}
 use borrow.Author.Needs.{needs}
-use native.Mathlib.Omega.{arith}
 use Rattle.parser.proofs.tokens.nullability_word.Statement.{statement}
 use Rattle.parser.proofs.tokens.nullability_word.Tie as tie
 use Rattle.parser.proofs.tokens.nullability_word.Reads as reads

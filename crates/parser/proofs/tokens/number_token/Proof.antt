@@ -1,5 +1,4 @@
 use Rattle.parser.proofs.TokenLaws.{but, number-lost, number-out, number-in}
-use native.Mathlib.Omega.{arith}
 use borrow.Author.Needs.{needs}
 use Rattle.parser.proofs.tokens.number_token.Statement.{statement}
 use Rattle.parser.proofs.tokens.number_token.Tie as tie

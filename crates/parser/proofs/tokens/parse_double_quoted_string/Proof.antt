@@ -1,5 +1,4 @@
 use Rattle.parser.proofs.TokenLaws.{but, quoted-here, quoted-lost, only-sort}
-use native.Mathlib.Omega.{arith}
 use borrow.Author.Needs.{needs}
 use Rattle.parser.proofs.tokens.parse_double_quoted_string.Statement.{statement}
 use Rattle.parser.proofs.tokens.parse_double_quoted_string.Tie as tie

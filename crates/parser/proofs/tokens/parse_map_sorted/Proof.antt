@@ -3,7 +3,6 @@ use Rattle.parser.proofs.TokenLaws.{but, valued-found, valued-here, val
 use mathlib.Core.Path.{refl, ap}
 use Rattle.tokenizer.specs.Token.{sortOf, valueOf}
 use borrow.Author.Needs.{needs}
-use native.Mathlib.Omega.{arith}
 use Rattle.parser.proofs.tokens.parse_map_sorted.Statement.{statement}
 use Rattle.parser.proofs.tokens.parse_map_sorted.Tie as tie
 use Rattle.parser.proofs.tokens.parse_map_sorted.Reads as reads

@@ -1,5 +1,4 @@
 use Rattle.parser.proofs.TokenLaws.{number-found}
-use native.Mathlib.Omega.{arith}
 use borrow.Author.Needs.{needs}
 use Rattle.parser.proofs.tokens.parse_number.Statement.{statement}
 use Rattle.parser.proofs.tokens.parse_number.Tie as tie

@@ -1,5 +1,4 @@
 use Rattle.parser.proofs.TokenLaws.{but, stands-here, stands-lost, only-sort}
-use native.Mathlib.Omega.{arith}
 use borrow.Author.Needs.{needs}
 use Rattle.parser.proofs.tokens.peek_double_quoted.Statement.{statement}
 use Rattle.parser.proofs.tokens.peek_double_quoted.Tie as tie

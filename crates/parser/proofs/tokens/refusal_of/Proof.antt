@@ -1,5 +1,4 @@
 use Rattle.parser.proofs.TokenLaws.{but, refusal-nine, refusal-own}
-use native.Mathlib.Omega.{arith}
 use borrow.Author.Needs.{needs}
 use Rattle.parser.proofs.tokens.refusal_of.Statement.{statement}
 use Rattle.parser.proofs.tokens.refusal_of.Tie as tie

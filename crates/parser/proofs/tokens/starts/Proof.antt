@@ -1,7 +1,6 @@
 use borrow.Author.Tests.{eqb-true, eqb-false}
 use Rattle.tokenizer.proofs.StringLaws.{never}
 use Rattle.parser.proofs.TokenLaws.{no-byte}
-use native.Mathlib.Omega.{arith}
 use borrow.Author.Needs.{needs}
 use Rattle.parser.proofs.tokens.starts.Statement.{statement}
 use Rattle.parser.proofs.tokens.starts.Tie as tie

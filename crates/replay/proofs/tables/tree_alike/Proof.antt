@@ -7,7 +7,7 @@ use Rattle.replay.proofs.tables.tree_alike.Lts as lts
 use Rattle.arrow_types.proofs.arrow_types_depth.Reads as arrow-types-depth-reads
 use Rattle.arrow_types.proofs.arrow_types_is_sound.Reads as arrow-types-is-sound-reads
 use Rattle.replay.proofs.tables.is_verdict.Reads as is-verdict-reads
-use Rattle.row_table.proofs.layout.verdict.Reads as verdict-reads
+use Rattle.layout.proofs.verdict_of.Reads as verdict-of-reads
 
 arrow-types-is-sound-requires : tie.Need-arrow-types-is-sound-requires
 arrow-types-is-sound-requires c κs = search needs
@@ -27,14 +27,14 @@ cast-if3 c = search needs
 returns-3 : tie.Need-returns-3
 returns-3 c = other-depth _ _ _ _ _ (c .before .before .before .before .before .before .before .before .arrow-types-is-sound .ensures) (c .before .before .before .before .before .before .if1 .left) _ _ (c .before .before .before .before .arrow-types-depth .ensures .0) (c .before .before .before .before .arrow-types-depth .ensures .1) (c .before .before .if2 .left) (c .if3 .taken)
 
-verdict-requires : tie.Need-verdict-requires
-verdict-requires c κs = search needs
+verdict-of-requires : tie.Need-verdict-of-requires
+verdict-of-requires c κs = search needs
 
 is-verdict-requires : tie.Need-is-verdict-requires
 is-verdict-requires c κs = search needs
 
 returns-4 : tie.Need-returns-4
-returns-4 c = same-depth _ _ _ _ _ (c .before .before .before .before .before .before .before .before .before .before .arrow-types-is-sound .ensures) (c .before .before .before .before .before .before .before .before .if1 .left) _ _ (c .before .before .before .before .before .before .arrow-types-depth .ensures .0) (c .before .before .before .before .before .before .arrow-types-depth .ensures .1) (c .before .before .before .before .if2 .left) _ _ (c .before .before .if3 .left) (c .before .verdict .ensures) (c .is-verdict .ensures)
+returns-4 c = same-depth _ _ _ _ _ (c .before .before .before .before .before .before .before .before .before .before .arrow-types-is-sound .ensures) (c .before .before .before .before .before .before .before .before .if1 .left) _ _ (c .before .before .before .before .before .before .arrow-types-depth .ensures .0) (c .before .before .before .before .before .before .arrow-types-depth .ensures .1) (c .before .before .before .before .if2 .left) _ _ (c .before .before .if3 .left) (c .before .verdict-of .ensures) (c .is-verdict .ensures)
 
 pub tree-alike-spec : {M : Type 1} → statement M
 tree-alike-spec =
@@ -46,6 +46,6 @@ tree-alike-spec =
     returns-2
     cast-if3
     returns-3
-    verdict-requires
+    verdict-of-requires
     is-verdict-requires
     returns-4)

@@ -1,6 +1,6 @@
 use mathlib.Core.Path.{sym, _∙_}
 use borrow.Author.Tests.{not-true, not-false}
-use Rattle.row_table.proofs.ChildLaws.{none-is, two-room, non-null-at, kids-struct, kids-union, kids-dictionary, kids-list, kids-map-no, kids-map, kids-ree-no, kids-ree, kids-leaf}
+use Rattle.row_table.proofs.ChildLaws.{none-is, two-room, non-null-at, entries-at, ids-at, kids-struct, kids-union, kids-dictionary, kids-list, kids-map-no, kids-map, kids-ree-no, kids-ree, kids-leaf}
 use borrow.Author.Needs.{needs}
 use Rattle.row_table.proofs.children.children_fit.Statement.{statement}
 use Rattle.row_table.proofs.children.children_fit.Tie as tie
@@ -8,11 +8,11 @@ use Rattle.row_table.proofs.children.children_fit.Tie as tie
 returns : tie.Need-returns
 returns c = kids-struct _ _ (c .if1 .taken)
 
-ids-fit-requires : tie.Need-ids-fit-requires
-ids-fit-requires c κs = search needs
+try-new-requires : tie.Need-try-new-requires
+try-new-requires c κs = search needs
 
 returns-2 : tie.Need-returns-2
-returns-2 c = kids-union _ _ _ (c .before .if2 .taken) (c .ids-fit .ensures)
+returns-2 c = kids-union _ _ _ (c .before .if2 .taken) (ids-at _ _ _ (c .before .before .before .before .pre .0) (c .before .before .before .before .pre .1) _ (c .try-new .ensures))
 
 two-children-requires : tie.Need-two-children-requires
 two-children-requires c κs = search needs
@@ -35,11 +35,11 @@ one-child-requires-2 c κs = search needs
 returns-5 : tie.Need-returns-5
 returns-5 c = kids-map-no _ _ (c .before .before .if5 .taken) (sym (c .before .one-child2 .ensures) ∙ not-true _ (c .if6 .taken))
 
-entries-fit-requires : tie.Need-entries-fit-requires
-entries-fit-requires c κs = search needs
+entries-refusal-requires : tie.Need-entries-refusal-requires
+entries-refusal-requires c κs = search needs
 
 returns-6 : tie.Need-returns-6
-returns-6 c = kids-map _ _ _ (c .before .before .before .if5 .taken) (sym (c .before .before .one-child2 .ensures) ∙ not-false _ (c .before .if6 .left)) (c .entries-fit .ensures)
+returns-6 c = kids-map _ _ _ (c .before .before .before .if5 .taken) (sym (c .before .before .one-child2 .ensures) ∙ not-false _ (c .before .if6 .left)) (entries-at _ _ _ (c .before .before .before .before .before .before .before .before .before .before .pre .0) (c .before .before .before .before .before .before .before .before .before .before .pre .1) _ (sym (c .before .before .one-child2 .ensures) ∙ not-false _ (c .before .if6 .left)) (c .entries-refusal .ensures))
 
 two-children-requires-2 : tie.Need-two-children-requires-2
 two-children-requires-2 c κs = search needs
@@ -61,7 +61,7 @@ children-fit-spec =
     tie.close
     (tie.spec
     returns
-    ids-fit-requires
+    try-new-requires
     returns-2
     two-children-requires
     returns-3
@@ -70,7 +70,7 @@ children-fit-spec =
     returns-4
     one-child-requires-2
     returns-5
-    entries-fit-requires
+    entries-refusal-requires
     returns-6
     two-children-requires-2
     returns-7

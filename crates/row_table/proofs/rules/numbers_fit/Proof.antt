@@ -1,5 +1,6 @@
 use mathlib.Core.Path.{sym, _∙_}
-use Rattle.row_table.proofs.RuleLaws.{numbers-one, numbers-one-scaled, numbers-decimal, numbers-scaled, numbers-time32, numbers-time64-low, numbers-time64, numbers-rest}
+use borrow.Author.Tests.{not-true, not-false}
+use Rattle.row_table.proofs.RuleLaws.{numbers-one, numbers-one-scaled, numbers-decimal, numbers-scaled, numbers-unit, numbers-rest}
 use borrow.Author.Needs.{needs}
 use Rattle.row_table.proofs.rules.numbers_fit.Statement.{statement}
 use Rattle.row_table.proofs.rules.numbers_fit.Tie as tie
@@ -25,17 +26,14 @@ returns-3 c = numbers-decimal _ _ _ _ (c .before .before .before .before .before
 returns-4 : tie.Need-returns-4
 returns-4 c = numbers-scaled _ _ _ (c .before .before .before .before .before .pre) (sym (c .before .before .is-decimal .ensures) ∙ c .before .if3 .left) (c .if4 .taken)
 
+unit-fits-requires : tie.Need-unit-fits-requires
+unit-fits-requires c κs = search needs
+
 returns-5 : tie.Need-returns-5
-returns-5 c = numbers-time32 _ _ _ (c .before .if4 .left) (c .if5 .taken)
+returns-5 c = numbers-unit _ _ _ _ (c .before .unit-fits .ensures) (not-true _ (c .if5 .taken))
 
 returns-6 : tie.Need-returns-6
-returns-6 c = numbers-time64-low _ _ _ (c .before .before .before .if4 .left) (c .before .if6 .taken) (c .if7 .taken)
-
-returns-7 : tie.Need-returns-7
-returns-7 c = numbers-time64 _ _ _ (c .before .before .before .if4 .left) (c .before .if6 .taken) (c .if7 .left)
-
-returns-8 : tie.Need-returns-8
-returns-8 c = numbers-rest _ _ _ _ (c .before .before .before .before .before .before .before .pre) (sym (c .before .before .before .before .is-decimal .ensures) ∙ c .before .before .before .if3 .left) (c .before .before .if4 .left) (c .before .if5 .left) (c .if6 .left) (c .before .before .before .before .before .before .params .ensures)
+returns-6 c = numbers-rest _ _ _ _ _ (c .before .before .before .before .before .before .before .pre) (sym (c .before .before .before .before .is-decimal .ensures) ∙ c .before .before .before .if3 .left) (c .before .before .if4 .left) (c .before .unit-fits .ensures) (not-false _ (c .if5 .left)) (c .before .before .before .before .before .before .params .ensures)
 
 pub numbers-fit-spec : {M : Type 1} → statement M
 numbers-fit-spec =
@@ -48,7 +46,6 @@ numbers-fit-spec =
     fits-requires
     returns-3
     returns-4
+    unit-fits-requires
     returns-5
-    returns-6
-    returns-7
-    returns-8)
+    returns-6)

@@ -1,7 +1,7 @@
 use mathlib.Core.Path.{_≡_, refl, sym, _∙_}
 use Prim.Native.Nat.{_≤_, _-_}
 use borrow.Author.Tests.{not-true, not-false}
-use Rattle.row_table.specs.Internal.Run.{runAt}
+use Rattle.subtrees.specs.Internal.Run.{runAt}
 use Rattle.row_table.specs.Internal.Check.{placeOf, runFits}
 use Rattle.row_table.proofs.SoundLaws.{turn-level, turn-row, turn-kind, turn-full, turn-leaf, turn-empty, turn-long, turn-below, turn-nests, turn-kids, turn-go, turn-end}
 use borrow.Author.Needs.{needs}

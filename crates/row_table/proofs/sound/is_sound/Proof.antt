@@ -2,14 +2,13 @@ use mathlib.Core.Path.{sym, _∙_}
 use borrow.Author.Tests.{not-true, not-false}
 use Rattle.tokenizer.proofs.Basics.{of-true}
 use Rattle.row_table.proofs.SoundLaws.{sound-long, sound-names, sound-empty, sound-many, sound-left, sound-root, sound-utf8, sound-parents, sound-is}
-use native.Mathlib.Omega.{arith}
 use borrow.Author.Needs.{needs}
 use Rattle.row_table.proofs.sound.is_sound.Statement.{statement}
 use Rattle.row_table.proofs.sound.is_sound.Tie as tie
 use Rattle.row_table.proofs.sound.is_sound.Reads as reads
 use Rattle.row_table.proofs.sound.is_sound.Lts as lts
 use Rattle.row_table.proofs.names.is_name_list.Reads as is-name-list-reads
-use Rattle.row_table.proofs.parents.parents_fit.Reads as parents-fit-reads
+use Rattle.subtrees.proofs.parents_fit.Reads as parents-fit-reads
 use Rattle.row_table.proofs.rows.subtree.Reads as subtree-reads
 use Rattle.row_table.proofs.sound.run_fits.Reads as run-fits-reads
 use Rattle.tokenizer.proofs.is_utf8.Reads as is-utf8-reads

@@ -1,6 +1,6 @@
 use mathlib.Core.Path.{sym, _∙_}
 use borrow.Author.Tests.{not-true, not-false}
-use Rattle.row_table.specs.Internal.Run.{rowAt}
+use Rattle.subtrees.specs.Internal.Run.{rowAt}
 use Rattle.row_table.proofs.SoundLaws.{row-1, row-2, row-3, row-4, row-5}
 use borrow.Author.Needs.{needs}
 use Rattle.row_table.proofs.sound.row_fits.Statement.{statement}

@@ -1,0 +1,14 @@
+pub mod Runs
+pub mod ParentClimb
+pub mod ParentSet
+pub mod ParentTree
+pub mod ParentFit
+pub mod ParentFixed
+pub mod SiblingLaws
+pub mod IdLaws
+pub mod UnionLaws
+pub mod EntryLaws
+pub mod LevelLaws
+pub mod EqualLaws
+pub mod RowList
+pub mod Equivalence

@@ -1,0 +1,5 @@
+pub mod Run
+pub mod Climb
+pub mod Ids
+pub mod Behind
+pub mod Computed
