@@ -35,6 +35,8 @@ IMPORT_LINE = re.compile(r"^(?:pub |unfoldable |ghost )*use [^;{\n]*(?:\{[^}]*\}
 def without_comments(text, line_comment):
     """The text with its comments and quoted texts left out."""
     quoted = r"\"(?:\\.|[^\"\\])*\""
+    if line_comment == "//":
+        quoted = r"b'(?:\\.|[^'\\])'|" + quoted  # b'"' begins no text
     block = r"\{-.*?-\}" if line_comment == "--" else r"/\*.*?\*/"
     begins = r"(?<![^" + BREAKS + r"])--" if line_comment == "--" else "//"
     pattern = re.compile(f"{quoted}|{block}|{begins}[^\n]*", re.S)

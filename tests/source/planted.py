@@ -80,6 +80,11 @@ class Planted(unittest.TestCase):
         text = "ghost use M.{_<_, f, g};\n\nfn a(b: u8) -> bool\n    ensures size { λ r. ⌜ f { x } r ⌝ }\n{\n    g < b\n}\n"
         self.assert_cut(text, ["M._<_", "M.g"], text.replace("_<_, f, g", "f"), name="src/lib.rt")
 
+    def test_quote_mark(self):
+        # a double quote as a byte begins no text
+        text = "ghost use M.{f};\n\nfn a(b: u8) -> bool\n{\n    b == b'\"'\n}\n\nfn c()\n    ensures { ⌜ f ⌝ }\n{\n    d(b\"\")\n}\n"
+        self.assert_cut(text, [], name="src/lib.rt")
+
     def test_code(self):
         text = "use crate::a;\nuse crate::b;\nuse crate::c as d;\nuse crate::e;\n\nfn f() {\n    a(x.b, m::b, d); // e\n}\n"
         self.assert_cut(text, ["crate::b", "crate::e"], name="src/lib.rt")
@@ -100,6 +105,12 @@ class Functions(unittest.TestCase):
     def test_lines(self):
         self.assertEqual(self.faults(["    a;"] * 39), [])
         self.assertEqual(self.faults(["    a;"] * 40), ["has 40 lines, more than 39"])
+
+    def test_tables(self):
+        values = ["        kind::A => Word {", "            b: 1,", "        },"] * 20
+        self.assertEqual(self.faults(["    match kind {", *values, "    }"]), [])
+        calls = [*values, "        _ => f(1),"]
+        self.assertEqual(self.faults(["    match kind {", *calls, "    }"]), ["has 63 lines, more than 39"])
 
     def test_loops(self):
         loop = ["    while a < 1 {", "        a += 1;", "    }"]

@@ -126,6 +126,21 @@ fn of_a_printed_text_that_is_too_long() {
 }
 
 #[test]
+fn of_names_that_overlap() {
+    // 1,023 fields share one name, the whole text, of which each byte prints as six: 100 million bytes.
+    let text = "\u{1f}".repeat(16_384);
+    let mut rows = vec![0; 1_024 * ROW_WORDS];
+    for (i, row) in rows.chunks_exact_mut(ROW_WORDS).enumerate() {
+        match i {
+            0 => (row[0], row[1]) = (32, 1_024),
+            _ => row.copy_from_slice(&[2, 1, 1, 0, 0, 0, 1, 0, 16_384, 0, 0, 0]),
+        }
+    }
+    let overlapping = DataType::from_parts(text, rows).unwrap();
+    assert_eq!(overlapping.print().map_err(Error::number), Err(19));
+}
+
+#[test]
 fn numbers_and_sentences() {
     for (number, error) in (1..).zip(Error::ALL) {
         assert_eq!(error.number(), number);

@@ -13,7 +13,7 @@ use borrow.Author.Tests.{eq-eqb, ne-eqb}
 use Rattle.tokenizer.specs.Text.{bytes, if_then_else_}
 use Rattle.parser.proofs.FirstType.{too-long}
 use Rattle.datatype_parse.specs.Parse.{parse}
-use Rattle.datatype_display.specs.Display.{digits, digitsWith}
+use Rattle.output.specs.Digits.{digits, digitsWith}
 use Rattle.answer_line.specs.Line.{lineAnswer, longer, linesOf, beforeNewline, lineEnd}
 
 -- the newlines looked for are never past the end

@@ -16,8 +16,9 @@ use Rattle.datatype.specs.Table.{rowWords, treeOf}
 use Rattle.row_table.specs.Sound.{isSound}
 use Rattle.subtrees.specs.Levels.{levelsOf}
 use Rattle.row_table.proofs.DepthLaws.{sound-levels}
-use Rattle.datatype_display.specs.Display.{display}
-use Rattle.datatype_display.specs.Print.{quotedAscii, print, lengthOf, printAnswer, written, printBytes, printedMeans}
+use Rattle.display_length.specs.Display.{display}
+use Rattle.display_length.specs.PrintedLength.{quotedAscii}
+use Rattle.datatype_display.specs.Print.{print, lengthOf, printAnswer, written, printBytes, printedMeans}
 use Rattle.datatype_display.specs.declared.Printed.{Printed}
 use Rattle.datatype_display.specs.declared.Printed.the-variants as printing
 use Rattle.answer_line.specs.Line.{noLine, answerBytes}

@@ -17,7 +17,7 @@ use Rattle.datatype_parse.proofs.ReadSound.{read-sound}
 use Rattle.datatype_parse.specs.Parse.{parse, rowCount, filled, parseAnswer, parseRows, parsedMeans}
 use Rattle.datatype_parse.specs.declared.Parsed.{Parsed}
 use Rattle.datatype_parse.specs.declared.Parsed.the-variants as parsed
-use Rattle.datatype_display.specs.Display.{digits}
+use Rattle.output.specs.Digits.{digits}
 use Rattle.datatype_display.specs.Print.{print}
 use Rattle.answer_line.specs.Line.{noLine, okLine, lineWords, lineAnswer, lineAnswered, lineRows, lineOut, answeredMeans, answerBytes}
 use Rattle.answer_line.specs.Internal.Steps.{Answers, okHead, treeLine, tableLine}

@@ -1,46 +1,16 @@
--- Writing an answer's own bytes: bytes behind bytes, the number of digits, and a head and a newline around a text.
+-- Writing an answer's own bytes: bytes behind bytes, and a head and a newline around a text.
 use mathlib.Core.Path.{_≡_, sym, ap, _∙_, subst}
 use mathlib.Core.List.{List, [], _∷_, _++_, append-assoc}
-use Prim.Native.Nat.{ℕ, zero, suc, _+_, _/_, _%_, _^_, _≤_, _<_}
-use native.Mathlib.Decide.{decLt}
+use Prim.Native.Nat.{ℕ, suc, _+_, _≤_, _<_}
 use native.Mathlib.Omega.{arith}
 use lib.ListN.{length, set, take, drop, length-append, length-drop}
 use lib.Seq.{sets, sets-eq, set-split, take-append-add, drop-append-add, drop-drop}
 use Rattle.tokenizer.specs.Text.{bytes}
 use Rattle.datatype.proofs.Sets.{sets-append}
-use Rattle.datatype_display.specs.Display.{digits}
-use Rattle.datatype_display.proofs.Digits.{digits-one, digits-more}
+use Rattle.output.specs.Digits.{digits}
+use Rattle.output.proofs.DigitLaws.{digits-at-most}
 use Rattle.answer_line.specs.Line.{noLine, answerBytes}
 use Rattle.answer_line.specs.Internal.Steps.{Put, Answers, okHead, HeadLength, Framed}
-
--- ---- digits
-
--- A number below a power of ten has no more digits than the power says.
-pub digits-at-most : (k n : ℕ) → n < 10 ^ suc k → length (digits n) ≤ suc k
-digits-at-most zero n h = rw (digits-one n (omega arith)) (omega arith)
-digits-at-most (suc k) n h =
-    elim (decLt n 10) [
-      | yes l ↦ rw (digits-one n l) (omega arith)
-      | no l ↦ more (digits-at-most k (n / 10) (omega arith)) (digits-more n (omega arith))
-    ]
-  where
-    more : length (digits (n / 10)) ≤ suc k → digits n ≡ digits (n / 10) ++ ((48 + n % 10) ∷ []) → length (digits n) ≤ suc (suc k)
-    more q e = let f = ap length e ∙ length-append (digits (n / 10)) ((48 + n % 10) ∷ []) in omega arith
-
-pub digits-length : (n : ℕ) → 10 ≤ n → length (digits n) ≡ suc (length (digits (n / 10)))
-digits-length n h = ap length (digits-more n h) ∙ length-append (digits (n / 10)) ((48 + n % 10) ∷ []) ∙ (let e : length (digits (n / 10)) + 1 ≡ suc (length (digits (n / 10))) = omega arith in e)
-
-pub one-digit : (n : ℕ) → n < 10 → 1 ≡ length (digits n)
-one-digit n h = sym (ap length (digits-one n h))
-
-pub two-digits : (n : ℕ) → 10 ≤ n → n < 100 → 2 ≡ length (digits n)
-two-digits n h k = let e = digits-length n h in let f = one-digit (n / 10) (omega arith) in omega arith
-
-pub three-digits : (n : ℕ) → 100 ≤ n → n < 1000 → 3 ≡ length (digits n)
-three-digits n h k = let e = digits-length n (omega arith) in let f = two-digits (n / 10) (omega arith) (omega arith) in omega arith
-
-pub four-digits : (n : ℕ) → 1000 ≤ n → n < 10000 → 4 ≡ length (digits n)
-four-digits n h k = let e = digits-length n (omega arith) in let f = three-digits (n / 10) (omega arith) (omega arith) in omega arith
 
 -- ---- bytes behind bytes
 
@@ -62,12 +32,6 @@ module _ (before : List ℕ) (at : ℕ) where
   -- the same bytes, said otherwise
   pub put-as : (s t : List ℕ) (next : ℕ) (after : List ℕ) → s ≡ t → Put before at s next after → Put before at t next after
   put-as s t next after e p = subst (λ (b : List ℕ). Put before at b next after) e p
-
-  pub put-one : (n next : ℕ) (after : List ℕ) → n < 10 → Put before at ((48 + n) ∷ []) next after → Put before at (digits n) next after
-  put-one n next after h p = put-as _ _ next after (sym (digits-one n h)) p
-
-  pub put-more : (n mid next : ℕ) (between after : List ℕ) → 10 ≤ n → Put before at (digits (n / 10)) mid between → Put between mid ((48 + n % 10) ∷ []) next after → Put before at (digits n) next after
-  put-more n mid next between after h p q = put-as _ _ next after (sym (digits-more n h)) (put-then (digits (n / 10)) ((48 + n % 10) ∷ []) mid next between after p q)
 
 -- bytes stored at the start
 sets-start : (s before : List ℕ) → length s ≤ length before → sets before 0 s ≡ s ++ drop (length s) before

@@ -11,7 +11,7 @@ use Rattle.datatype.specs.Limits.{maxText, maxRows}
 use Rattle.datatype.specs.Tree.{Forest, Row, count, depth, nameList}
 use Rattle.datatype.specs.Table.{rowWords, tableOf}
 use Rattle.datatype_parse.specs.Parse.{parse, parseRows}
-use Rattle.datatype_display.specs.Display.{digits}
+use Rattle.output.specs.Digits.{digits}
 use Rattle.datatype_display.specs.Print.{print}
 use Rattle.answer_line.specs.declared.Answered.{Answered}
 use Rattle.answer_line.specs.declared.Answered.the-variants.{Bytes, NoRoom}

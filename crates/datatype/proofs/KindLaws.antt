@@ -15,15 +15,6 @@ pub past-kinds : (k : ℕ) → kinds ≤ k → shapeOf k ≡ leaf
 unfolding shapeOf
 past-kinds k h = List·getD-eq-default shapes leaf {n = k} h
 
--- ---- a kind between two others
-
-module _ (least k most : ℕ) where
-  pub between-below : k < least → false ≡ (leb least k && leb k most)
-  between-below h = rw (lt-leb least k h)
-
-  pub between-from : least ≤ k → leb k most ≡ (leb least k && leb k most)
-  between-from h = rw (le-leb least k h)
-
 -- ---- units
 
 module _ (k u : ℕ) where

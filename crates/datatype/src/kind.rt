@@ -1,7 +1,5 @@
 // Kinds of types, the units of a kind of time, and the numbers of a decimal.
 ghost use mathlib.Core.Path.{_≡_};
-ghost use mathlib.Core.Bool.{_&&_};
-ghost use lib.Dec.{leb};
 ghost use Rattle.datatype.specs.Kind.{unitFits, maxPrecision, decimalFits};
 
 // The kinds, by their place in the Rust's `DataType`.
@@ -89,16 +87,6 @@ pub const RUN_END_ENCODED: u32 = 40;
 
 // How many kinds there are.
 pub const KINDS: u32 = 41;
-
-// Whether a kind lies between two others, in the order of `DataType`, or is one of them.
-pub fn between(least: u32, kind: u32, most: u32) -> bool
-    ensures { λ r. ⌜ r ≡ (leb least kind && leb kind most) ⌝ }
-{
-    if kind < least {
-        return false;
-    }
-    kind <= most
-}
 
 // Whether a kind takes a unit: Time32 s and ms, Time64 µs and ns, the others all.
 pub fn unit_fits(kind: u32, unit: u32) -> bool

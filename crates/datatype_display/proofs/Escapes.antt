@@ -1,18 +1,18 @@
 -- Double-quoted strings: what a byte is written as, and what the loops of `escape.rt` hold.
-use mathlib.Core.Path.{_≡_, refl, sym, ap, _∙_, subst}
-use mathlib.Core.Bool.{Bool, true, false, not, _&&_, true≢false}
-use mathlib.Core.List.{List, [], _∷_, _++_, append-assoc, append-nil}
-use Prim.Native.Nat.{ℕ, suc, _+_, _-_, _/_, _%_, _≤_, _<_}
+use mathlib.Core.Path.{_≡_, refl, sym, ap, _∙_}
+use mathlib.Core.Bool.{Bool, true, false, not, _&&_}
+use mathlib.Core.List.{List, [], _∷_, _++_}
+use Prim.Native.Nat.{ℕ, zero, suc, _+_, _/_, _%_, _≤_, _<_, max}
 use native.Mathlib.Omega.{arith}
-use lib.ListN.{length, getD, set, take, drop, drop-of-length-le, take-append-drop, length-drop}
-use lib.Seq.{take-suc, take-all, length-take-le}
+use lib.ListN.{length, getD, drop, drop-of-length-le}
+use lib.Seq.{drop-cons}
 use lib.Dec.{T, leb, eqb, leb→le}
 use borrow.Author.Tests.{lt-ltb, le-ltb, le-leb, lt-leb, eq-eqb, ne-eqb}
-use Rattle.tokenizer.specs.Text.{bytes, all}
-use Rattle.tokenizer.proofs.Basics.{and-l, and-r, both, of-true, is-false}
-use Rattle.datatype_display.specs.Display.{hexDigit, escape, escaped, quoted}
-use Rattle.datatype_display.specs.Internal.Steps.{Put, CopiedPlain, isItself, unicodeText}
-use Rattle.datatype_display.proofs.Writes.{moved-by, put-none, put-wrote, put-as, put-then, Copied, copied-start, copied-more}
+use Rattle.tokenizer.specs.Text.{bytes, all, if_then_else_}
+use Rattle.tokenizer.proofs.Basics.{and-l, and-r}
+use Rattle.display_length.specs.Display.{hexDigit, hex, escape, escaped, quoted}
+use Rattle.datatype_display.specs.Internal.Steps.{Wrote, isItself, escapeWeight, unicodeText}
+use Rattle.datatype_display.proofs.Writes.{joined, wrote-as, wrote-none, Rest, rest-step, rest-last, rest-as}
 
 -- ---- hex digits
 
@@ -22,55 +22,46 @@ hex-low n h = rw (lt-ltb n 10 h)
 pub hex-high : (n : ℕ) → 10 ≤ n → 87 + n ≡ hexDigit n
 hex-high n h = rw (le-ltb n 10 h)
 
--- ---- bytes that are written as they are
+module _ (c d : ℕ) where
+  pub hex-one : c < 16 → d ≡ hexDigit c → d ∷ [] ≡ hex c
+  hex-one h e = rw (lt-ltb c 16 h, e)
 
-and-held : (b : Bool) → b ≡ (b && true)
-and-held true = refl
-and-held false = refl
+  pub hex-two : 16 ≤ c → d ≡ hexDigit (c / 16) → (d′ : ℕ) → d′ ≡ hexDigit (c % 16) → joined ((d ∷ []) ∷ (d′ ∷ []) ∷ []) ≡ hex c
+  unfolding joined
+  hex-two h e d′ e′ = rw (le-ltb c 16 h, e, e′)
 
-module _ (c : ℕ) where
-  pub itself-low : c < 32 → false ≡ isItself c
-  unfolding isItself
-  itself-low h = rw (lt-leb 32 c h)
+pub unicode-parts : (c : ℕ) → joined (bytes "\\u{" ∷ hex c ∷ bytes "}" ∷ []) ≡ unicodeText c
+unfolding joined unicodeText
+unicode-parts c = refl
 
-  pub itself-first : 32 ≤ c → c ≤ 34 → not (eqb c 34) ≡ isItself c
-  unfolding isItself
-  itself-first h k =
-      rw (le-leb 32 c h, ne-eqb c 92 (λ e. omega arith), ne-eqb c 127 (λ e. omega arith))
-      (and-held (not (eqb c 34)) ∙ and-held (not (eqb c 34) && true))
-
-  pub itself-middle : 34 < c → c ≤ 92 → not (eqb c 92) ≡ isItself c
-  unfolding isItself
-  itself-middle h k = rw (le-leb 32 c (omega arith), ne-eqb c 34 (λ e. omega arith), ne-eqb c 127 (λ e. omega arith)) (and-held (not (eqb c 92)))
-
-  pub itself-high : 92 < c → not (eqb c 127) ≡ isItself c
-  unfolding isItself
-  itself-high h = rw (le-leb 32 c (omega arith), ne-eqb c 34 (λ e. omega arith), ne-eqb c 92 (λ e. omega arith))
+pub backslash-parts : (c : ℕ) → joined ((92 ∷ []) ∷ (c ∷ []) ∷ []) ≡ 92 ∷ c ∷ []
+unfolding joined
+backslash-parts c = refl
 
 -- ---- one byte
 
 module _ (c : ℕ) where
-  pub escape-34 : c ≡ 34 → bytes "\\\"" ≡ escape c
+  pub escape-34 : c ≡ 34 → 92 ∷ 34 ∷ [] ≡ escape c
   unfolding escape
   escape-34 e = rw e
 
-  pub escape-92 : c ≡ 92 → bytes "\\\\" ≡ escape c
+  pub escape-92 : c ≡ 92 → 92 ∷ 92 ∷ [] ≡ escape c
   unfolding escape
   escape-92 e = rw e
 
-  pub escape-0 : c ≡ 0 → bytes "\\0" ≡ escape c
+  pub escape-0 : c ≡ 0 → 92 ∷ 48 ∷ [] ≡ escape c
   unfolding escape
   escape-0 e = rw e
 
-  pub escape-9 : c ≡ 9 → bytes "\\t" ≡ escape c
+  pub escape-9 : c ≡ 9 → 92 ∷ 116 ∷ [] ≡ escape c
   unfolding escape
   escape-9 e = rw e
 
-  pub escape-13 : c ≡ 13 → bytes "\\r" ≡ escape c
+  pub escape-13 : c ≡ 13 → 92 ∷ 114 ∷ [] ≡ escape c
   unfolding escape
   escape-13 e = rw e
 
-  pub escape-10 : c ≡ 10 → bytes "\\n" ≡ escape c
+  pub escape-10 : c ≡ 10 → 92 ∷ 110 ∷ [] ≡ escape c
   unfolding escape
   escape-10 e = rw e
 
@@ -88,47 +79,54 @@ module _ (c : ℕ) where
     escape-rest h d =
         rw (ne-eqb c 34 p, ne-eqb c 92 q, ne-eqb c 0 (λ e. omega arith), ne-eqb c 9 (λ e. omega arith), ne-eqb c 13 (λ e. omega arith), ne-eqb c 10 (λ e. omega arith), le-ltb c 32 h, ne-eqb c 127 d)
 
-module _ (before : List ℕ) (at c : ℕ) where
-  pub unicode-low : c < 16 → (d : ℕ) → d ≡ hexDigit c → (mid last next : ℕ) (b1 b2 after : List ℕ)
-      → Put before at (bytes "\\u{") mid b1 → Put b1 mid (d ∷ []) last b2 → Put b2 last (125 ∷ []) next after → Put before at (unicodeText c) next after
-  unfolding unicodeText
-  unicode-low h d e mid last next b1 b2 after p q r =
-      put-as before at _ _ next after (rw (lt-ltb c 16 h, e)) (put-then before at _ _ mid next b1 after p (put-then b1 mid _ _ last next b2 after q r))
+-- ---- bytes that are written as they are
 
-  pub unicode-high : 16 ≤ c → (d d′ : ℕ) → d ≡ hexDigit (c / 16) → d′ ≡ hexDigit (c % 16) → (mid more last next : ℕ) (b1 b2 b3 after : List ℕ)
-      → Put before at (bytes "\\u{") mid b1 → Put b1 mid (d ∷ []) more b2 → Put b2 more (d′ ∷ []) last b3 → Put b3 last (125 ∷ []) next after
-      → Put before at (unicodeText c) next after
-  unfolding unicodeText
-  unicode-high h d d′ e e′ mid more last next b1 b2 b3 after p q r s =
-      put-as before at _ _ next after (rw (le-ltb c 16 h, e, e′))
-      (put-then before at _ _ mid next b1 after p (put-then b1 mid _ _ more next b2 after q (put-then b2 more _ _ last next b3 after r s)))
+module _ (c : ℕ) where
+  pub weight-low : c < 32 → 1 ≡ escapeWeight c
+  unfolding isItself escapeWeight
+  weight-low h = rw (lt-leb 32 c h)
 
--- ---- strings
+  pub weight-34 : c ≡ 34 → 1 ≡ escapeWeight c
+  unfolding isItself escapeWeight
+  weight-34 e = rw e
 
-escaped-append : (a b : List ℕ) → escaped (a ++ b) ≡ escaped a ++ escaped b
-unfolding escaped
-escaped-append [] b = refl
-escaped-append (c ∷ a) b = ap (λ (s : List ℕ). escape c ++ s) (escaped-append a b) ∙ sym (append-assoc (escape c) (escaped a) (escaped b))
+  pub weight-92 : c ≡ 92 → 1 ≡ escapeWeight c
+  unfolding isItself escapeWeight
+  weight-92 e = rw e
 
-escaped-one : (c : ℕ) → escaped (c ∷ []) ≡ escape c
-unfolding escaped
-escaped-one c = append-nil (escape c)
+  pub weight-127 : c ≡ 127 → 1 ≡ escapeWeight c
+  unfolding isItself escapeWeight
+  weight-127 e = rw e
 
-pub escaped-start : (before : List ℕ) (at : ℕ) → Put before at (escaped []) at before
-unfolding escaped
-escaped-start before at = put-none before at
+  pub weight-none : 32 ≤ c → (c ≡ 34 → ⊥) → (c ≡ 92 → ⊥) → (c ≡ 127 → ⊥) → 0 ≡ escapeWeight c
+  unfolding isItself escapeWeight
+  weight-none h p q r = rw (le-leb 32 c h, ne-eqb c 34 p, ne-eqb c 92 q, ne-eqb c 127 r)
 
-module _ (before s : List ℕ) (at : ℕ) where
-  pub escaped-more : (i mid next : ℕ) (between after : List ℕ) → Put before at (escaped (take i s)) mid between → i < length s
-      → Put between mid (escape (getD s i 0)) next after → Put before at (escaped (take (i + 1) s)) next after
-  escaped-more i mid next between after p h q =
-      let e : suc i ≡ i + 1 = omega arith in
-      put-as before at _ _ next after
-      (ap (λ (t : List ℕ). escaped (take i s) ++ t) (sym (escaped-one (getD s i 0))) ∙ sym (escaped-append (take i s) (getD s i 0 ∷ [])) ∙ ap escaped (sym (take-suc s i 0 h)) ∙ ap (λ (k : ℕ). escaped (take k s)) e)
-      (put-then before at _ _ mid next between after p q)
+-- the greatest weight so far, and the bytes that are left
+abbrev pub plainSoFar : ℕ → List ℕ → Bool
+plainSoFar top s = eqb top 0 && all isItself s
 
-  pub escaped-all : (i next : ℕ) (after : List ℕ) → Put before at (escaped (take i s)) next after → length s ≤ i → Put before at (escaped s) next after
-  escaped-all i next after p h = put-as before at _ _ next after (ap escaped (take-all i s h)) p
+pub plain-end : (s : List ℕ) (i top : ℕ) (b : Bool) → b ≡ plainSoFar top (drop i s) → length s ≤ i → eqb top 0 ≡ b
+plain-end s i top b e h = sym (e ∙ rw (drop-of-length-le s {i = i} h) (go (eqb top 0)))
+  where
+    go : (a : Bool) → (a && true) ≡ a
+    go true = refl
+    go false = refl
+
+weighed : (top w : ℕ) (c : Bool) → w ≡ (if c then 0 else 1) → (b : Bool) → (eqb top 0 && (c && b)) ≡ (eqb (max top w) 0 && b)
+weighed zero w true e b = rw e
+weighed zero w false e b = rw e
+weighed (suc n) w c e b = rw (ne-eqb (suc n) 0 (λ z. omega arith), ne-eqb (max (suc n) w) 0 (λ z. omega arith))
+
+pub plain-more : (s : List ℕ) (i top w next : ℕ) (b : Bool) → b ≡ plainSoFar top (drop i s) → i < length s → w ≡ escapeWeight (getD s i 0) → next ≡ max top w
+    → b ≡ plainSoFar next (drop (i + 1) s)
+unfolding escapeWeight
+plain-more s i top w next b e h x y =
+    let n : suc i ≡ i + 1 = omega arith in
+    e
+    ∙ ap (λ (l : List ℕ). plainSoFar top l) (drop-cons s i 0 h)
+    ∙ weighed top w (isItself (getD s i 0)) x (all isItself (drop (suc i) s))
+    ∙ rw (y, ← n)
 
 -- a byte that is written as it is
 escape-itself : (c : ℕ) → T (isItself c) → escape c ≡ c ∷ []
@@ -139,73 +137,38 @@ escape-itself c t =
     let d = not (eqb c 92) in
     let e = not (eqb c 127) in
     sym
-    (escape-rest c (λ z. off c 34 (and-r a b (and-l (a && b) d (and-l (a && b && d) e t))) z) (λ z. off c 92 (and-r (a && b) d (and-l (a && b && d) e t)) z)
-    (leb→le 32 c (and-l a b (and-l (a && b) d (and-l (a && b && d) e t)))) (λ z. off c 127 (and-r (a && b && d) e t) z))
+    (escape-rest c (differs c 34 (and-r a b (and-l (a && b) d (and-l (a && b && d) e t)))) (differs c 92 (and-r (a && b) d (and-l (a && b && d) e t)))
+    (leb→le 32 c (and-l a b (and-l (a && b) d (and-l (a && b && d) e t)))) (differs c 127 (and-r (a && b && d) e t)))
   where
-    off : (c k : ℕ) → T (not (eqb c k)) → c ≡ k → ⊥
-    off c k u z = true≢false (sym (eq-eqb c k z) ∙ is-false (eqb c k) u)
+    differs : (x y : ℕ) → T (not (eqb x y)) → x ≡ y → ⊥
+    differs x y u p = absurd (rw (eq-eqb x y p) at u)
 
 pub escaped-itself : (s : List ℕ) → T (all isItself s) → s ≡ escaped s
 unfolding escaped
 escaped-itself [] t = refl
 escaped-itself (c ∷ s) t =
-    let e = escape-itself c (and-l (isItself c) (all isItself s) t) in
-    let es = escaped-itself s (and-r (isItself c) (all isItself s) t) in
-    ap (λ (l : List ℕ). c ∷ l) es ∙ ap (λ (l : List ℕ). l ++ escaped s) (sym e)
+    ap (λ (l : List ℕ). c ∷ l) (escaped-itself s (and-r (isItself c) (all isItself s) t))
+    ∙ ap (λ (l : List ℕ). l ++ escaped s) (sym (escape-itself c (and-l (isItself c) (all isItself s) t)))
 
--- the rest of a list as the code takes it
-part-rest : (n : ℕ) (s : List ℕ) → take (length s - n) (drop n s) ≡ drop n s
-part-rest n s = take-all (length s - n) (drop n s) (let e = length-drop n s in omega arith)
+-- ---- strings, byte by byte
 
-all-more : (test : ℕ → Bool) (s : List ℕ) (c : ℕ) → T (all test s) → T (test c) → T (all test (s ++ (c ∷ [])))
-all-more test [] c t u = both (test c) true u tt
-all-more test (x ∷ s) c t u = both (test x) (all test (s ++ (c ∷ []))) (and-l (test x) (all test s) t) (all-more test s c (and-r (test x) (all test s) t) u)
+module _ (before s out : List ℕ) (at next i : ℕ) (r : Rest before at (escaped s) next out (escaped (drop i s) ∷ [])) where
+  pub escaped-end : length s ≤ i → Wrote before at (escaped s) next out
+  unfolding escaped
+  escaped-end h = rest-last r (wrote-as (ap escaped (sym (drop-of-length-le s {i = i} h))) (wrote-none out next))
 
--- the first i bytes are copied, and are written as they are
-pub record PlainSo (before s : List ℕ) (at i : ℕ) (out : List ℕ) : Type 0 where
-  pub copied : Copied before s at i out
-  pub plain : T (all isItself (take i s))
+  module _ (h : i < length s) where
+    pub escape-here : Rest before at (escaped s) next out (escape (getD s i 0) ∷ escaped (drop (suc i) s) ∷ [])
+    unfolding escaped joined
+    escape-here = rest-as (ap escaped (drop-cons s i 0 h)) r
 
-module _ (before s : List ℕ) (at : ℕ) where
-  pub plain-start : at + length s ≤ length before → PlainSo before s at 0 before
-  plain-start h = record { copied = copied-start before s at h; plain = tt }
+    pub escaped-more : (last : ℕ) (after : List ℕ) → Wrote out next (escape (getD s i 0)) last after → Rest before at (escaped s) last after (escaped (drop (i + 1) s) ∷ [])
+    escaped-more last after w = let n : suc i ≡ i + 1 = omega arith in rw (← n) (rest-step escape-here w)
 
-  module _ (i : ℕ) (out : List ℕ) (p : PlainSo before s at i out) where
-    pub plain-end : CopiedPlain before at s i out
-    plain-end = record { upto = p .copied .upTo; plain = p .plain; wrote = record { stored = p .copied .is } }
+pub escaped-start : (s : List ℕ) → joined (escaped (drop 0 s) ∷ []) ≡ escaped s
+unfolding joined
+escaped-start s = refl
 
-    pub plain-more : i < length s → (r : Bool) → r ≡ isItself (getD s i 0) → r ≡ true → PlainSo before s at (i + 1) (set out (at + i) (getD s i 0))
-    plain-more h r is e =
-        let n : suc i ≡ i + 1 = omega arith in
-        let t = all-more isItself (take i s) (getD s i 0) (p .plain) (of-true _ (sym is ∙ e)) in
-        record {
-          copied = copied-more before s at i out (p .copied) h;
-          plain = subst (λ (l : List ℕ). T (all isItself l)) (sym (take-suc s i 0 h) ∙ ap (λ (k : ℕ). take k s) n) t;
-        }
-
-  module _ (n : ℕ) (mid : List ℕ) (c : CopiedPlain before at s n mid) where
-    -- what was copied, and what is left
-    parts : take n s ++ escaped (drop n s) ≡ escaped s
-    parts =
-        ap (λ (l : List ℕ). l ++ escaped (drop n s)) (escaped-itself (take n s) (c .plain))
-        ∙ sym (escaped-append (take n s) (drop n s))
-        ∙ ap escaped (take-append-drop n s)
-
-    put-plain : Put before at (take n s) (at + n) mid
-    put-plain =
-        let l : length (take n s) ≡ n = length-take-le n s (c .upto) in
-        put-wrote before at (take n s) (at + n) mid (rw l (moved-by at n)) (c .wrote)
-
-    pub between-all : n ≡ length s → Put before at (escaped s) (at + n) mid
-    unfolding escaped
-    between-all e = put-as before at _ _ (at + n) mid (sym (append-nil (take n s)) ∙ ap (λ (l : List ℕ). take n s ++ escaped l) (sym (drop-of-length-le s {i = n} (omega arith))) ∙ parts) put-plain
-
-    pub between-rest : (next : ℕ) (after : List ℕ) → Put mid (at + n) (escaped (take (length s - n) (drop n s))) next after → Put before at (escaped s) next after
-    between-rest next after p =
-        put-as before at _ _ next after (ap (λ (l : List ℕ). take n s ++ escaped l) (part-rest n s) ∙ parts) (put-then before at (take n s) (escaped (take (length s - n) (drop n s))) (at + n) next mid after put-plain p)
-
-module _ (before s : List ℕ) (at : ℕ) where
-  pub put-marks : (opened mid next : ℕ) (b1 b2 after : List ℕ) → Put before at (34 ∷ []) opened b1 → Put b1 opened (escaped s) mid b2 → Put b2 mid (34 ∷ []) next after
-      → Put before at (quoted s) next after
-  unfolding quoted
-  put-marks opened mid next b1 b2 after p q r = put-then before at (34 ∷ []) _ opened next b1 after p (put-then b1 opened _ _ mid next b2 after q r)
+pub quoted-parts : (s : List ℕ) → joined ((34 ∷ []) ∷ escaped s ∷ (34 ∷ []) ∷ []) ≡ quoted s
+unfolding joined quoted
+quoted-parts s = refl

@@ -23,12 +23,14 @@ use Rattle.tokenizer.proofs.Utf8Laws.{utf8-append, state-utf8, step-ascii}
 use Rattle.datatype.specs.Kind.{Shape, leaf, timestamp, time, interval, fixed, list, fixedList, struct, union, dictionary, decimal, mapping, runEnds, kinds, shapeOf}
 use Rattle.datatype.specs.Tree.{Forest, ∅, node, roots, Label}
 use Rattle.datatype.specs.Table.{treeOf}
-use Rattle.row_table.specs.Sound.{Place, bare, field, unionField, nameFits, rowsFit, isSound}
+use Rattle.row_table.specs.Sound.{Standing, bare, field, unionField, nameFits, rowsFit, isSound}
 use Rattle.datatype.proofs.Tests.{below-at}
 use Rattle.row_table.proofs.SoundTree.{RowFits, rulesAt, rows-fit, sound-tree, sound-labels}
-use Rattle.datatype_display.specs.Display.{Shown, kindWord, digitsWith, digits, unitText, intervalText, modeText, sortedText, scaleText, escape, escaped, quoted, nullityText, fieldText, listNameText, listFieldText, structText, unionText, zoneText, defaultNames, runEndText, shapeText, typeText, shown, display}
-use Rattle.datatype_display.specs.Print.{quotesNames, isAscii, namesAscii, quotedAscii, print, lengthOf, printAnswer, written, printBytes}
-use Rattle.datatype_display.proofs.Walked.{labelsOf, shown-labels}
+use Rattle.output.specs.Digits.{digitsWith, digits}
+use Rattle.display_length.specs.Display.{Shown, kindWord, unitText, intervalText, modeText, sortedText, scaleText, escape, escaped, quoted, nullityText, fieldText, listNameText, listFieldText, structText, unionText, zoneText, defaultNames, runEndText, shapeText, typeText, shown, display}
+use Rattle.display_length.specs.PrintedLength.{quotesNames, isAscii, namesAscii, quotedAscii}
+use Rattle.datatype_display.specs.Print.{print, lengthOf, printAnswer, written, printBytes}
+use Rattle.datatype_display.proofs.Rows.{labelsOf, shown-labels}
 
 -- ---- parts
 
@@ -206,7 +208,7 @@ clean-shape runEnds l [] z a h = literal [] tt
 clean-shape runEnds l (r ∷ []) z a h = literal [] tt
 clean-shape runEnds l (r ∷ v ∷ ks) z a h = literal (bytes "(") tt then clean-run-ends r v ks (h .0) (h .1 .0) a then literal (bytes ")") tt
 
-clean-name : (place : Place) (name : List ℕ) → T (nameFits place name) → Clean name
+clean-name : (place : Standing) (name : List ℕ) → T (nameFits place name) → Clean name
 unfolding nameFits
 clean-name bare [] h = literal [] (unfold isUtf8 utf8State in tt)
 clean-name bare (c ∷ s) h = absurd h
@@ -237,14 +239,14 @@ quoted-parts l kids next t =
       beside = and-r (a && b && quotedAscii kids) (quotedAscii next) t;
     }
 
-clean-type : (place : Place) (l : Label) (kids next : Forest Label) → RowFits place l kids → QuotedParts l kids next → AllClean (shown kids)
+clean-type : (place : Standing) (l : Label) (kids next : Forest Label) → RowFits place l kids → QuotedParts l kids next → AllClean (shown kids)
     → Clean (typeText l (shown kids))
 unfolding typeText
 clean-type place l kids next r q h =
     clean-kind (l .kind) (r .kind)
     then clean-shape (shapeOf (l .kind)) l (shown kids) (q .zone) (subst (QuotesAscii (shapeOf (l .kind))) (sym (shown-labels kids)) (q .names)) h
 
-all-clean : (place : Place) (f : Forest Label) → T (rowsFit place f) → T (quotedAscii f) → AllClean (shown f)
+all-clean : (place : Standing) (f : Forest Label) → T (rowsFit place f) → T (quotedAscii f) → AllClean (shown f)
 unfolding shown
 all-clean place ∅ h a = tt
 all-clean place (node l kids next) h a =
@@ -257,7 +259,7 @@ all-clean place (node l kids next) h a =
       all-clean place next (r .2) (q .beside),
     )
 
-pub display-utf8 : (place : Place) (f : Forest Label) → T (rowsFit place f) → T (quotedAscii f) → T (isUtf8 (display f))
+pub display-utf8 : (place : Standing) (f : Forest Label) → T (rowsFit place f) → T (quotedAscii f) → T (isUtf8 (display f))
 unfolding display shown
 display-utf8 place ∅ h a = unfold isUtf8 utf8State in tt
 display-utf8 place (node l kids next) h a = all-clean place (node l kids next) h a .0 .text .is

@@ -1,22 +1,42 @@
--- The words of kinds, units and modes: what the arms of `words.rt` write.
+-- The words of units and modes, and scales: what the arms of `words.rt` write.
 use mathlib.Core.Path.{_≡_, refl}
-use mathlib.Core.List.{List, [], _∷_}
+use mathlib.Core.List.{[], _∷_}
 use Prim.Native.Nat.{ℕ, zero, suc, _-_, _≤_, _<_}
 use borrow.Author.Tests.{lt-ltb, le-ltb}
 use Rattle.tokenizer.specs.Text.{bytes}
 use Rattle.tokenizer.proofs.Listed.{NoneOf}
-use Rattle.datatype_display.specs.Display.{kindWord, digits, unitText, intervalText, modeText, sortedText, scaleText}
-use Rattle.datatype_display.specs.Internal.Steps.{Put, kindText}
-use Rattle.datatype_display.proofs.Writes.{put-as, put-then}
+use Rattle.output.specs.Digits.{digits}
+use Rattle.display_length.specs.Display.{unitText, intervalText, modeText, sortedText, scaleText}
+use Rattle.datatype_display.proofs.Writes.{joined}
 
 module _ (k : ℕ) where
-  pub kind-text : k < 41 → kindWord k ≡ kindText k
-  unfolding kindText
-  kind-text h = rw (lt-ltb k 41 h)
+  pub unit-0 : k ≡ 0 → bytes "s" ≡ unitText k
+  unfolding unitText
+  unit-0 e = rw e
 
-  pub no-kind : 41 ≤ k → [] ≡ kindText k
-  unfolding kindText
-  no-kind h = rw (le-ltb k 41 h)
+  pub unit-1 : k ≡ 1 → bytes "ms" ≡ unitText k
+  unfolding unitText
+  unit-1 e = rw e
+
+  pub unit-2 : k ≡ 2 → bytes "µs" ≡ unitText k
+  unfolding unitText
+  unit-2 e = rw e
+
+  pub interval-0 : k ≡ 0 → bytes "YearMonth" ≡ intervalText k
+  unfolding intervalText
+  interval-0 e = rw e
+
+  pub interval-1 : k ≡ 1 → bytes "DayTime" ≡ intervalText k
+  unfolding intervalText
+  interval-1 e = rw e
+
+  pub mode-0 : k ≡ 0 → bytes "Sparse" ≡ modeText k
+  unfolding modeText
+  mode-0 e = rw e
+
+  pub sorted-0 : k ≡ 0 → bytes "unsorted" ≡ sortedText k
+  unfolding sortedText
+  sorted-0 e = rw e
 
 pub unit-rest : (k : ℕ) → NoneOf k (Unit {0}) (0 ∷ 1 ∷ 2 ∷ []) → bytes "ns" ≡ unitText k
 unfolding unitText
@@ -41,13 +61,10 @@ unfolding sortedText
 sorted-rest zero n = absurd (n .1 refl)
 sorted-rest (suc k) n = refl
 
--- ---- a scale
+pub negative-parts : (s : ℕ) → s < 128 → joined (bytes "-" ∷ digits (128 - s) ∷ []) ≡ scaleText s
+unfolding joined scaleText
+negative-parts s h = rw (lt-ltb s 128 h)
 
-module _ (before : List ℕ) (at s : ℕ) where
-  pub put-negative : s < 128 → (mid next : ℕ) (between after : List ℕ) → Put before at (45 ∷ []) mid between → Put between mid (digits (128 - s)) next after → Put before at (scaleText s) next after
-  unfolding scaleText
-  put-negative h mid next between after p q = put-as before at _ _ next after (rw (lt-ltb s 128 h)) (put-then before at (45 ∷ []) (digits (128 - s)) mid next between after p q)
-
-  pub put-positive : 128 ≤ s → (next : ℕ) (after : List ℕ) → Put before at (digits (s - 128)) next after → Put before at (scaleText s) next after
-  unfolding scaleText
-  put-positive h next after p = put-as before at _ _ next after (rw (le-ltb s 128 h)) p
+pub positive : (s : ℕ) → 128 ≤ s → digits (s - 128) ≡ scaleText s
+unfolding scaleText
+positive s h = rw (le-ltb s 128 h)

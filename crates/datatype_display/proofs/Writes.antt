@@ -1,112 +1,118 @@
--- Writing into the output buffer: bytes behind bytes, and the loop that copies.
+-- Writing behind what was written, where there is room for all of it.
+--   fits-as, wrote-as   the same bytes, said otherwise
+--   joined              a text in parts
+--   Rest                the parts of a text that are left to write: there is room for them, and with them it is whole
+--   rest-start, rest-fits, rest-step, rest-last, rest-as   one part behind another
 use mathlib.Core.Path.{_≡_, refl, sym, ap, _∙_, subst}
 use mathlib.Core.List.{List, [], _∷_, _++_}
-use Prim.Native.Nat.{ℕ, suc, _+_, _/_, _%_, _≤_, _<_}
-use native.Mathlib.Decide.{decLt}
+use Prim.Native.Nat.{ℕ, suc, _+_, _/_, _%_}
 use native.Mathlib.Omega.{arith}
-use lib.ListN.{length, getD, set, take, length-append, length-set}
-use lib.Seq.{sets, length-sets, take-suc, take-all, length-take-le}
+use lib.ListN.{length, set, length-append}
+use lib.Seq.{sets, length-sets}
+use Rattle.output.proofs.Writes.{Copied, copied-start}
 use Rattle.datatype.proofs.Sets.{sets-append}
-use Rattle.datatype_display.specs.Internal.Steps.{Wrote, Moved, Put, four}
+use Rattle.datatype_display.specs.Internal.Steps.{Fits, Wrote, four, eight}
 
--- ---- the place behind what was written
+-- ---- the same bytes, said otherwise
 
--- Behind what was written no limit has to be looked at.
-pub moved-by : (at n : ℕ) → Moved at n (at + n)
-moved-by at n = record { exact = λ e. refl; over = λ e. e }
+pub fits-as : {out s t : List ℕ} {at : ℕ} → s ≡ t → Fits out at s → Fits out at t
+fits-as {out} {at = at} e f = subst (λ b. Fits out at b) e f
 
-pub moved-then : (at m n mid last : ℕ) → Moved at m mid → Moved mid n last → Moved at (m + n) last
-moved-then at m n mid last p q =
-    record {
-      exact = λ h. (let e = p .exact (omega arith) in let f = q .exact (omega arith) in omega arith);
-      over = λ h. elim (decLt 16384 (at + m)) [
-        | yes l ↦ (let e = p .over l in q .over (omega arith))
-        | no l ↦ (let e = p .exact (omega arith) in q .over (omega arith))
-      ];
-    }
+pub wrote-as : {before s t after : List ℕ} {at next : ℕ} → s ≡ t → Wrote before at s next after → Wrote before at t next after
+wrote-as {before} {after = after} {at = at} {next = next} e w = subst (λ b. Wrote before at b next after) e w
+
+pub wrote-kept : {before s after : List ℕ} {at next : ℕ} → Wrote before at s next after → length after ≡ length before
+wrote-kept {before} {s} {at = at} w = ap (λ (l : List ℕ). length l) (w .stored) ∙ length-sets before at s
+
+pub wrote-none : (before : List ℕ) (at : ℕ) → Wrote before at [] at before
+wrote-none before at = record { stored = refl; place = omega arith }
 
 -- ---- bytes behind bytes
 
-module _ (before : List ℕ) (at : ℕ) where
-  pub put-none : Put before at [] at before
-  put-none = record { place = record { exact = λ h. omega arith; over = λ h. omega arith }; kept = refl; stored = λ h k. refl }
+module _ (before a b : List ℕ) (at : ℕ) where
+  pub fits-left : Fits before at (a ++ b) → Fits before at a
+  fits-left f = let e = length-append a b in let r = f .room in record { room = omega arith }
 
-  -- What the buffer has no room for.
-  pub put-past : (s : List ℕ) (next : ℕ) → Moved at (length s) next → length before < at + length s → Put before at s next before
-  put-past s next m h = record { place = m; kept = refl; stored = λ l k. absurd (omega arith) }
+  pub fits-right : (next : ℕ) (after : List ℕ) → Fits before at (a ++ b) → Wrote before at a next after → Fits after next b
+  fits-right next after f w =
+      let e = length-append a b in
+      let r = f .room in
+      let k = wrote-kept w in
+      let p = w .place in
+      record { room = omega arith }
 
-  pub put-wrote : (s : List ℕ) (next : ℕ) (after : List ℕ) → Moved at (length s) next → Wrote before at s after → Put before at s next after
-  put-wrote s next after m w = record { place = m; kept = ap (λ (l : List ℕ). length l) (w .stored) ∙ length-sets before at s; stored = λ h k. w .stored }
-
-  -- What is written behind what was written.
-  pub put-then : (s t : List ℕ) (mid last : ℕ) (between after : List ℕ) → Put before at s mid between → Put between mid t last after → Put before at (s ++ t) last after
-  put-then s t mid last between after p q =
-      let e = length-append s t in
+  pub wrote-then : (mid next : ℕ) (between after : List ℕ) → Wrote before at a mid between → Wrote between mid b next after → Wrote before at (a ++ b) next after
+  wrote-then mid next between after v w =
+      let e = length-append a b in
+      let p = v .place in
+      let q = w .place in
       record {
-        place = rw e (moved-then at (length s) (length t) mid last (p .place) (q .place));
-        kept = q .kept ∙ p .kept;
-        stored = λ h k. store (omega arith) (omega arith);
+        stored = w .stored ∙ ap (λ (l : List ℕ). sets l mid b) (v .stored) ∙ ap (λ (k : ℕ). sets (sets before at a) k b) p ∙ sets-append before at a b;
+        place = omega arith;
       }
-    where
-      store : at + (length s + length t) ≤ length before → at + (length s + length t) ≤ 16384 → after ≡ sets before at (s ++ t)
-      store h k =
-          let m : mid ≡ at + length s = p .place .exact (omega arith) in
-          let l = p .kept in
-          q .stored (omega arith) (omega arith)
-          ∙ ap (λ (b : List ℕ). sets b mid t) (p .stored (omega arith) (omega arith))
-          ∙ ap (λ (k : ℕ). sets (sets before at s) k t) m
-          ∙ sets-append before at s t
 
-  -- The same bytes, said otherwise.
-  pub put-as : (s t : List ℕ) (next : ℕ) (after : List ℕ) → s ≡ t → Put before at s next after → Put before at t next after
-  put-as s t next after e p = subst (λ (b : List ℕ). Put before at b next after) e p
+-- ---- a text in parts
 
--- The first i bytes of s are copied.
-pub record Copied (before s : List ℕ) (at i : ℕ) (out : List ℕ) : Type 0 where
-  pub fits : at + length s ≤ length before
-  pub upTo : i ≤ length s
-  pub is : out ≡ sets before at (take i s)
+unfoldable pub joined : List (List ℕ) → List ℕ
+joined [] = []
+joined (p ∷ []) = p
+joined (p ∷ q ∷ ps) = p ++ joined (q ∷ ps)
 
-module _ (before s : List ℕ) (at : ℕ) where
-  pub copied-start : at + length s ≤ length before → Copied before s at 0 before
-  copied-start h = record { fits = h; upTo = omega arith; is = refl }
+-- Some parts are left to write at `next`.
+pub record Rest (before : List ℕ) (at : ℕ) (whole : List ℕ) (next : ℕ) (out : List ℕ) (ps : List (List ℕ)) : Type 0 where
+  pub fits : Fits out next (joined ps)
+  pub ends : (last : ℕ) (after : List ℕ) → Wrote out next (joined ps) last after → Wrote before at whole last after
 
-  module _ (i : ℕ) (out : List ℕ) (c : Copied before s at i out) where
-    pub copied-length : length out ≡ length before
-    copied-length = ap (λ (l : List ℕ). length l) (c .is) ∙ length-sets before at (take i s)
+pub rest-start : {before whole : List ℕ} {at : ℕ} {ps : List (List ℕ)} → joined ps ≡ whole → Fits before at whole → Rest before at whole at before ps
+rest-start e f = record { fits = fits-as (sym e) f; ends = λ last after w. wrote-as e w }
 
-    pub copied-room : i < length s → at + i < length out
-    copied-room h = let e = copied-length in let f = c .fits in omega arith
+-- room for the next part
+pub rest-fits : {before whole out p : List ℕ} {at next : ℕ} {ps : List (List ℕ)} → Rest before at whole next out (p ∷ ps) → Fits out next p
+unfolding joined
+rest-fits {out = out} {p} {next = next} {ps} r = go ps (r .fits)
+  where
+    go : (qs : List (List ℕ)) → Fits out next (joined (p ∷ qs)) → Fits out next p
+    go [] f = f
+    go (q ∷ qs) f = fits-left out p (joined (q ∷ qs)) next f
 
-    pub copied-more : i < length s → Copied before s at (i + 1) (set out (at + i) (getD s i 0))
-    copied-more h =
-        record {
-          fits = c .fits;
-          upTo = omega arith;
-          is =
-              ap (λ (l : List ℕ). set l (at + i) (getD s i 0)) (c .is)
-              ∙ ap (λ (k : ℕ). set (sets before at (take i s)) (at + k) (getD s i 0)) (sym (length-take-le i s (c .upTo)))
-              ∙ sets-append before at (take i s) (getD s i 0 ∷ [])
-              ∙ ap (λ (l : List ℕ). sets before at l) (sym (take-suc s i 0 h))
-              ∙ ap (λ (k : ℕ). sets before at (take k s)) (let e : suc i ≡ i + 1 = omega arith in e);
-        }
+-- the next part is written, and others follow
+pub rest-step : {before whole out p q after : List ℕ} {at mid next : ℕ} {ps : List (List ℕ)} → Rest before at whole mid out (p ∷ q ∷ ps) → Wrote out mid p next after
+    → Rest before at whole next after (q ∷ ps)
+unfolding joined
+rest-step {out = out} {p} {q} {after} {mid = mid} {next} {ps} r w =
+    record {
+      fits = fits-right out p (joined (q ∷ ps)) mid next after (r .fits) w;
+      ends = λ last end v. r .ends last end (wrote-then out p (joined (q ∷ ps)) mid next last after end w v);
+    }
 
-    pub copied-all : length s ≤ i → Wrote before at s out
-    copied-all h = record { stored = c .is ∙ ap (λ (l : List ℕ). sets before at l) (take-all i s h) }
+-- the last part is written
+pub rest-last : {before whole out p after : List ℕ} {at mid next : ℕ} → Rest before at whole mid out (p ∷ []) → Wrote out mid p next after → Wrote before at whole next after
+unfolding joined
+rest-last {after = after} {next = next} r w = r .ends next after w
 
--- One byte.
-pub put-set : (before : List ℕ) (at c next : ℕ) → Moved at 1 next → Put before at (c ∷ []) next (set before at c)
-put-set before at c next m = record { place = m; kept = length-set before at c; stored = λ h k. refl }
+-- the same parts, said otherwise
+pub rest-as : {before whole out : List ℕ} {at next : ℕ} {ps qs : List (List ℕ)} → joined ps ≡ joined qs → Rest before at whole next out ps → Rest before at whole next out qs
+rest-as e r = record { fits = fits-as e (r .fits); ends = λ last after w. r .ends last after (wrote-as (sym e) w) }
 
--- Four bytes of a number.
-pub four-wrote : (before : List ℕ) (at v : ℕ)
-    → Wrote before at (four v) (set (set (set (set before at (v / 16777216 % 256)) (at + 1) (v / 65536 % 256)) (at + 2) (v / 256 % 256)) (at + 3) (v % 256))
+-- ---- stores
+
+pub copied-fits : (before s : List ℕ) (at : ℕ) → Fits before at s → Copied before s at (length s) 0 before
+copied-fits before s at f =
+    let r = f .room in
+    copied-start before s at (length s) (omega arith) (record { of = omega arith; within = omega arith; most = λ h. absurd (omega arith) })
+
+pub stored-at : (before s after : List ℕ) (at n : ℕ) → after ≡ sets before at s → n ≡ length s → Wrote before at s (at + n) after
+stored-at before s after at n e l = record { stored = e; place = ap (λ (k : ℕ). at + k) l }
+
+pub four-stored : (before : List ℕ) (at v : ℕ)
+    → set (set (set (set before at (v / 16777216 % 256)) (at + 1) (v / 65536 % 256)) (at + 2) (v / 256 % 256)) (at + 3) (v % 256) ≡ sets before at (four v)
 unfolding four
-four-wrote before at v =
+four-stored before at v =
     let one : at + 1 ≡ suc at = omega arith in
     let two : at + 2 ≡ suc (suc at) = omega arith in
     let three : at + 3 ≡ suc (suc (suc at)) = omega arith in
-    record { stored = rw (one, two, three) refl }
+    rw (one, two, three) refl
 
-pub wrote-as : (before : List ℕ) (at : ℕ) (s t after : List ℕ) → s ≡ t → Wrote before at s after → Wrote before at t after
-wrote-as before at s t after e w = subst (λ (b : List ℕ). Wrote before at b after) e w
+pub eight-stored : (before between after : List ℕ) (at v : ℕ) → between ≡ sets before at (four (v / 4294967296)) → after ≡ sets between (at + 4) (four v) → after ≡ sets before at (eight v)
+unfolding four eight
+eight-stored before between after at v f g = g ∙ ap (λ (m : List ℕ). sets m (at + 4) (four v)) f ∙ sets-append before at (four (v / 4294967296)) (four v)

@@ -1,3 +1,2 @@
-pub mod Display
 pub mod Print
 pub mod Internal

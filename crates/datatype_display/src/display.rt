@@ -1,55 +1,269 @@
-// The walk: a row's type is its own bytes and its children's types. Printing into no bytes gives the length.
-ghost use mathlib.Core.List.{[]};
-ghost use Prim.Native.Nat.{_+_, _*_, _≤_};
-ghost use lib.ListN.{length};
-ghost use lib.Dec.{T};
-ghost use Rattle.datatype.specs.Table.{rowWords, treeOf};
-ghost use Rattle.row_table.specs.Sound.{isSound};
-ghost use Rattle.datatype_display.specs.Display.{display};
-ghost use Rattle.datatype_display.specs.Internal.Steps.{Moved, Put, Subtree, labelAt, singleText, textAt};
-use crate::ascii::quotes_names;
-use crate::row::put_close;
-use crate::row::put_head;
-use crate::row::put_lead;
-use crate::row::put_trail;
+// The printed text of a row's subtree, as `datatype_display.rs` writes it: a type's word, then by its kind what stands
+// behind it. The level falls from a type to those below it.
+ghost use Rattle.datatype.specs.Kind.{list, fixedList, struct, union, dictionary, mapping, runEnds};
+ghost use Rattle.display_length.specs.Display.{fieldText, listFieldText, shapeText, shown};
+ghost use Rattle.datatype_display.specs.Internal.Steps.{Fits, Wrote, Shaped, Child, labelAt, kidsAt, textAt, shownAt, nullableText, unionFieldText};
+use crate::escape::put_quoted;
+use crate::kind_words::put_kind;
+use crate::leaves::put_comma;
+use crate::leaves::put_decimal;
+use crate::leaves::put_fixed_size_binary;
+use crate::leaves::put_interval;
+use crate::leaves::put_list_name;
+use crate::leaves::put_nullability;
+use crate::leaves::put_time;
+use crate::leaves::put_timestamp;
+use crate::row::default_names;
+use crate::row::name_at;
 use crate::row::subtree;
 use crate::row::word;
-use crate::shape::Shape;
-use crate::shape::shape_of;
-use crate::words::put_kind;
+use crate::words::put_mode;
+use crate::words::put_sorted;
+use crate::write::put;
+use crate::write::put_mark;
+use crate::write::put_number;
+use datatype::kind;
 use datatype::rows::KIND;
-use datatype::rows::MAX_LEVELS;
 use datatype::rows::NUMBER;
+use datatype::rows::ROLE;
+use datatype::rows::UNION_ID;
 
-// Writes the type of row i, which has nothing below it, piece by piece.
-fn put_pieces(text: &[u8], rows: &[u32], i: usize, out: &mut [u8], at: usize) -> usize
-    requires { ⌜ rowWords * (i + 1) ≤ length (now rows) ⌝ }
-    ensures { λ r. ⌜ Put (now (out .entry)) at (singleText (labelAt (now (text .entry)) [] (now (rows .entry)) i)) r (now (out .exit)) ⌝ }
+// [non-null ]type
+fn put_nullable<'a>(
+    text: &'a [u8],
+    names: &'a [u8],
+    rows: &[u32],
+    level: usize,
+    i: usize,
+    out: &mut [u8],
+    at: usize,
+) -> usize
+    requires { ⌜ Child (now text) (now names) (now rows) level i × Fits (now out) at (nullableText (shownAt (now text) (now names) (now rows) i)) ⌝ }
+    ensures { λ r. ⌜ Wrote (now (out .entry)) at (nullableText (shownAt (now (text .entry)) (now (names .entry)) (now (rows .entry)) i)) r (now (out .exit)) ⌝ }
 {
-    let next = put_head(text, rows, i, out, at);
-    put_close(
-        shape_of(word(rows, i, KIND)),
-        word(rows, i, NUMBER),
-        out,
-        next,
-    )
+    let role = word(rows, i, ROLE);
+    let next = put_nullability(out, at, role);
+    put_type(text, names, rows, level, i, out, next)
 }
 
-// Writes the type of row i, which has nothing below it: of most kinds only the word.
-fn put_single(text: &[u8], rows: &[u32], i: usize, out: &mut [u8], at: usize) -> usize
-    requires { ⌜ rowWords * (i + 1) ≤ length (now rows) ⌝ }
-    ensures { λ r. ⌜ Put (now (out .entry)) at (singleText (labelAt (now (text .entry)) [] (now (rows .entry)) i)) r (now (out .exit)) ⌝ }
+// "name": [non-null ]type
+fn put_field<'a>(
+    text: &'a [u8],
+    names: &'a [u8],
+    rows: &[u32],
+    level: usize,
+    i: usize,
+    out: &mut [u8],
+    at: usize,
+) -> usize
+    requires { ⌜ Child (now text) (now names) (now rows) level i × Fits (now out) at (fieldText (shownAt (now text) (now names) (now rows) i)) ⌝ }
+    ensures { λ r. ⌜ Wrote (now (out .entry)) at (fieldText (shownAt (now (text .entry)) (now (names .entry)) (now (rows .entry)) i)) r (now (out .exit)) ⌝ }
 {
-    let kind = word(rows, i, KIND);
-    let shape = shape_of(kind);
-    match shape {
-        Shape::Leaf => put_kind(out, at, kind),
-        _ => put_pieces(text, rows, i, out, at),
+    let name = name_at(text, names, rows, i);
+    let named = put_quoted(out, at, name);
+    let next = put(out, named, b": ");
+    put_nullable(text, names, rows, level, i, out, next)
+}
+
+// [non-null ]type[, field: 'name']
+fn put_list_field<'a>(
+    text: &'a [u8],
+    names: &'a [u8],
+    rows: &[u32],
+    level: usize,
+    i: usize,
+    out: &mut [u8],
+    at: usize,
+) -> usize
+    requires { ⌜ Child (now text) (now names) (now rows) level i × Fits (now out) at (listFieldText (shownAt (now text) (now names) (now rows) i)) ⌝ }
+    ensures { λ r. ⌜ Wrote (now (out .entry)) at (listFieldText (shownAt (now (text .entry)) (now (names .entry)) (now (rows .entry)) i)) r (now (out .exit)) ⌝ }
+{
+    let name = name_at(text, names, rows, i);
+    let next = put_nullable(text, names, rows, level, i, out, at);
+    put_list_name(out, next, name)
+}
+
+// List(field) and the other three lists of any length
+fn put_list<'a>(
+    text: &'a [u8],
+    names: &'a [u8],
+    rows: &[u32],
+    level: usize,
+    i: usize,
+    out: &mut [u8],
+    at: usize,
+) -> usize
+    requires { ⌜ Shaped list (now text) (now names) (now rows) level i × Fits (now out) at (shapeText list (labelAt (now text) (now names) (now rows) i) (shown (kidsAt (now text) (now names) (now rows) i))) ⌝ }
+    ensures { λ r. ⌜ Wrote (now (out .entry)) at (shapeText list (labelAt (now (text .entry)) (now (names .entry)) (now (rows .entry)) i) (shown (kidsAt (now (text .entry)) (now (names .entry)) (now (rows .entry)) i))) r (now (out .exit)) ⌝ }
+{
+    let opened = put_mark(out, at, b'(');
+    let last = put_list_field(text, names, rows, level, i + 1, out, opened);
+    put_mark(out, last, b')')
+}
+
+// FixedSizeList(length x field)
+fn put_fixed_size_list<'a>(
+    text: &'a [u8],
+    names: &'a [u8],
+    rows: &[u32],
+    level: usize,
+    i: usize,
+    out: &mut [u8],
+    at: usize,
+) -> usize
+    requires { ⌜ Shaped fixedList (now text) (now names) (now rows) level i × Fits (now out) at (shapeText fixedList (labelAt (now text) (now names) (now rows) i) (shown (kidsAt (now text) (now names) (now rows) i))) ⌝ }
+    ensures { λ r. ⌜ Wrote (now (out .entry)) at (shapeText fixedList (labelAt (now (text .entry)) (now (names .entry)) (now (rows .entry)) i) (shown (kidsAt (now (text .entry)) (now (names .entry)) (now (rows .entry)) i))) r (now (out .exit)) ⌝ }
+{
+    let size = word(rows, i, NUMBER);
+    let opened = put_mark(out, at, b'(');
+    let next = put_number(out, opened, size);
+    let more = put(out, next, b" x ");
+    let last = put_list_field(text, names, rows, level, i + 1, out, more);
+    put_mark(out, last, b')')
+}
+
+// Struct(field, ..)
+fn put_struct<'a>(
+    text: &'a [u8],
+    names: &'a [u8],
+    rows: &[u32],
+    level: usize,
+    i: usize,
+    out: &mut [u8],
+    at: usize,
+) -> usize
+    requires { ⌜ Shaped struct (now text) (now names) (now rows) level i × Fits (now out) at (shapeText struct (labelAt (now text) (now names) (now rows) i) (shown (kidsAt (now text) (now names) (now rows) i))) ⌝ }
+    ensures { λ r. ⌜ Wrote (now (out .entry)) at (shapeText struct (labelAt (now (text .entry)) (now (names .entry)) (now (rows .entry)) i) (shown (kidsAt (now (text .entry)) (now (names .entry)) (now (rows .entry)) i))) r (now (out .exit)) ⌝ }
+{
+    let end = i + subtree(rows, i);
+    let mut next = put_mark(out, at, b'(');
+    let mut j = i + 1;
+    while j < end {
+        let last = put_field(text, names, rows, level, j, out, next);
+        j = j + subtree(rows, j);
+        next = put_comma(out, last, j < end);
     }
+    put_mark(out, next, b')')
+}
+
+// , id: (field)
+fn put_union_field<'a>(
+    text: &'a [u8],
+    names: &'a [u8],
+    rows: &[u32],
+    level: usize,
+    i: usize,
+    out: &mut [u8],
+    at: usize,
+) -> usize
+    requires { ⌜ Child (now text) (now names) (now rows) level i × Fits (now out) at (unionFieldText (shownAt (now text) (now names) (now rows) i)) ⌝ }
+    ensures { λ r. ⌜ Wrote (now (out .entry)) at (unionFieldText (shownAt (now (text .entry)) (now (names .entry)) (now (rows .entry)) i)) r (now (out .exit)) ⌝ }
+{
+    let id = word(rows, i, UNION_ID);
+    let parted = put(out, at, b", ");
+    let next = put_number(out, parted, id);
+    let opened = put(out, next, b": (");
+    let last = put_field(text, names, rows, level, i, out, opened);
+    put_mark(out, last, b')')
+}
+
+// Union(mode, id: (field), ..)
+fn put_union<'a>(
+    text: &'a [u8],
+    names: &'a [u8],
+    rows: &[u32],
+    level: usize,
+    i: usize,
+    out: &mut [u8],
+    at: usize,
+) -> usize
+    requires { ⌜ Shaped union (now text) (now names) (now rows) level i × Fits (now out) at (shapeText union (labelAt (now text) (now names) (now rows) i) (shown (kidsAt (now text) (now names) (now rows) i))) ⌝ }
+    ensures { λ r. ⌜ Wrote (now (out .entry)) at (shapeText union (labelAt (now (text .entry)) (now (names .entry)) (now (rows .entry)) i) (shown (kidsAt (now (text .entry)) (now (names .entry)) (now (rows .entry)) i))) r (now (out .exit)) ⌝ }
+{
+    let mode = word(rows, i, NUMBER);
+    let end = i + subtree(rows, i);
+    let opened = put_mark(out, at, b'(');
+    let mut next = put_mode(out, opened, mode);
+    let mut j = i + 1;
+    while j < end {
+        next = put_union_field(text, names, rows, level, j, out, next);
+        j = j + subtree(rows, j);
+    }
+    put_mark(out, next, b')')
+}
+
+// Dictionary(key, value)
+fn put_dictionary<'a>(
+    text: &'a [u8],
+    names: &'a [u8],
+    rows: &[u32],
+    level: usize,
+    i: usize,
+    out: &mut [u8],
+    at: usize,
+) -> usize
+    requires { ⌜ Shaped dictionary (now text) (now names) (now rows) level i × Fits (now out) at (shapeText dictionary (labelAt (now text) (now names) (now rows) i) (shown (kidsAt (now text) (now names) (now rows) i))) ⌝ }
+    ensures { λ r. ⌜ Wrote (now (out .entry)) at (shapeText dictionary (labelAt (now (text .entry)) (now (names .entry)) (now (rows .entry)) i) (shown (kidsAt (now (text .entry)) (now (names .entry)) (now (rows .entry)) i))) r (now (out .exit)) ⌝ }
+{
+    let value = i + 1 + subtree(rows, i + 1);
+    let opened = put_mark(out, at, b'(');
+    let next = put_type(text, names, rows, level, i + 1, out, opened);
+    let more = put(out, next, b", ");
+    let last = put_type(text, names, rows, level, value, out, more);
+    put_mark(out, last, b')')
+}
+
+// Map(field, sorted)
+fn put_map<'a>(
+    text: &'a [u8],
+    names: &'a [u8],
+    rows: &[u32],
+    level: usize,
+    i: usize,
+    out: &mut [u8],
+    at: usize,
+) -> usize
+    requires { ⌜ Shaped mapping (now text) (now names) (now rows) level i × Fits (now out) at (shapeText mapping (labelAt (now text) (now names) (now rows) i) (shown (kidsAt (now text) (now names) (now rows) i))) ⌝ }
+    ensures { λ r. ⌜ Wrote (now (out .entry)) at (shapeText mapping (labelAt (now (text .entry)) (now (names .entry)) (now (rows .entry)) i) (shown (kidsAt (now (text .entry)) (now (names .entry)) (now (rows .entry)) i))) r (now (out .exit)) ⌝ }
+{
+    let sorted = word(rows, i, NUMBER);
+    let opened = put_mark(out, at, b'(');
+    let next = put_field(text, names, rows, level, i + 1, out, opened);
+    let more = put(out, next, b", ");
+    let last = put_sorted(out, more, sorted);
+    put_mark(out, last, b')')
+}
+
+// RunEndEncoded(run ends, values), with their names unless both are the default ones
+fn put_run_end_encoded<'a>(
+    text: &'a [u8],
+    names: &'a [u8],
+    rows: &[u32],
+    level: usize,
+    i: usize,
+    out: &mut [u8],
+    at: usize,
+) -> usize
+    requires { ⌜ Shaped runEnds (now text) (now names) (now rows) level i × Fits (now out) at (shapeText runEnds (labelAt (now text) (now names) (now rows) i) (shown (kidsAt (now text) (now names) (now rows) i))) ⌝ }
+    ensures { λ r. ⌜ Wrote (now (out .entry)) at (shapeText runEnds (labelAt (now (text .entry)) (now (names .entry)) (now (rows .entry)) i) (shown (kidsAt (now (text .entry)) (now (names .entry)) (now (rows .entry)) i))) r (now (out .exit)) ⌝ }
+{
+    let values = i + 1 + subtree(rows, i + 1);
+    if default_names(text, names, rows, i + 1, values) {
+        let opened = put_mark(out, at, b'(');
+        let next = put_nullable(text, names, rows, level, i + 1, out, opened);
+        let more = put(out, next, b", ");
+        let last = put_nullable(text, names, rows, level, values, out, more);
+        return put_mark(out, last, b')');
+    }
+    let opened = put_mark(out, at, b'(');
+    let next = put_field(text, names, rows, level, i + 1, out, opened);
+    let more = put(out, next, b", ");
+    let last = put_field(text, names, rows, level, values, out, more);
+    put_mark(out, last, b')')
 }
 
 // Writes the type of row i with all that stands below it.
-fn put_nested<'a>(
+pub(crate) fn put_type<'a>(
     text: &'a [u8],
     names: &'a [u8],
     rows: &[u32],
@@ -58,60 +272,38 @@ fn put_nested<'a>(
     out: &mut [u8],
     at: usize,
 ) -> usize
-    requires { ⌜ Subtree (now rows) level i ⌝ }
-    ensures { λ r. ⌜ Put (now (out .entry)) at (textAt (now (text .entry)) (now (names .entry)) (now (rows .entry)) i) r (now (out .exit)) ⌝ }
+    requires { ⌜ Child (now text) (now names) (now rows) level i × Fits (now out) at (textAt (now text) (now names) (now rows) i) ⌝ }
+    ensures { λ r. ⌜ Wrote (now (out .entry)) at (textAt (now (text .entry)) (now (names .entry)) (now (rows .entry)) i) r (now (out .exit)) ⌝ }
 {
-    let shape = shape_of(word(rows, i, KIND));
-    let end = i + subtree(rows, i);
-    let mut next = put_head(text, rows, i, out, at);
-    let quotes = quotes_names(text, names, rows, shape, i + 1, end);
-    let mut j = i + 1;
-    while j < end {
-        let first = j == i + 1;
-        let led = put_lead(text, names, rows, shape, quotes, first, j, out, next);
-        let typed = put_type(text, names, rows, level - 1, j, out, led);
-        next = put_trail(text, names, rows, shape, j, out, typed);
-        j = j + subtree(rows, j);
+    let kind = word(rows, i, KIND);
+    let next = put_kind(out, at, kind);
+    let below = level - 1;
+    match kind {
+        kind::TIMESTAMP => put_timestamp(text, rows, i, out, next),
+        kind::TIME32 | kind::TIME64 | kind::DURATION => put_time(rows, i, out, next),
+        kind::INTERVAL => put_interval(rows, i, out, next),
+        kind::FIXED_SIZE_BINARY => put_fixed_size_binary(rows, i, out, next),
+        kind::LIST | kind::LIST_VIEW | kind::LARGE_LIST | kind::LARGE_LIST_VIEW => put_list(
+            text,
+            names,
+            rows,
+            below,
+            i,
+            out,
+            next,
+        ),
+        kind::FIXED_SIZE_LIST => put_fixed_size_list(text, names, rows, below, i, out, next),
+        kind::STRUCT => put_struct(text, names, rows, below, i, out, next),
+        kind::UNION => put_union(text, names, rows, below, i, out, next),
+        kind::DICTIONARY => put_dictionary(text, names, rows, below, i, out, next),
+        kind::DECIMAL32 | kind::DECIMAL64 | kind::DECIMAL128 | kind::DECIMAL256 => put_decimal(
+            rows,
+            i,
+            out,
+            next,
+        ),
+        kind::MAP => put_map(text, names, rows, below, i, out, next),
+        kind::RUN_END_ENCODED => put_run_end_encoded(text, names, rows, below, i, out, next),
+        _ => next,
     }
-    put_close(shape, word(rows, i, NUMBER), out, next)
-}
-
-// The same; a row with nothing below it is not walked.
-fn put_type<'a>(
-    text: &'a [u8],
-    names: &'a [u8],
-    rows: &[u32],
-    level: usize,
-    i: usize,
-    out: &mut [u8],
-    at: usize,
-) -> usize
-    requires { ⌜ Subtree (now rows) level i ⌝ }
-    ensures { λ r. ⌜ Put (now (out .entry)) at (textAt (now (text .entry)) (now (names .entry)) (now (rows .entry)) i) r (now (out .exit)) ⌝ }
-{
-    if subtree(rows, i) == 1 {
-        return put_single(text, rows, i, out, at);
-    }
-    put_nested(text, names, rows, level, i, out, at)
-}
-
-// Writes the printed text of a sound tree. As `put_type` does, but that one is then called from a single place, which the
-// compiler makes part of the walk.
-pub(crate) fn put_tree<'a>(text: &'a [u8], names: &'a [u8], rows: &[u32], out: &mut [u8]) -> usize
-    requires { ⌜ T (isSound (now text) (now names) (now rows)) ⌝ }
-    ensures { λ r. ⌜ Put (now (out .entry)) 0 (display (treeOf (now (text .entry)) (now (names .entry)) (now (rows .entry)))) r (now (out .exit)) ⌝ }
-{
-    if subtree(rows, 0) == 1 {
-        return put_single(text, rows, 0, out, 0);
-    }
-    put_nested(text, names, rows, MAX_LEVELS, 0, out, 0)
-}
-
-// The printed length of a sound tree; past the greatest length of a text, a number past it.
-pub(crate) fn tree_length<'a>(text: &'a [u8], names: &'a [u8], rows: &[u32]) -> usize
-    requires { ⌜ T (isSound (now text) (now names) (now rows)) ⌝ }
-    ensures { λ r. ⌜ Moved 0 (length (display (treeOf (now (text .entry)) (now (names .entry)) (now (rows .entry))))) r ⌝ }
-{
-    let mut none: [u8; 1] = [0];
-    put_tree(text, names, rows, &mut none)
 }

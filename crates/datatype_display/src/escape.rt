@@ -1,12 +1,12 @@
 // Double-quoted strings, written as Rust's `{:?}` writes them.
 ghost use mathlib.Core.Path.{_≡_};
 ghost use mathlib.Core.List.{[], _∷_};
-ghost use Prim.Native.Nat.{_+_, _≤_, _<_};
-ghost use lib.ListN.{length};
-ghost use Rattle.datatype_display.specs.Display.{hexDigit, escape, escaped, quoted};
-ghost use Rattle.datatype_display.specs.Internal.Steps.{Put, CopiedPlain, unicodeText, isItself};
+ghost use Prim.Native.Nat.{_<_, max};
+ghost use Rattle.tokenizer.specs.Text.{all};
+ghost use Rattle.display_length.specs.Display.{hexDigit, hex, escape, escaped, quoted};
+ghost use Rattle.datatype_display.specs.Internal.Steps.{Fits, Wrote, unicodeText, isItself, escapeWeight};
 use crate::write::put;
-use crate::write::put_byte;
+use crate::write::put_mark;
 
 // A lowercase hex digit.
 fn hex_digit(n: u8) -> u8
@@ -14,53 +14,63 @@ fn hex_digit(n: u8) -> u8
     ensures { λ r. ⌜ r ≡ hexDigit n ⌝ }
 {
     if n < 10 {
-        return 48 + n;
+        return b'0' + n;
     }
-    87 + n
+    b'a' - 10 + n
+}
+
+// Writes a byte's hex digits.
+fn put_hex(out: &mut [u8], at: usize, c: u8) -> usize
+    requires { ⌜ Fits (now out) at (hex c) ⌝ }
+    ensures { λ r. ⌜ Wrote (now (out .entry)) at (hex c) r (now (out .exit)) ⌝ }
+{
+    if c < 16 {
+        return put_mark(out, at, hex_digit(c));
+    }
+    let next = put_mark(out, at, hex_digit(c / 16));
+    put_mark(out, next, hex_digit(c % 16))
 }
 
 // Writes a control character, by its number in hex digits.
 fn put_unicode(out: &mut [u8], at: usize, c: u8) -> usize
-    ensures { λ r. ⌜ Put (now (out .entry)) at (unicodeText c) r (now (out .exit)) ⌝ }
+    requires { ⌜ Fits (now out) at (unicodeText c) ⌝ }
+    ensures { λ r. ⌜ Wrote (now (out .entry)) at (unicodeText c) r (now (out .exit)) ⌝ }
 {
     let next = put(out, at, b"\\u{");
-    if c < 16 {
-        let last = put_byte(out, next, hex_digit(c));
-        return put_byte(out, last, b'}');
-    }
-    let more = put_byte(out, next, hex_digit(c / 16));
-    let last = put_byte(out, more, hex_digit(c % 16));
-    put_byte(out, last, b'}')
+    let last = put_hex(out, next, c);
+    put_mark(out, last, b'}')
 }
 
 // Writes a backslash and a byte behind it.
 fn put_backslash(out: &mut [u8], at: usize, c: u8) -> usize
-    ensures { λ r. ⌜ Put (now (out .entry)) at (92 ∷ c ∷ []) r (now (out .exit)) ⌝ }
+    requires { ⌜ Fits (now out) at (92 ∷ c ∷ []) ⌝ }
+    ensures { λ r. ⌜ Wrote (now (out .entry)) at (92 ∷ c ∷ []) r (now (out .exit)) ⌝ }
 {
-    let next = put_byte(out, at, 92);
-    put_byte(out, next, c)
+    let next = put_mark(out, at, b'\\');
+    put_mark(out, next, c)
 }
 
 // Writes one byte between the marks.
 fn put_escape(out: &mut [u8], at: usize, c: u8) -> usize
-    ensures { λ r. ⌜ Put (now (out .entry)) at (escape c) r (now (out .exit)) ⌝ }
+    requires { ⌜ Fits (now out) at (escape c) ⌝ }
+    ensures { λ r. ⌜ Wrote (now (out .entry)) at (escape c) r (now (out .exit)) ⌝ }
 {
-    if c == 34 {
-        return put(out, at, b"\\\"");
+    if c == b'"' {
+        return put_backslash(out, at, b'"');
     }
-    if c == 92 {
+    if c == b'\\' {
         return put_backslash(out, at, b'\\');
     }
     if c == 0 {
         return put_backslash(out, at, b'0');
     }
-    if c == 9 {
+    if c == b'\t' {
         return put_backslash(out, at, b't');
     }
-    if c == 13 {
+    if c == b'\r' {
         return put_backslash(out, at, b'r');
     }
-    if c == 10 {
+    if c == b'\n' {
         return put_backslash(out, at, b'n');
     }
     if c < 32 {
@@ -69,46 +79,56 @@ fn put_escape(out: &mut [u8], at: usize, c: u8) -> usize
     if c == 127 {
         return put_unicode(out, at, c);
     }
-    put_byte(out, at, c)
+    put_mark(out, at, c)
 }
 
-// Whether a byte is written as it is: letters, most of all bytes, are told by the fewest tests.
-fn is_itself(c: u8) -> bool
-    ensures { λ r. ⌜ r ≡ isItself c ⌝ }
+// 0 for a byte that is written as it is, 1 for one that is escaped.
+fn escape_weight(c: u8) -> u8
+    ensures { λ r. ⌜ r ≡ escapeWeight c ⌝ }
 {
-    if 92 < c {
-        return c != 127;
-    }
-    if 34 < c {
-        return c != 92;
-    }
     if c < 32 {
-        return false;
+        return 1;
     }
-    c != 34
+    if c == b'"' {
+        return 1;
+    }
+    if c == b'\\' {
+        return 1;
+    }
+    if c == 127 {
+        return 1;
+    }
+    0
 }
 
-// Copies bytes, up to the first that is not written as it is, to a place that has room for all of them, and answers how
-// many they were.
-fn copy_plain(out: &mut [u8], at: usize, s: &[u8]) -> usize
-    requires { ⌜ at + length (now s) ≤ length (now out) ⌝ }
-    ensures { λ r. ⌜ CopiedPlain (now (out .entry)) at (now (s .entry)) r (now (out .exit)) ⌝ }
+// The greater of two bytes.
+fn greater(a: u8, b: u8) -> u8
+    ensures { λ r. ⌜ r ≡ max a b ⌝ }
 {
+    if a < b {
+        return b;
+    }
+    a
+}
+
+// Whether all bytes are written as they are: every byte is looked at, with no early exit, so that many are compared at
+// once.
+fn prints_as_is(s: &[u8]) -> bool
+    ensures { λ r. ⌜ r ≡ all isItself (now (s .entry)) ⌝ }
+{
+    let mut top: u8 = 0;
     let mut i = 0;
     while i < s.len() {
-        let c = s[i];
-        if !is_itself(c) {
-            return i;
-        }
-        out[at + i] = c;
+        top = greater(top, escape_weight(s[i]));
         i += 1;
     }
-    i
+    top == 0
 }
 
 // Writes a string byte by byte.
 fn put_escaped(out: &mut [u8], at: usize, s: &[u8]) -> usize
-    ensures { λ r. ⌜ Put (now (out .entry)) at (escaped (now (s .entry))) r (now (out .exit)) ⌝ }
+    requires { ⌜ Fits (now out) at (escaped (now s)) ⌝ }
+    ensures { λ r. ⌜ Wrote (now (out .entry)) at (escaped (now (s .entry))) r (now (out .exit)) ⌝ }
 {
     let mut next = at;
     let mut i = 0;
@@ -119,28 +139,23 @@ fn put_escaped(out: &mut [u8], at: usize, s: &[u8]) -> usize
     next
 }
 
-// Writes what stands between the marks: at once up to what is to be escaped, if anything is.
+// Writes what stands between the marks: at once where nothing is escaped.
 fn put_between(out: &mut [u8], at: usize, s: &[u8]) -> usize
-    ensures { λ r. ⌜ Put (now (out .entry)) at (escaped (now (s .entry))) r (now (out .exit)) ⌝ }
+    requires { ⌜ Fits (now out) at (escaped (now s)) ⌝ }
+    ensures { λ r. ⌜ Wrote (now (out .entry)) at (escaped (now (s .entry))) r (now (out .exit)) ⌝ }
 {
-    if out.len() < at {
-        return put_escaped(out, at, s);
+    if prints_as_is(s) {
+        return put(out, at, s);
     }
-    if out.len() - at < s.len() {
-        return put_escaped(out, at, s);
-    }
-    let n = copy_plain(out, at, s);
-    if n == s.len() {
-        return at + n;
-    }
-    put_escaped(out, at + n, &s[n..])
+    put_escaped(out, at, s)
 }
 
 // Writes a string in double quotes.
 pub(crate) fn put_quoted(out: &mut [u8], at: usize, s: &[u8]) -> usize
-    ensures { λ r. ⌜ Put (now (out .entry)) at (quoted (now (s .entry))) r (now (out .exit)) ⌝ }
+    requires { ⌜ Fits (now out) at (quoted (now s)) ⌝ }
+    ensures { λ r. ⌜ Wrote (now (out .entry)) at (quoted (now (s .entry))) r (now (out .exit)) ⌝ }
 {
-    let opened = put_byte(out, at, 34);
-    let next = put_between(out, opened, s);
-    put_byte(out, next, 34)
+    let opened = put_mark(out, at, b'"');
+    let last = put_between(out, opened, s);
+    put_mark(out, last, b'"')
 }

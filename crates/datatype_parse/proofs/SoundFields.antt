@@ -9,7 +9,7 @@ use Rattle.tokenizer.specs.Answer.{Out, done, refuse}
 use Rattle.tokenizer.specs.Utf8.{isUtf8}
 use Rattle.tokenizer.specs.Token.{lparen, rparen, comma, colon, doubleQuoted, xWord}
 use Rattle.datatype.specs.Tree.{roots}
-use Rattle.row_table.specs.Sound.{Place, bare, field, unionField, twoChildren, arityFits, idFits}
+use Rattle.row_table.specs.Sound.{Standing, bare, field, unionField, twoChildren, arityFits, idFits}
 use Rattle.row_table.specs.Internal.Check.{entriesOk, firstNonNull}
 use Rattle.parser.specs.Parse.{Name, item, run-ends, values, textName, Tree, Fields, rowsIn, single, pair, Item, end, last, more, fieldsFrom, itemsBy, idOf, need, stands, roleAt, afterRole, signedByteAt, closeAt, listNameAt, fieldAt, defaultField, listField, structItem, unionItem, namedRunEnds, defaultRunEnds, runEndFields, entriesAt, fixedListField}
 use Rattle.parser.specs.Parse as P
@@ -20,15 +20,15 @@ use Rattle.datatype_parse.proofs.SoundRows.{isField, idsAllow, field-id
 module _ (text : List ℕ) (level : ℕ) where
   -- ---- fields turn by turn
 
-  abbrev pub Turn : Place → ℕ → Item → Type 0
+  abbrev pub Turn : Standing → ℕ → Item → Type 0
   Turn place rows (end next) = Unit {0}
   Turn place rows (last t next) = Typed text place level rows t
   Turn place rows (more t next) = Typed text place level rows t
 
-  abbrev pub Run : Place → ℕ → Fields → Type 0
+  abbrev pub Run : Standing → ℕ → Fields → Type 0
   Run place rows fs = Fits text place level rows (fs .trees)
 
-  turn-sound : (place : Place) (go : ℕ → ℕ → Out Fields) (rows : ℕ) → ((next k : ℕ) → Holds (Run place (rows - k)) (go next (rows - k)))
+  turn-sound : (place : Standing) (go : ℕ → ℕ → Out Fields) (rows : ℕ) → ((next k : ℕ) → Holds (Run place (rows - k)) (go next (rows - k)))
       → (i : Item) → Turn place rows i → Holds (Run place rows) (fieldsFrom go rows i)
   turn-sound place go rows h (end next) w = fits-none text place level rows
   turn-sound place go rows h (last t next) w = w
@@ -36,7 +36,7 @@ module _ (text : List ℕ) (level : ℕ) where
       holds-then (Run place (rows - rowsIn t)) (Run place rows) (go next (rows - rowsIn t)) _ (h next (rowsIn t)) λ fs b.
       fits-more text place level rows (t .row) (t .kids) (fs .trees) w b
 
-  pub items-sound : (place : Place) (turn : ℕ → ℕ → Out Item) → ((at rows : ℕ) → Holds (Turn place rows) (turn at rows))
+  pub items-sound : (place : Standing) (turn : ℕ → ℕ → Out Item) → ((at rows : ℕ) → Holds (Turn place rows) (turn at rows))
       → (most at rows : ℕ) → Holds (Run place rows) (itemsBy turn most at rows)
   unfolding itemsBy
   items-sound place turn h zero at rows = tt
@@ -61,7 +61,7 @@ module _ (text : List ℕ) (level : ℕ) where
   Entries rows t = Typed text field level rows t × T (entriesOk (single t))
 
 module _ (text : List ℕ) (good : T (isUtf8 text)) (level : ℕ) (type : ℕ → ℕ → Out Tree) (down : (at rows : ℕ) → Holds (Typed text bare level rows) (type at rows)) where
-  field-sound : (place : Place) (id at rows : ℕ) → T (isField place) → (T (idsAllow place (id ∷ [])) → T (idFits place id))
+  field-sound : (place : Standing) (id at rows : ℕ) → T (isField place) → (T (idsAllow place (id ∷ [])) → T (idFits place id))
       → Holds (Typed text place level rows) (fieldAt text type id at rows)
   unfolding fieldAt
   field-sound place id at rows p i =

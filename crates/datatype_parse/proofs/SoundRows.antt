@@ -10,7 +10,7 @@ use lib.Dec.{T, ltb, eqb, lt→ltb}
 use Rattle.tokenizer.proofs.Basics.{and-l, and-r, both}
 use Rattle.datatype.specs.Kind.{Shape, kinds, shapeOf, has, idsFit}
 use Rattle.datatype.specs.Tree.{Forest, ∅, node, count, roots, Row, labels}
-use Rattle.row_table.specs.Sound.{Place, bare, field, unionField, arityFits, idFits, rulesOf, rowsFit, isListed, placed}
+use Rattle.row_table.specs.Sound.{Standing, bare, field, unionField, arityFits, idFits, rulesOf, rowsFit, isListed, placed}
 use Rattle.row_table.specs.Internal.Check.{belowOf, partFits, nameOk, zoneOk, ownShape, numbersFit, ownFits, overKids, childrenFit}
 use Rattle.row_table.proofs.Clauses.{Run, own-of, run-in, run-out}
 use Rattle.parser.specs.Parse.{Name, Tree, bareRow, fieldRow, single}
@@ -18,13 +18,13 @@ use Rattle.parser.specs.Parse.{Name, Tree, bareRow, fieldRow, single}
 -- ---- places
 
 -- A field, of a union or not.
-abbrev pub isField : Place → Bool
+abbrev pub isField : Standing → Bool
 isField bare = false
 isField field = true
 isField unionField = true
 
 -- The ids of siblings in a place. A union's are judged only once all its fields are read.
-abbrev pub idsAllow : Place → List ℕ → Bool
+abbrev pub idsAllow : Standing → List ℕ → Bool
 idsAllow bare ids = true
 idsAllow field ids = true
 idsAllow unionField ids = idsFit ids
@@ -33,7 +33,7 @@ idsAllow unionField ids = idsFit ids
 abbrev pub ids : Forest Row → List ℕ
 ids f = map (λ r. r .unionId) (roots f)
 
-allow-first : (place : Place) (x : ℕ) (xs : List ℕ) → T (idsAllow place (x ∷ xs)) → T (idsAllow place (x ∷ []))
+allow-first : (place : Standing) (x : ℕ) (xs : List ℕ) → T (idsAllow place (x ∷ xs)) → T (idsAllow place (x ∷ []))
 unfolding idsFit
 allow-first bare x xs t = tt
 allow-first field x xs t = tt
@@ -42,7 +42,7 @@ allow-first unionField x xs t =
     let b : Bool = not (has x xs) in
     both (a && true) true (both a true (and-l a b (and-l (a && b) (idsFit xs) t)) tt) tt
 
-allow-rest : (place : Place) (x : ℕ) (xs : List ℕ) → T (idsAllow place (x ∷ xs)) → T (idsAllow place xs)
+allow-rest : (place : Standing) (x : ℕ) (xs : List ℕ) → T (idsAllow place (x ∷ xs)) → T (idsAllow place xs)
 unfolding idsFit
 allow-rest bare x xs t = tt
 allow-rest field x xs t = tt
@@ -69,7 +69,7 @@ module _ (text : List ℕ) where
       go true t = tt
       go false t = t
 
-  named : (place : Place) (role : ℕ) (n : Name) → T (isField place) → T (eqb role 1 || eqb role 2) → T (Found n)
+  named : (place : Standing) (role : ℕ) (n : Name) → T (isField place) → T (eqb role 1 || eqb role 2) → T (Found n)
       → T (nameOk text place role (n .home) (n .start) (n .size))
   unfolding nameOk
   named bare role n p r f = absurd p
@@ -78,7 +78,7 @@ module _ (text : List ℕ) where
 
   -- ---- rows
 
-  own : (place : Place) (r : Row) → T (ltb (r .kind) kinds) → T (numbersFit (r .kind) (r .number) (r .scale)) → T (idFits place (r .unionId))
+  own : (place : Standing) (r : Row) → T (ltb (r .kind) kinds) → T (numbersFit (r .kind) (r .number) (r .scale)) → T (idFits place (r .unionId))
       → T (nameOk text place (r .role) (r .home) (r .nameStart) (r .nameLength)) → T (zoneOk text ((rulesOf (shapeOf (r .kind))) .zoned) (r .zoneStart) (r .zoneLength))
       → T (ownFits text place r)
   unfolding ownFits
@@ -90,7 +90,7 @@ module _ (text : List ℕ) where
       both (a && b && c && d) (zoneOk text ((rulesOf (shapeOf (r .kind))) .zoned) (r .zoneStart) (r .zoneLength)) (both (a && b && c) d (both (a && b) c (both a b k n) i) m) z
 
   -- the row of a type made a field's
-  own-field : (from to : Place) (r : Row) (role id : ℕ) (n : Name) → T (isField to) → T (eqb role 1 || eqb role 2) → T (idFits to id) → T (Found n)
+  own-field : (from to : Standing) (r : Row) (role id : ℕ) (n : Name) → T (isField to) → T (eqb role 1 || eqb role 2) → T (idFits to id) → T (Found n)
       → T (ownFits text from r) → T (ownFits text to (fieldRow role id n r))
   own-field from to r role id n p q i f t =
       let o = own-of text from r ∅ t in
@@ -98,12 +98,12 @@ module _ (text : List ℕ) where
 
   -- ---- runs
 
-  pub run-empty : (place : Place) (level : ℕ) → Run text place level ∅
+  pub run-empty : (place : Standing) (level : ℕ) → Run text place level ∅
   unfolding placed rowsFit labels
   run-empty place level = record { flat = omega arith; places = tt; fits = tt }
 
   -- a tree before others
-  run-cons : (place : Place) (level : ℕ) (r : Row) (kids next : Forest Row) → Run text place level (node r kids ∅) → Run text place level next
+  run-cons : (place : Standing) (level : ℕ) (r : Row) (kids next : Forest Row) → Run text place level (node r kids ∅) → Run text place level next
       → Run text place level (node r kids next)
   run-cons place zero r kids next a b = absurd (let d = a .flat in omega arith)
   run-cons place (suc l) r kids next a b =
@@ -111,7 +111,7 @@ module _ (text : List ℕ) where
       run-in text place l r kids next (w .0) (w .1) (w .2) b
 
   -- a type made a field
-  pub run-field : (from to : Place) (level : ℕ) (r : Row) (kids : Forest Row) (role id : ℕ) (n : Name) → T (isField to) → T (eqb role 1 || eqb role 2)
+  pub run-field : (from to : Standing) (level : ℕ) (r : Row) (kids : Forest Row) (role id : ℕ) (n : Name) → T (isField to) → T (eqb role 1 || eqb role 2)
       → T (idFits to id) → T (Found n) → Run text from level (node r kids ∅) → Run text to level (node (fieldRow role id n r) kids ∅)
   run-field from to zero r kids role id n p q i f a = absurd (let d = a .flat in omega arith)
   run-field from to (suc l) r kids role id n p q i f a =
@@ -150,18 +150,18 @@ module _ (text : List ℕ) where
   -- ---- what the reader answers
 
   -- A run of trees that is sound, where the ids of its roots are allowed, and takes no more than the rows left.
-  pub record Fits (place : Place) (level rows : ℕ) (f : Forest Row) : Type 0 where
+  pub record Fits (place : Standing) (level rows : ℕ) (f : Forest Row) : Type 0 where
     pub run : T (idsAllow place (ids f)) → Run text place level f
     pub few : count f ≤ rows
 
   -- A type or a field.
-  abbrev pub Typed : Place → ℕ → ℕ → Tree → Type 0
+  abbrev pub Typed : Standing → ℕ → ℕ → Tree → Type 0
   Typed place level rows t = Fits place level rows (single t)
 
-  pub fits-none : (place : Place) (level rows : ℕ) → Fits place level rows ∅
+  pub fits-none : (place : Standing) (level rows : ℕ) → Fits place level rows ∅
   fits-none place level rows = record { run = λ t. run-empty place level; few = omega arith }
 
-  pub fits-more : (place : Place) (level rows : ℕ) (r : Row) (kids next : Forest Row) → Fits place level rows (node r kids ∅)
+  pub fits-more : (place : Standing) (level rows : ℕ) (r : Row) (kids next : Forest Row) → Fits place level rows (node r kids ∅)
       → Fits place level (rows - suc (count kids)) next → Fits place level rows (node r kids next)
   fits-more place level rows r kids next a b =
       let x = a .few in
@@ -172,7 +172,7 @@ module _ (text : List ℕ) where
       }
 
   -- a type or a field made a field
-  pub fits-field : (from to : Place) (level rows : ℕ) (r : Row) (kids : Forest Row) (role id : ℕ) (n : Name) → T (idsAllow from (r .unionId ∷ [])) → T (isField to)
+  pub fits-field : (from to : Standing) (level rows : ℕ) (r : Row) (kids : Forest Row) (role id : ℕ) (n : Name) → T (idsAllow from (r .unionId ∷ [])) → T (isField to)
       → T (eqb role 1 || eqb role 2) → (T (idsAllow to (id ∷ [])) → T (idFits to id)) → T (Found n)
       → Fits from level rows (node r kids ∅) → Fits to level rows (node (fieldRow role id n r) kids ∅)
   fits-field from to level rows r kids role id n w p q i f a =

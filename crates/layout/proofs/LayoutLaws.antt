@@ -1,4 +1,4 @@
--- The layout verdict: the scan over the rows of `layout.rt` finds the first row of the tree that breaks a rule.
+-- The layout verdict: the scan over the rows finds the first row of the tree that breaks a rule.
 use mathlib.Core.Path.{_≡_, refl, sym, ap, _∙_, subst}
 use mathlib.Core.Bool.{Bool, true, false, _||_, _&&_}
 use mathlib.Core.List.{List, [], _++_, append-assoc, append-nil}
@@ -15,7 +15,7 @@ use Rattle.tokenizer.proofs.Basics.{of-true}
 use Rattle.datatype.specs.Kind.{Shape, leaf, timestamp, time, interval, fixed, list, fixedList, struct, union, dictionary, decimal, mapping, runEnds, kinds, shapeOf}
 use Rattle.datatype.specs.Tree.{Forest, ∅, node, count, roots, Row, labelOf, labels}
 use Rattle.datatype.specs.Table.{rowWords, wordsOf}
-use Rattle.row_table.specs.Sound.{Place, bare, arityFits, rulesOf, rowsFit, isSound}
+use Rattle.row_table.specs.Sound.{Standing, bare, arityFits, rulesOf, rowsFit, isSound}
 use Rattle.subtrees.specs.Equal.{firstRows, wholeRows}
 use Rattle.layout.specs.Layout.{Asked, anything, key, runEnd, kindAllowed, askedOfFirst, first, brokenRow, verdictOf, verdictMeans}
 use Rattle.layout.specs.declared.Verdict.{Verdict}
@@ -190,12 +190,12 @@ module _ (text names : List ℕ) where
         go true = parts
         go false = refl
 
-  nothing-below : (place : Place) (r : Row) (k n : Forest Row) → T (rowsFit place (labels text names (node r k n))) → k ≡ ∅ → askedOfFirst (shapeOf (r .kind)) ≡ anything
+  nothing-below : (place : Standing) (r : Row) (k n : Forest Row) → T (rowsFit place (labels text names (node r k n))) → k ≡ ∅ → askedOfFirst (shapeOf (r .kind)) ≡ anything
   unfolding labels labelOf
   nothing-below place r k n t e =
       none-asks (shapeOf (r .kind)) (subst (λ (g : Forest Row). T (arityFits ((rulesOf (shapeOf (r .kind))) .children) (length (roots (labels text names g))))) e (rows-fit place (labelOf text names r) (labels text names k) (labels text names n) t .0 .arity))
 
-  scan-run : (place : Place) (f : Forest Row) (asked : Asked) (i : ℕ) (rest : List (List ℕ)) → T (rowsFit place (labels text names f)) → (f ≡ ∅ → asked ≡ anything) → Found asked i f rest
+  scan-run : (place : Standing) (f : Forest Row) (asked : Asked) (i : ℕ) (rest : List (List ℕ)) → T (rowsFit place (labels text names f)) → (f ≡ ∅ → asked ≡ anything) → Found asked i f rest
   unfolding Found brokenRow labels
   scan-run place ∅ asked i rest t h = let e : i + 0 ≡ i = omega arith in rw (h refl, e)
   scan-run place (node r k n) asked i rest t h =

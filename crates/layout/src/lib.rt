@@ -1,5 +1,7 @@
 // The layout verdict: a dictionary key is any of the eight integer types, run ends are Int16, Int32 or Int64.
 ghost use mathlib.Core.Path.{_≡_};
+ghost use mathlib.Core.Bool.{_&&_};
+ghost use lib.Dec.{leb};
 ghost use Rattle.tokenizer.specs.Answer.{done};
 ghost use Rattle.datatype.specs.Kind.{shapeOf};
 ghost use Rattle.subtrees.specs.Equal.{wholeRows};
@@ -11,7 +13,6 @@ use datatype::kind::INT16;
 use datatype::kind::INT64;
 use datatype::kind::RUN_END_ENCODED;
 use datatype::kind::UINT64;
-use datatype::kind::between;
 use datatype::rows::KIND;
 use datatype::rows::ROW_WORDS;
 use row_table::is_sound;
@@ -23,6 +24,16 @@ pub enum Verdict {
     // The first row that breaks a rule.
     Row(usize),
     Refused(u32),
+}
+
+// Whether a kind lies between two others, in the order of `DataType`, or is one of them.
+fn between(least: u32, kind: u32, most: u32) -> bool
+    ensures { λ r. ⌜ r ≡ (leb least kind && leb kind most) ⌝ }
+{
+    if kind < least {
+        return false;
+    }
+    kind <= most
 }
 
 // Whether a row that is asked something (0 anything, 1 a dictionary key, 2 run ends) may have a kind.

@@ -34,7 +34,3 @@ refuses-bind (done a) f h = absurd h
 pub bind-ext : {A B : Type 0} (o : Out A) (f g : A → Out B) → ((a : A) → f a ≡ g a) → (o >>= f) ≡ (o >>= g)
 bind-ext (refused r) f g h = refl
 bind-ext (done a) f g h = h a
-
-pub bind-refused : {A B : Type 0} (o : Out A) (f g : A → Out B) → Refuses o → (o >>= f) ≡ (o >>= g)
-bind-refused (refused r) f g h = refl
-bind-refused (done a) f g h = absurd h

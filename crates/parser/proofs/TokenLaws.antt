@@ -4,7 +4,7 @@ use mathlib.Core.Bool.{Bool, true, false, not}
 use mathlib.Core.List.{List, [], _∷_}
 use Prim.Native.Nat.{ℕ, _+_, _%_, _≤_, _<_}
 use native.Mathlib.Omega.{arith}
-use lib.ListN.{length, drop, getD, List·getD-eq-default}
+use lib.ListN.{length, getD, List·getD-eq-default}
 use lib.Dec.{T, eqb, leb}
 use borrow.Author.Tests.{eq-eqb, ne-eqb, leb-true, le-leb, lt-leb}
 use types.Run.{OneOf, miss}
@@ -14,13 +14,13 @@ use Rattle.tokenizer.proofs.TokenKind.{the-type}
 use Rattle.tokenizer.specs.Text.{if_then_else_}
 use Rattle.tokenizer.specs.Answer.{done, refuse}
 use Rattle.tokenizer.specs.Places.{afterSpaces}
-use Rattle.tokenizer.specs.Token.{token, tokenAt, untilQuote, stringToken, sortOf, valueOf, noToken, integer, doubleQuoted, nullability}
+use Rattle.tokenizer.specs.Token.{token, tokenAt, sortOf, valueOf, noToken, integer, nullability}
 use Rattle.tokenizer.specs.declared.Token.{Token}
 use Rattle.tokenizer.specs.declared.TokenKind.{TokenKind}
 use Rattle.tokenizer.specs.declared.TokenKind.the-variants.{LParen, RParen, Comma, Colon, Integer, DoubleQuotedString, SingleQuotedString, DataType, TimeUnit, IntervalUnit, UnionMode, MapSorted, Nullability, Field, Some, None, X, Refused}
 use Rattle.tokenizer.proofs.Marks as Marks
 use Rattle.tokenizer.proofs.Basics.{of-true}
-use Rattle.tokenizer.proofs.Tokens.{token-spaces, token-end, token-34}
+use Rattle.tokenizer.proofs.Tokens.{token-spaces, token-end}
 use Rattle.tokenizer.proofs.Runs.{spaces-stop, spaces-go}
 use Rattle.parser.specs.Parse.{refusalOf, need, stands, roleAt, afterRole, numberIn}
 use Rattle.parser.specs.Internal.Sought.{Found}
@@ -162,25 +162,12 @@ module _ (text : List ℕ) (at from : ℕ) (f : from ≡ afterSpaces text at) wh
   behind-spaces : tokenAt text from ≡ tokenAt text at
   behind-spaces = ap (tokenAt text) f ∙ sym (token-spaces text at)
 
-  pub need-behind : (sort : ℕ) → need text sort from ≡ need text sort at
-  unfolding need
-  need-behind sort = rw behind-spaces
-
   pub valued-found : (sort : ℕ) (k : TokenKind) (v next : ℕ) → Found k text from next → 0 < next → sortOf k ≡ sort → valueOf k ≡ v → W.Value (word v next) ≡ valuedOf (need text sort at)
   unfolding Found
   valued-found sort k v next w h s u =
       let p = w h in
       ap (λ (i : ℕ). W.Value (word v i)) (sym (p .1))
       ∙ valued-here text sort at (tokenAt text from) behind-spaces v (ap sortOf (p .0) ∙ s) (ap valueOf (p .0) ∙ u)
-
-  -- the token of a string whose opening mark stands there
-  pub opened-behind : from < length text → getD text from 0 ≡ 34 → stringToken DoubleQuotedString from (untilQuote 34 false (drop (from + 1) text)) ≡ tokenAt text at
-  opened-behind h c = token-34 text at from f h c
-
-  -- where no string begins
-  pub stands-other : (getD text from 0 ≡ 34 → ⊥) → false ≡ stands text doubleQuoted at
-  unfolding stands
-  stands-other h = sym (Marks.no-double text at (rw f at h))
 
 -- behind the text's end no byte stands
 pub no-byte : (text : List ℕ) (at byte : ℕ) → length text ≤ at → 0 < byte → getD text at 0 ≡ byte → ⊥
@@ -288,9 +275,6 @@ module _ (text : List ℕ) (at : ℕ) where
   plain e = (rw e, rw e)
 
   module _ (from : ℕ) (f : from ≡ afterSpaces text at) where
-    pub null-over : length text ≤ from → (1 ≡ roleAt text at) × (at ≡ afterRole text at)
-    null-over h = plain (Marks.text-over text at (rw f at h) nullability refl)
-
     pub null-other : (getD text from 0 ≡ 110 → ⊥) → (1 ≡ roleAt text at) × (at ≡ afterRole text at)
     null-other h = plain (Marks.no-nullability text at (rw f at h))
 

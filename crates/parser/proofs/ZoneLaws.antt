@@ -2,10 +2,9 @@
 use mathlib.Core.Path.{_≡_, refl, sym, ap, _∙_}
 use mathlib.Core.Bool.{Bool, true, false, not}
 use mathlib.Core.List.{List}
-use mathlib.Core.Option.{Option, none, some}
-use Prim.Native.Nat.{ℕ, zero, suc, _+_, _≤_, _<_}
+use Prim.Native.Nat.{ℕ, _+_, _≤_}
 use native.Mathlib.Omega.{arith}
-use lib.ListN.{length, drop, getD}
+use lib.ListN.{length}
 use lib.Dec.{T, eqb, leb}
 use borrow.Author.Tests.{eq-eqb, leb-true}
 use types.Run.{OneOf}
@@ -14,12 +13,10 @@ use mir.Syntax.{w32}
 use denote.Enum.Declared.{tagOf}
 use Rattle.tokenizer.proofs.TokenKind.{the-type}
 use Rattle.tokenizer.specs.Text.{if_then_else_}
-use Rattle.tokenizer.specs.Answer.{Refusal, Out, refused, done, refuse, _>>=_}
-use Rattle.tokenizer.specs.Places.{afterSpaces}
-use Rattle.tokenizer.specs.Token.{tokenAt, untilQuote, stringToken, sortOf, valueOf, isNegative, noToken, lparen, rparen, comma, colon, integer, doubleQuoted, singleQuoted, fieldWord, timeUnit, someWord, noneWord}
+use Rattle.tokenizer.specs.Answer.{Refusal, Out, refused, done, refuse}
+use Rattle.tokenizer.specs.Token.{tokenAt, sortOf, valueOf, isNegative, noToken, lparen, rparen, comma, colon, integer, doubleQuoted, singleQuoted, fieldWord, timeUnit, someWord, noneWord}
 use Rattle.tokenizer.specs.declared.Token.{Token}
 use Rattle.tokenizer.specs.declared.TokenKind.{TokenKind}
-use Rattle.tokenizer.specs.declared.TokenKind.the-variants.{DoubleQuotedString}
 use Rattle.tokenizer.proofs.Marks.{bounds}
 use Rattle.datatype.specs.Kind.{unitFits}
 use Rattle.parser.specs.Parse.{Zone, refusalOf, need, stands, numberIn, unitAt, someZone, zoneString, zoneAt, listNameAt}
@@ -29,7 +26,7 @@ use Rattle.parser.specs.declared.Quoted.the-variants as Q
 use Rattle.parser.proofs.Holds.{Holds, holds-bind, holds-then, holds-if}
 use Rattle.parser.proofs.Answers.{behind, string, GotValue, GotNumber}
 use Rattle.parser.proofs.Looks.{needed-stands, refused-stands}
-use Rattle.parser.proofs.TokenLaws.{tagFor, here, not-here, need-behind, opened-behind, other-sort}
+use Rattle.parser.proofs.TokenLaws.{tagFor, here, not-here, other-sort}
 
 -- ---- units and lengths
 
@@ -90,12 +87,6 @@ pub zone-done : (o : Out Zone) (s l n : ℕ) → o ≡ done (record { start = s;
 unfolding zoneStep
 zone-done o s l n e = rw e
 
--- a string as a zone
-zone-of : (o : Out Token) → quotedOf o ≡ zoneStep (o >>= (λ (s : Token). done (record { start = s .start; size = s .size; next = s .next })))
-unfolding quotedOf zoneStep
-zone-of (refused r) = refl
-zone-of (done s) = refl
-
 module _ (text : List ℕ) (at : ℕ) where
   -- Some(string), behind the word
   pub some-1 : (x : ℕ) → need text lparen at ≡ refuse x → someZone text at ≡ refuse x
@@ -147,21 +138,6 @@ module _ (text : List ℕ) (at : ℕ) where
           stood-not someWord (other-sort someWord others (t .kind) h₂ o),
           not-here text doubleQuoted at t e (other-sort doubleQuoted others (t .kind) h₃ o),
         ) refl
-
-    zone-as : eqb (sortOf (t .kind)) noneWord ≡ false → eqb (sortOf (t .kind)) someWord ≡ false → quotedOf (need text doubleQuoted at) ≡ zoneStep (zoneString text at)
-    unfolding zoneString
-    zone-as a b = rw (stood-not noneWord a, stood-not someWord b) (zone-of (need text doubleQuoted at))
-
-  zone-opened : (from : ℕ) (o : Option ℕ) → stringToken DoubleQuotedString from o ≡ tokenAt text at → quotedOf (need text doubleQuoted at) ≡ zoneStep (zoneString text at)
-  zone-opened from none e = zone-as (stringToken DoubleQuotedString from none) e refl refl
-  zone-opened from (some zero) e = zone-as (stringToken DoubleQuotedString from (some zero)) e refl refl
-  zone-opened from (some (suc n)) e = zone-as (stringToken DoubleQuotedString from (some (suc n))) e refl refl
-
-  -- where a string begins, it is the zone
-  pub zone-begun : (from : ℕ) → from ≡ afterSpaces text at → from < length text → getD text from 0 ≡ 34 → quotedOf (need text doubleQuoted from) ≡ zoneStep (zoneString text at)
-  zone-begun from f h c =
-      ap quotedOf (need-behind text at from f doubleQuoted)
-      ∙ zone-opened from (untilQuote 34 false (drop (from + 1) text)) (opened-behind text at from f h c)
 
   -- behind the unit
   pub zone-1 : (c : Token) (n : ℕ) → need text rparen at ≡ done (behind c n) → zoneAt text at ≡ done (record { start = 0; size = 0; next = n })

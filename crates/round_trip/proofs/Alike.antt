@@ -27,7 +27,8 @@ use Rattle.subtrees.specs.Parents.{withParent, parentedFrom, parented}
 use Rattle.parser.specs.Parse.{Tree, bareRow, single, need, closeAt, listField, listAt, decimalAt, shapeAt, typeWith, typeAt}
 use Rattle.parser.proofs.FirstType.{first-type}
 use Rattle.datatype_parse.specs.Parse.{textOver, parse}
-use Rattle.datatype_display.specs.Display.{Shown, kindWord, digitsWith, digits, scaleText, listFieldText, shapeText, typeText, shown, display}
+use Rattle.output.specs.Digits.{digitsWith, digits}
+use Rattle.display_length.specs.Display.{Shown, kindWord, scaleText, listFieldText, shapeText, typeText, shown, display}
 use Rattle.round_trip.proofs.Tokens.{kind-word}
 use Rattle.round_trip.proofs.Pieces.{look-here, Found, found-word, need-found}
 use Rattle.round_trip.proofs.Leaves.{DecimalRead, decimal-any}

@@ -12,7 +12,7 @@ use borrow.Author.Tests.{lt-ltb, le-ltb, le-leb}
 use Rattle.tokenizer.specs.Text.{all}
 use Rattle.tokenizer.specs.Token.{isDigit, numberFrom}
 use Rattle.tokenizer.proofs.Basics.{and-l, and-r, both}
-use Rattle.datatype_display.specs.Display.{digitsWith, digits}
+use Rattle.output.specs.Digits.{digitsWith, digits}
 
 number-snoc : (v : ℕ) (s : List ℕ) (c : ℕ) → numberFrom v (s ++ (c ∷ [])) ≡ numberFrom v s * 10 + (c - 48)
 unfolding numberFrom

@@ -15,7 +15,7 @@ use Rattle.datatype.specs.Tree.{Forest, count, Label, nameList, nameOf, part}
 use Rattle.row_table.specs.Sound.{isName}
 use Rattle.datatype.proofs.Same.{same-eq}
 use Rattle.parser.specs.Parse.{Name, Tree, item, textName, fieldRow, roleAt, afterRole, listNameAt, fieldAt, defaultField, listField}
-use Rattle.datatype_display.specs.Display.{Shown, quoted, nullityText, fieldText, listNameText, listFieldText, typeText, shown}
+use Rattle.display_length.specs.Display.{Shown, quoted, nullityText, fieldText, listNameText, listFieldText, typeText, shown}
 use Rattle.round_trip.specs.Plain.{isPlain}
 use Rattle.round_trip.proofs.Tokens.{Stop, isListedWord, isWordOf, word-is}
 use Rattle.round_trip.proofs.PlainRows.{FieldRow, bareLabel}

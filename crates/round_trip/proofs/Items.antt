@@ -16,7 +16,8 @@ use Rattle.row_table.specs.Sound.{field, unionField}
 use Rattle.parser.specs.Parse as P
 use Rattle.parser.specs.Parse.{Tree, Item, end, last, more, single, idOf, stands, itemsBy, fieldAt, structItem, unionItem}
 use Rattle.parser.proofs.TokenLaws.{here}
-use Rattle.datatype_display.specs.Display.{digits, fieldText, structText, unionText, shown}
+use Rattle.output.specs.Digits.{digits}
+use Rattle.display_length.specs.Display.{fieldText, structText, unionText, shown}
 use Rattle.round_trip.proofs.Tokens.{mark-stop, comma-stop}
 use Rattle.round_trip.proofs.PlainRows.{PlainRows, FieldRow, field-row, union-row, field-id, union-id}
 use Rattle.round_trip.proofs.Pieces.{Look, look-here, look-space, stands-is, rparen-token, need-lparen-behind, need-rparen, need-comma, need-colon, rparen-stands, comma-stands, closes, NumberRead, number-read}

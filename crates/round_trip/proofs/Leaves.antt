@@ -16,7 +16,8 @@ use Rattle.datatype.specs.Kind.{leaf, timestamp, time, interval, fixed, decimal
 use Rattle.datatype.specs.Tree.{Forest, ∅, node, roots, Label, nameList, zoneOf, labels}
 use Rattle.row_table.specs.Sound.{arityFits, noChild, rulesOf, zoneFits, shapeFits}
 use Rattle.parser.specs.Parse.{Zone, Tree, bareRow, scaleOf, unitAt, zoneString, zoneAt, timestampAt, timeAt, intervalAt, fixedSizeBinaryAt, scaleAt, decimalAt}
-use Rattle.datatype_display.specs.Display.{digits, unitText, intervalText, scaleText, zoneText, quoted, shapeText, shown}
+use Rattle.output.specs.Digits.{digits}
+use Rattle.display_length.specs.Display.{unitText, intervalText, scaleText, zoneText, quoted, shapeText, shown}
 use Rattle.round_trip.specs.Plain.{isPlain}
 use Rattle.round_trip.proofs.Tokens.{Stop, mark-stop, comma-stop, isListedWord, isWordOf, WordOf, word-is}
 use Rattle.round_trip.proofs.PlainRows.{ShapeRow, bareLabel, no-zone}

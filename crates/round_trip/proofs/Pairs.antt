@@ -14,7 +14,7 @@ use Rattle.tokenizer.proofs.Basics.{skip, of-true, and-l, and-r}
 use Rattle.datatype.specs.Tree.{Forest, ∅, node, count, Label, nameOf, labels}
 use Rattle.datatype.proofs.Same.{same-eq}
 use Rattle.parser.specs.Parse.{Tree, run-ends, values, pair, stands, namedRunEnds, defaultRunEnds, runEndFields}
-use Rattle.datatype_display.specs.Display.{nullityText, fieldText, defaultNames, runEndText, typeText, shown}
+use Rattle.display_length.specs.Display.{nullityText, fieldText, defaultNames, runEndText, typeText, shown}
 use Rattle.round_trip.proofs.Tokens.{mark-stop, comma-stop, isListedWord, isWordOf, word-is}
 use Rattle.round_trip.proofs.PlainRows.{FieldRow}
 use Rattle.round_trip.proofs.Pieces.{look-here, look-space, stands-is, need-comma, Found, found-word}

@@ -14,7 +14,8 @@ use Rattle.datatype.specs.Kind.{list, fixedList, struct, union, dictionary, map
 use Rattle.datatype.specs.Tree.{Forest, ∅, node, count, roots, Label, nameList, labels}
 use Rattle.row_table.specs.Sound.{arityFits, rulesOf, shapeFits, rolesOf, idsOf}
 use Rattle.parser.specs.Parse.{Tree, single, pair, itemsBy, listField, structItem, unionItem, runEndFields, entriesAt, fixedListField, listAt, fixedSizeListAt, structAt, unionAt, dictionaryAt, mapAt, runEndEncodedAt}
-use Rattle.datatype_display.specs.Display.{digits, modeText, sortedText, fieldText, listFieldText, structText, unionText, runEndText, shapeText, typeText, shown}
+use Rattle.output.specs.Digits.{digits}
+use Rattle.display_length.specs.Display.{modeText, sortedText, fieldText, listFieldText, structText, unionText, runEndText, shapeText, typeText, shown}
 use Rattle.round_trip.proofs.Tokens.{Stop, mark-stop, comma-stop, isListedWord, isWordOf, WordOf, word-is}
 use Rattle.round_trip.proofs.PlainRows.{ShapeRow, field-row, field-id, bareLabel, bare-is, no-zone}
 use Rattle.round_trip.proofs.Pieces.{look-here, look-space, need-lparen, need-comma, stands-is, closes, Found, found-word, need-found, NumberRead, number-read}

@@ -21,7 +21,8 @@ use Rattle.datatype.specs.Tree.{Forest, Row, part}
 use Rattle.row_table.specs.Sound.{isName}
 use Rattle.parser.specs.Parse.{need, stands, numberIn, closeAt}
 use Rattle.parser.proofs.TokenLaws.{here}
-use Rattle.datatype_display.specs.Display.{digits, quoted}
+use Rattle.output.specs.Digits.{digits}
+use Rattle.display_length.specs.Display.{quoted}
 use Rattle.round_trip.specs.Plain.{isPlain}
 use Rattle.round_trip.proofs.Tokens.{Stop, WordOf, listed-token, number-token, minus-token, until-double, until-single, escaped-plain}
 

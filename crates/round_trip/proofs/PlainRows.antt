@@ -10,18 +10,18 @@ use Rattle.tokenizer.specs.Text.{all, isEmpty}
 use Rattle.tokenizer.proofs.Basics.{and-l, and-r, both}
 use Rattle.datatype.specs.Kind.{Shape, kinds, shapeOf}
 use Rattle.datatype.specs.Tree.{Forest, ∅, node, roots, Label}
-use Rattle.row_table.specs.Sound.{Place, bare, field, unionField, arityFits, roleFits, idFits, isName, nameFits, rulesOf, zoneFits, shapeFits, rowsFit}
+use Rattle.row_table.specs.Sound.{Standing, bare, field, unionField, arityFits, roleFits, idFits, isName, nameFits, rulesOf, zoneFits, shapeFits, rowsFit}
 use Rattle.row_table.proofs.SoundTree.{RowFits, rulesAt, rows-fit}
 use Rattle.round_trip.specs.Plain.{isPlain, allPlain}
 
 -- one row that stands in a place, over its children
-pub record PlainRow (place : Place) (l : Label) (kids : Forest Label) : Type 0 where
+pub record PlainRow (place : Standing) (l : Label) (kids : Forest Label) : Type 0 where
   pub fits : RowFits place l kids
   pub name : T (all isPlain (l .name))
   pub zone : T (all isPlain (l .zone))
 
 -- every row of a run
-abbrev pub PlainRows : Place → Forest Label → Type 0
+abbrev pub PlainRows : Standing → Forest Label → Type 0
 PlainRows place ∅ = Unit {0}
 PlainRows place (node l kids next) = PlainRow place l kids × PlainRows ((rulesAt l) .below) kids × PlainRows place next
 
@@ -51,7 +51,7 @@ rows-plain (node l kids next) h =
     (both (a && b) (allPlain kids) (both a b (r .0) (r .1)) (rows-plain kids (λ m i. h m (inr (inl i)))))
     (rows-plain next (λ m i. h m (inr (inr i))))
 
-pub plain-rows : (place : Place) (f : Forest Label) → T (rowsFit place f) → T (allPlain f) → PlainRows place f
+pub plain-rows : (place : Standing) (f : Forest Label) → T (rowsFit place f) → T (allPlain f) → PlainRows place f
 plain-rows place ∅ h p = tt
 plain-rows place (node l kids next) h p =
     let r = rows-fit place l kids next h in
@@ -68,7 +68,7 @@ pub record ShapeRow (s : Shape) (l : Label) (kids : Forest Label) : Type 0 where
   pub shape : T (shapeFits s l kids)
   pub below : PlainRows ((rulesOf s) .below) kids
 
-pub shape-row : (place : Place) (l : Label) (kids : Forest Label) → PlainRow place l kids → PlainRows ((rulesAt l) .below) kids → ShapeRow (shapeOf (l .kind)) l kids
+pub shape-row : (place : Standing) (l : Label) (kids : Forest Label) → PlainRow place l kids → PlainRows ((rulesAt l) .below) kids → ShapeRow (shapeOf (l .kind)) l kids
 shape-row place l kids r b =
     record {
       arity = r .fits .arity;

@@ -9,7 +9,7 @@ use Rattle.tokenizer.specs.Text.{all}
 use Rattle.tokenizer.proofs.Basics.{and-l, and-r, both}
 use Rattle.datatype.specs.Kind.{shapeOf}
 use Rattle.datatype.specs.Tree.{Forest, ∅, node, roots, Label}
-use Rattle.datatype_display.specs.Print.{quotesNames, isAscii, namesAscii, quotedAscii}
+use Rattle.display_length.specs.PrintedLength.{quotesNames, isAscii, namesAscii, quotedAscii}
 use Rattle.round_trip.specs.Plain.{isPlain, allPlain}
 use Rattle.round_trip.proofs.Tokens.{plain-byte}
 use Rattle.round_trip.proofs.PlainRows.{plain-parts}

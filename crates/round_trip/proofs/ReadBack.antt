@@ -11,14 +11,14 @@ use Rattle.tokenizer.specs.Token.{token, tokenAt, tokenFrom, noToken, typeWord}
 use Rattle.tokenizer.specs.declared.TokenKind.the-variants.{Refused}
 use Rattle.datatype.specs.Kind.{Shape, leaf, timestamp, time, interval, fixed, list, fixedList, struct, union, dictionary, decimal, mapping, runEnds, shapeOf}
 use Rattle.datatype.specs.Tree.{Forest, ∅, node, count, depth, Row, Label, nameList, labels}
-use Rattle.row_table.specs.Sound.{Place, bare}
+use Rattle.row_table.specs.Sound.{Standing, bare}
 use Rattle.subtrees.specs.Parents.{parented}
 use Rattle.subtrees.proofs.ParentFixed.{labels-parented}
 use Rattle.row_table.proofs.SoundTree.{rulesAt}
 use Rattle.parser.specs.Parse.{Tree, single, shapeAt, typeWith, typeAt}
 use Rattle.parser.proofs.FirstType.{first-type}
 use Rattle.datatype_parse.specs.Parse.{textOver, parse}
-use Rattle.datatype_display.specs.Display.{shapeText, typeText, shown, display}
+use Rattle.display_length.specs.Display.{shapeText, typeText, shown, display}
 use Rattle.round_trip.proofs.PlainRows.{PlainRow, PlainRows, ShapeRow, shape-row, bareLabel, bare-is}
 use Rattle.round_trip.proofs.Pieces.{look-here, stands-is, need-found}
 use Rattle.round_trip.proofs.Types.{TreeRead, Begins, ReadsTree, ReadsAll, begins}
@@ -59,7 +59,7 @@ module _ (text : List ℕ) (type : ℕ → ℕ → Out Tree) where
         below = r .below;
       }
 
-  type-read : (place : Place) (l : Label) (kids : Forest Label) → ReadsAll text type kids → PlainRow place l kids → PlainRows ((rulesAt l) .below) kids
+  type-read : (place : Standing) (l : Label) (kids : Forest Label) → ReadsAll text type kids → PlainRow place l kids → PlainRows ((rulesAt l) .below) kids
       → ReadsTree text (typeWith text type) l kids
   type-read place l kids rd r pl at zero rest b enough = absurd (omega arith)
   type-read place l kids rd r pl at (suc rows) rest b enough =
@@ -68,7 +68,7 @@ module _ (text : List ℕ) (type : ℕ → ℕ → Out Tree) where
 
 -- ---- all levels
 
-all-read : (text : List ℕ) (place : Place) (f : Forest Label) (level : ℕ) → PlainRows place f → depth f ≤ level → ReadsAll text (λ a r. typeAt text level a r) f
+all-read : (text : List ℕ) (place : Standing) (f : Forest Label) (level : ℕ) → PlainRows place f → depth f ≤ level → ReadsAll text (λ a r. typeAt text level a r) f
 unfolding typeAt
 all-read text place ∅ level pl de = tt
 all-read text place (node l kids others) zero pl de = absurd (omega arith)

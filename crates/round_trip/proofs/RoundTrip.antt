@@ -30,8 +30,9 @@ use Rattle.subtrees.proofs.Equivalence.{labels-equal}
 use Rattle.datatype_parse.specs.Parse.{parse}
 use Rattle.datatype_parse.proofs.MoreRows.{more-rows}
 use Rattle.datatype_parse.proofs.ReadSound.{read-sound}
-use Rattle.datatype_display.specs.Display.{display}
-use Rattle.datatype_display.specs.Print.{quotedAscii, print}
+use Rattle.display_length.specs.Display.{display}
+use Rattle.display_length.specs.PrintedLength.{quotedAscii}
+use Rattle.datatype_display.specs.Print.{print}
 use Rattle.datatype_display.proofs.PrintedUtf8.{display-utf8}
 use Rattle.round_trip.specs.Plain.{isPlain, allPlain, isPlainTree, printed, inDemand3}
 use Rattle.round_trip.proofs.PlainRows.{PlainRows, In, rows-plain, plain-rows}

@@ -18,7 +18,8 @@ use Rattle.tokenizer.proofs.Magnitude.{digit-least, digit-most}
 use Rattle.tokenizer.proofs.Marks.{not-separator}
 use Rattle.datatype.specs.Kind.{kinds}
 use Rattle.datatype.proofs.Tests.{below-at}
-use Rattle.datatype_display.specs.Display.{kindWord, digits, escape, escaped}
+use Rattle.output.specs.Digits.{digits}
+use Rattle.display_length.specs.Display.{kindWord, escape, escaped}
 use Rattle.round_trip.specs.Plain.{isPlain}
 use Rattle.round_trip.proofs.Decimals.{Spelled, digits-spell}
 

@@ -15,7 +15,7 @@ use Rattle.datatype.specs.Tree.{Forest, ∅, node, count, roots, Row, Label, na
 use Rattle.row_table.specs.Sound.{rolesOf, idsOf}
 use Rattle.subtrees.proofs.RowList.{count-labels}
 use Rattle.parser.specs.Parse.{Name, Tree, Fields, bareRow, fieldRow, stands, roleAt, afterRole}
-use Rattle.datatype_display.specs.Display.{Shown, kindWord, nullityText, shapeText, typeText, shown}
+use Rattle.display_length.specs.Display.{Shown, kindWord, nullityText, shapeText, typeText, shown}
 use Rattle.round_trip.proofs.Tokens.{Stop, isListedWord, isWordOf, word-is, kind-word}
 use Rattle.round_trip.proofs.PlainRows.{bareLabel}
 use Rattle.round_trip.proofs.Pieces.{Look, look-space, Found, found-word}

@@ -10,7 +10,7 @@ use Rattle.datatype.specs.Limits.{maxText}
 use Rattle.datatype.specs.Tree.{Forest, ∅, node, Label}
 use Rattle.datatype.specs.Table.{treeOf}
 use Rattle.row_table.specs.Sound.{isSound}
-use Rattle.datatype_display.specs.Display.{display}
+use Rattle.display_length.specs.Display.{display}
 
 -- Printable ASCII without quote marks, 34 and 39, or the backslash, 92.
 unfoldable pub isPlain : ℕ → Bool

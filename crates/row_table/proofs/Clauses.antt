@@ -14,7 +14,7 @@ use Rattle.tokenizer.specs.Utf8.{isUtf8, utf8State, utf8Step}
 use Rattle.tokenizer.proofs.Basics.{and-l, and-r, both, is-true, if-same}
 use Rattle.datatype.specs.Kind.{Shape, leaf, timestamp, time, interval, fixed, list, fixedList, struct, union, dictionary, decimal, mapping, runEnds, kinds, shapeOf, idsFit, entriesRefusal}
 use Rattle.datatype.specs.Tree.{Forest, ∅, node, roots, depth, Row, Label, nameList, part, nameOf, zoneOf, labelOf, labels}
-use Rattle.row_table.specs.Sound.{Place, bare, field, unionField, arityFits, roleFits, idFits, isName, nameFits, rulesOf, zoneFits, rolesOf, idsOf, entriesFit, runEndsFit, shapeFits, rowsFit, isListed, namePlaced, zonePlaced, placed}
+use Rattle.row_table.specs.Sound.{Standing, bare, field, unionField, arityFits, roleFits, idFits, isName, nameFits, rulesOf, zoneFits, rolesOf, idsOf, entriesFit, runEndsFit, shapeFits, rowsFit, isListed, namePlaced, zonePlaced, placed}
 use Rattle.row_table.specs.Internal.Check.{belowOf, partFits, nameOk, zoneOk, ownShape, numbersFit, ownFits, entriesOk, firstNonNull, overKids, childrenFit, runFits}
 use Rattle.row_table.proofs.SoundTree.{RowFits, rows-fit, fits-rows}
 
@@ -134,8 +134,8 @@ module _ (text : List ℕ) (r : Row) where
       (λ u. or-l inText inList (name-text u n))
       (λ u. or-r inText inList u) (rw (field-role (r .role) role) at p)
 
-  abbrev nameTest : Place → Bool
-  nameTest place = nameOk text place (r .role) (r .home) (r .nameStart) (r .nameLength)
+  abbrev nameTest : Standing → Bool
+  nameTest standing = nameOk text standing (r .role) (r .home) (r .nameStart) (r .nameLength)
 
   bare-in : T (nameTest bare) → T (namePlaced text r) × T (roleFits bare (r .role)) × T (nameFits bare nameAt)
   unfolding nameOk namePlaced roleFits nameFits nameOf
@@ -161,7 +161,7 @@ module _ (text : List ℕ) (r : Row) where
       let t : T (b && c && d) = rw (is-true a q) at p in
       both (a && b && c) d (both (a && b) c (both a b q (and-l b c (and-l (b && c) d t))) (and-r b c (and-l (b && c) d t))) (and-r (b && c) d t)
 
-  pub name-in : (place : Place) → T (nameTest place) → T (namePlaced text r) × T (roleFits place (r .role)) × T (nameFits place nameAt)
+  pub name-in : (standing : Standing) → T (nameTest standing) → T (namePlaced text r) × T (roleFits standing (r .role)) × T (nameFits standing nameAt)
   unfolding nameOk roleFits nameFits
   name-in bare t = bare-in t
   name-in field t =
@@ -173,7 +173,7 @@ module _ (text : List ℕ) (r : Row) where
       let w = field-in (and-l role (inText || inList) t) (and-r role (inText || inList) t) in
       (w .0, and-l role (inText || inList) t, w .1)
 
-  pub name-out : (place : Place) → T (namePlaced text r) → T (roleFits place (r .role)) → T (nameFits place nameAt) → T (nameTest place)
+  pub name-out : (standing : Standing) → T (namePlaced text r) → T (roleFits standing (r .role)) → T (nameFits standing nameAt) → T (nameTest standing)
   unfolding nameOk roleFits nameFits
   name-out bare p q n = bare-out p q
   name-out field p q n = both (eqb (r .role) 1 || eqb (r .role) 2) (inText || inList) q (field-out q p n)
@@ -277,11 +277,11 @@ shape-parts text names runEnds r kids = first-same text names kids
 ruleset split = (and-l, and-r)
 
 -- the clauses of a row alone, and those of its children
-pub record Own (text : List ℕ) (place : Place) (r : Row) : Type 0 where
+pub record Own (text : List ℕ) (standing : Standing) (r : Row) : Type 0 where
   pub kind : T (ltb (r .kind) kinds)
   pub numbers : T (numbersFit (r .kind) (r .number) (r .scale))
-  pub unionId : T (idFits place (r .unionId))
-  pub name : T (nameOk text place (r .role) (r .home) (r .nameStart) (r .nameLength))
+  pub unionId : T (idFits standing (r .unionId))
+  pub name : T (nameOk text standing (r .role) (r .home) (r .nameStart) (r .nameLength))
   pub zone : T (zoneOk text ((rulesOf (shapeOf (r .kind))) .zoned) (r .zoneStart) (r .zoneLength))
 
 five : (a b c d e : Bool) → T (a && b && c && d && e) → T a × T b × T c × T d × T e
@@ -296,30 +296,30 @@ three a b c t = (search split depth 6, search split depth 6, search split depth 
 all-three : (a b c : Bool) → T a → T b → T c → T (a && b && c)
 all-three a b c p q x = both (a && b) c (both a b p q) x
 
-module _ (text : List ℕ) (place : Place) (r : Row) (kids : Forest Row) where
+module _ (text : List ℕ) (standing : Standing) (r : Row) (kids : Forest Row) where
   abbrev label : Label
   label = labelOf text nameList r
 
   abbrev below : Forest Label
   below = labels text nameList kids
 
-  pub own-of : T (ownFits text place r) → Own text place r
+  pub own-of : T (ownFits text standing r) → Own text standing r
   unfolding ownFits
   own-of t =
-      let w = five (ltb (r .kind) kinds) (numbersFit (r .kind) (r .number) (r .scale)) (idFits place (r .unionId)) (nameOk text place (r .role) (r .home) (r .nameStart) (r .nameLength)) (zoneOk text ((rulesOf (shapeOf (r .kind))) .zoned) (r .zoneStart) (r .zoneLength)) t in
+      let w = five (ltb (r .kind) kinds) (numbersFit (r .kind) (r .number) (r .scale)) (idFits standing (r .unionId)) (nameOk text standing (r .role) (r .home) (r .nameStart) (r .nameLength)) (zoneOk text ((rulesOf (shapeOf (r .kind))) .zoned) (r .zoneStart) (r .zoneLength)) t in
       record { kind = w .0; numbers = w .1; unionId = w .2; name = w .3; zone = w .4 }
 
-  of-own : Own text place r → T (ownFits text place r)
+  of-own : Own text standing r → T (ownFits text standing r)
   unfolding ownFits
-  of-own o = all-five (ltb (r .kind) kinds) (numbersFit (r .kind) (r .number) (r .scale)) (idFits place (r .unionId)) (nameOk text place (r .role) (r .home) (r .nameStart) (r .nameLength)) (zoneOk text ((rulesOf (shapeOf (r .kind))) .zoned) (r .zoneStart) (r .zoneLength)) (o .kind) (o .numbers) (o .unionId) (o .name) (o .zone)
+  of-own o = all-five (ltb (r .kind) kinds) (numbersFit (r .kind) (r .number) (r .scale)) (idFits standing (r .unionId)) (nameOk text standing (r .role) (r .home) (r .nameStart) (r .nameLength)) (zoneOk text ((rulesOf (shapeOf (r .kind))) .zoned) (r .zoneStart) (r .zoneLength)) (o .kind) (o .numbers) (o .unionId) (o .name) (o .zone)
 
   -- together they are the clauses of the row's label
-  row-in : Own text place r → T (childrenFit (r .kind) kids) → RowFits place label below
+  row-in : Own text standing r → T (childrenFit (r .kind) kids) → RowFits standing label below
   unfolding labelOf numbersFit childrenFit
   row-in o c =
       let rules = rulesOf (shapeOf (r .kind)) in
       let n = three (ltb (r .number) (rules .params)) (ltb (r .scale) (rules .scales)) (ownShape (shapeOf (r .kind)) (r .kind) (r .number) (r .scale)) (o .numbers) in
-      let w = name-in text r place (o .name) in
+      let w = name-in text r standing (o .name) in
       record {
         kind = ltb→lt (r .kind) kinds (o .kind);
         arity = rw (roots-same text nameList kids) (and-l (arityFits (rules .children) (length (roots kids))) (overKids (shapeOf (r .kind)) kids) c);
@@ -334,7 +334,7 @@ module _ (text : List ℕ) (place : Place) (r : Row) (kids : Forest Row) where
             (both (ownShape (shapeOf (r .kind)) (r .kind) (r .number) (r .scale)) (overKids (shapeOf (r .kind)) kids) (n .2) (and-r (arityFits (rules .children) (length (roots kids))) (overKids (shapeOf (r .kind)) kids) c));
       }
 
-  own-out : T (namePlaced text r) → T (zonePlaced text r) → RowFits place label below → Own text place r
+  own-out : T (namePlaced text r) → T (zonePlaced text r) → RowFits standing label below → Own text standing r
   unfolding labelOf numbersFit
   own-out p z f =
       let rules = rulesOf (shapeOf (r .kind)) in
@@ -346,11 +346,11 @@ module _ (text : List ℕ) (place : Place) (r : Row) (kids : Forest Row) where
             (lt→ltb (r .scale) (rules .scales) (f .scale))
             (and-l (ownShape (shapeOf (r .kind)) (r .kind) (r .number) (r .scale)) (overKids (shapeOf (r .kind)) kids) (rw (shape-parts text nameList (shapeOf (r .kind)) r kids) at (f .shape)));
         unionId = f .unionId;
-        name = name-out text r place p (f .role) (f .name);
+        name = name-out text r standing p (f .role) (f .name);
         zone = zone-out text r (rules .zoned) z (f .zone);
       }
 
-  kids-out : RowFits place label below → T (childrenFit (r .kind) kids)
+  kids-out : RowFits standing label below → T (childrenFit (r .kind) kids)
   unfolding labelOf childrenFit
   kids-out f =
       both (arityFits ((rulesOf (shapeOf (r .kind))) .children) (length (roots kids))) (overKids (shapeOf (r .kind)) kids)
@@ -359,51 +359,51 @@ module _ (text : List ℕ) (place : Place) (r : Row) (kids : Forest Row) where
 
 -- ---- a run
 
-pub record Run (text : List ℕ) (place : Place) (level : ℕ) (f : Forest Row) : Type 0 where
+pub record Run (text : List ℕ) (standing : Standing) (level : ℕ) (f : Forest Row) : Type 0 where
   pub flat : depth f ≤ level
   pub places : T (placed text f)
-  pub fits : T (rowsFit place (labels text nameList f))
+  pub fits : T (rowsFit standing (labels text nameList f))
 
-pub run-of : (text : List ℕ) (place : Place) (level : ℕ) (f : Forest Row) → T (runFits text place level (some f)) → Run text place level f
+pub run-of : (text : List ℕ) (standing : Standing) (level : ℕ) (f : Forest Row) → T (runFits text standing level (some f)) → Run text standing level f
 unfolding runFits
-run-of text place level f t =
-    let w = three (leb (depth f) level) (placed text f) (rowsFit place (labels text nameList f)) t in
+run-of text standing level f t =
+    let w = three (leb (depth f) level) (placed text f) (rowsFit standing (labels text nameList f)) t in
     record { flat = leb→le (depth f) level (w .0); places = w .1; fits = w .2 }
 
-pub of-run : (text : List ℕ) (place : Place) (level : ℕ) (f : Forest Row) → Run text place level f → T (runFits text place level (some f))
+pub of-run : (text : List ℕ) (standing : Standing) (level : ℕ) (f : Forest Row) → Run text standing level f → T (runFits text standing level (some f))
 unfolding runFits
-of-run text place level f w = all-three (leb (depth f) level) (placed text f) (rowsFit place (labels text nameList f)) (le→leb (depth f) level (w .flat)) (w .places) (w .fits)
+of-run text standing level f w = all-three (leb (depth f) level) (placed text f) (rowsFit standing (labels text nameList f)) (le→leb (depth f) level (w .flat)) (w .places) (w .fits)
 
-module _ (text : List ℕ) (place : Place) (l : ℕ) (r : Row) (kids next : Forest Row) where
+module _ (text : List ℕ) (standing : Standing) (l : ℕ) (r : Row) (kids next : Forest Row) where
   -- a run is sound if its first row is, by itself and over its children, and both runs that are left are
-  pub run-in : T (ownFits text place r) → Run text (belowOf (r .kind)) l kids → T (childrenFit (r .kind) kids) → Run text place (suc l) next
-      → Run text place (suc l) (node r kids next)
+  pub run-in : T (ownFits text standing r) → Run text (belowOf (r .kind)) l kids → T (childrenFit (r .kind) kids) → Run text standing (suc l) next
+      → Run text standing (suc l) (node r kids next)
   unfolding placed labels labelOf
   run-in o k c n =
-      let own = own-of text place r kids o in
+      let own = own-of text standing r kids o in
       let dk = k .flat in
       let dn = n .flat in
       record {
         flat = omega arith;
         places =
             both (namePlaced text r && zonePlaced text r && placed text kids) (placed text next)
-            (all-three (namePlaced text r) (zonePlaced text r) (placed text kids) (name-in text r place (own .name) .0) (zone-in text r ((rulesOf (shapeOf (r .kind))) .zoned) (own .zone) .0) (k .places)) (n .places);
-        fits = fits-rows place (labelOf text nameList r) (labels text nameList kids) (labels text nameList next) (row-in text place r kids own c) (k .fits) (n .fits);
+            (all-three (namePlaced text r) (zonePlaced text r) (placed text kids) (name-in text r standing (own .name) .0) (zone-in text r ((rulesOf (shapeOf (r .kind))) .zoned) (own .zone) .0) (k .places)) (n .places);
+        fits = fits-rows standing (labelOf text nameList r) (labels text nameList kids) (labels text nameList next) (row-in text standing r kids own c) (k .fits) (n .fits);
       }
 
-  pub run-out : Run text place (suc l) (node r kids next)
-      → T (ownFits text place r) × Run text (belowOf (r .kind)) l kids × T (childrenFit (r .kind) kids) × Run text place (suc l) next
+  pub run-out : Run text standing (suc l) (node r kids next)
+      → T (ownFits text standing r) × Run text (belowOf (r .kind)) l kids × T (childrenFit (r .kind) kids) × Run text standing (suc l) next
   unfolding placed labels labelOf
   run-out w =
       let d = w .flat in
-      let fits = rows-fit place (labelOf text nameList r) (labels text nameList kids) (labels text nameList next) (w .fits) in
+      let fits = rows-fit standing (labelOf text nameList r) (labels text nameList kids) (labels text nameList next) (w .fits) in
       let pz = and-l (namePlaced text r && zonePlaced text r) (placed text kids) (and-l (namePlaced text r && zonePlaced text r && placed text kids) (placed text next) (w .places)) in (
-        of-own text place r kids (own-out text place r kids (and-l (namePlaced text r) (zonePlaced text r) pz) (and-r (namePlaced text r) (zonePlaced text r) pz) (fits .0)),
+        of-own text standing r kids (own-out text standing r kids (and-l (namePlaced text r) (zonePlaced text r) pz) (and-r (namePlaced text r) (zonePlaced text r) pz) (fits .0)),
         record {
           flat = omega arith;
           places = and-r (namePlaced text r && zonePlaced text r) (placed text kids) (and-l (namePlaced text r && zonePlaced text r && placed text kids) (placed text next) (w .places));
           fits = fits .1;
         },
-        kids-out text place r kids (fits .0),
+        kids-out text standing r kids (fits .0),
         record { flat = omega arith; places = and-r (namePlaced text r && zonePlaced text r && placed text kids) (placed text next) (w .places); fits = fits .2 },
       )

@@ -16,7 +16,7 @@ use Rattle.tokenizer.proofs.Listed.{isByte, bytes-all, unpack}
 use Rattle.datatype.specs.Kind.{kinds, shapeOf}
 use Rattle.datatype.specs.Tree.{nameList}
 use Rattle.row_table.specs.Sound.{isListed, rulesOf}
-use Rattle.row_table.specs.Internal.Check.{placeOf, boundary, partFits, nameOk, zoneOk}
+use Rattle.row_table.specs.Internal.Check.{standingOf, boundary, partFits, nameOk, zoneOk}
 use Rattle.datatype.proofs.Same.{same-eq, eq-same}
 use Rattle.datatype.proofs.Tests.{iff-eq, false-of, allBelow, below-at}
 use Rattle.row_table.proofs.Boundary.{boundary-low, boundary-high, boundary-inside, boundary-end, part-utf8}
@@ -123,8 +123,8 @@ module _ (role home start size : ℕ) where
 -- ---- role and name
 
 -- a row that is not bare
-field-name : (text : List ℕ) (place role home start size : ℕ) → (place ≡ 0 → ⊥)
-    → nameOk text (placeOf place) role home start size ≡ ((eqb role 1 || eqb role 2) && ((eqb home 1 && partFits text start size) || (eqb home 2 && isListed start size)))
+field-name : (text : List ℕ) (standing role home start size : ℕ) → (standing ≡ 0 → ⊥)
+    → nameOk text (standingOf standing) role home start size ≡ ((eqb role 1 || eqb role 2) && ((eqb home 1 && partFits text start size) || (eqb home 2 && isListed start size)))
 unfolding nameOk
 field-name text zero role home start size h = absurd (h refl)
 field-name text (suc zero) role home start size h = refl
@@ -136,27 +136,27 @@ field-role (suc zero) z h = refl
 field-role (suc (suc zero)) z h = refl
 field-role (suc (suc (suc n))) z h = absurd (omega arith)
 
-module _ (text : List ℕ) (place role home start size : ℕ) where
-  pub name-1 : (r : Bool) → place ≡ 0 → r ≡ (eqb role 0 && eqb home 0 && eqb start 0 && eqb size 0) → r ≡ nameOk text (placeOf place) role home start size
+module _ (text : List ℕ) (standing role home start size : ℕ) where
+  pub name-1 : (r : Bool) → standing ≡ 0 → r ≡ (eqb role 0 && eqb home 0 && eqb start 0 && eqb size 0) → r ≡ nameOk text (standingOf standing) role home start size
   unfolding nameOk
   name-1 r e h = rw e h
 
-  module _ (field-place : place ≡ 0 → ⊥) where
-    pub name-2 : role ≡ 0 → false ≡ nameOk text (placeOf place) role home start size
-    name-2 e = sym (field-name text place role home start size field-place ∙ rw e)
+  module _ (field-standing : standing ≡ 0 → ⊥) where
+    pub name-2 : role ≡ 0 → false ≡ nameOk text (standingOf standing) role home start size
+    name-2 e = sym (field-name text standing role home start size field-standing ∙ rw e)
 
-    pub name-3 : 2 < role → false ≡ nameOk text (placeOf place) role home start size
-    name-3 h = sym (field-name text place role home start size field-place ∙ rw (ne-eqb role 1 (λ e. omega arith), ne-eqb role 2 (λ e. omega arith)))
+    pub name-3 : 2 < role → false ≡ nameOk text (standingOf standing) role home start size
+    name-3 h = sym (field-name text standing role home start size field-standing ∙ rw (ne-eqb role 1 (λ e. omega arith), ne-eqb role 2 (λ e. omega arith)))
 
     module _ (a : role ≡ 0 → ⊥) (b : role ≤ 2) where
-      pub name-4 : (r : Bool) → home ≡ 1 → r ≡ partFits text start size → r ≡ nameOk text (placeOf place) role home start size
-      name-4 r e h = h ∙ sym (field-name text place role home start size field-place ∙ rw (field-role role a b, e) (or-false (partFits text start size)))
+      pub name-4 : (r : Bool) → home ≡ 1 → r ≡ partFits text start size → r ≡ nameOk text (standingOf standing) role home start size
+      name-4 r e h = h ∙ sym (field-name text standing role home start size field-standing ∙ rw (field-role role a b, e) (or-false (partFits text start size)))
 
-      pub name-5 : (r : Bool) → home ≡ 2 → r ≡ isListed start size → r ≡ nameOk text (placeOf place) role home start size
-      name-5 r e h = h ∙ sym (field-name text place role home start size field-place ∙ rw (field-role role a b, e))
+      pub name-5 : (r : Bool) → home ≡ 2 → r ≡ isListed start size → r ≡ nameOk text (standingOf standing) role home start size
+      name-5 r e h = h ∙ sym (field-name text standing role home start size field-standing ∙ rw (field-role role a b, e))
 
-      pub name-6 : (home ≡ 1 → ⊥) → (home ≡ 2 → ⊥) → false ≡ nameOk text (placeOf place) role home start size
-      name-6 p q = sym (field-name text place role home start size field-place ∙ rw (field-role role a b, ne-eqb home 1 p, ne-eqb home 2 q))
+      pub name-6 : (home ≡ 1 → ⊥) → (home ≡ 2 → ⊥) → false ≡ nameOk text (standingOf standing) role home start size
+      name-6 p q = sym (field-name text standing role home start size field-standing ∙ rw (field-role role a b, ne-eqb home 1 p, ne-eqb home 2 q))
 
 -- ---- zones
 

@@ -5,15 +5,24 @@ use mathlib.Core.List.{List, [], _∷_}
 use Prim.Native.Nat.{ℕ, _+_, _≤_, _<_}
 use native.Mathlib.Omega.{arith}
 use lib.Dec.{T, leb, ltb, eqb, leb→le, lt→ltb, eqb→eq}
-use borrow.Author.Tests.{lt-ltb, le-ltb, ne-eqb, eqb-true, eqb-false, ltb-true, ltb-false}
+use borrow.Author.Tests.{le-leb, lt-leb, lt-ltb, le-ltb, ne-eqb, eqb-true, eqb-false, ltb-true, ltb-false}
 use Rattle.tokenizer.proofs.Basics.{and-l, and-r, both}
 use Rattle.datatype.specs.Kind.{Shape, leaf, timestamp, time, interval, fixed, list, fixedList, struct, union, dictionary, decimal, mapping, runEnds, kinds, shapeOf, unitFits, maxPrecision, decimalFits, has}
-use Rattle.row_table.specs.Sound.{Place, bare, field, unionField, rulesOf}
-use Rattle.row_table.specs.Internal.Check.{placeOf, belowOf, isDecimal, ownShape, numbersFit}
+use Rattle.row_table.specs.Sound.{Standing, bare, field, unionField, rulesOf}
+use Rattle.row_table.specs.Internal.Check.{standingOf, belowOf, isDecimal, ownShape, numbersFit}
 use Rattle.datatype.proofs.Tests.{iff-eq, allBelow, below-at, sameBool, same-bool}
 use Rattle.datatype.proofs.KindLaws.{past-kinds, unit-any}
 use Rattle.datatype.proofs.ShapeLaws.{else-value}
 use Rattle.tokenizer.proofs.Listed.{NoneOf}
+
+-- ---- a kind between two others
+
+module _ (least k most : ℕ) where
+  pub between-below : k < least → false ≡ (leb least k && leb k most)
+  between-below h = rw (lt-leb least k h)
+
+  pub between-from : least ≤ k → leb k most ≡ (leb least k && leb k most)
+  between-from h = rw (le-leb least k h)
 
 -- ---- the four decimals
 
@@ -177,12 +186,21 @@ module _ (k p s : ℕ) where
       (λ t. let w = decimal-room k p s h t in both (ltb p 256 && ltb s 256) (decimalFits k p s) (both (ltb p 256) (ltb s 256) (lt→ltb p 256 (w .0)) (lt→ltb s 256 (w .1))) t)
       (λ t. and-r (ltb p 256 && ltb s 256) (decimalFits k p s) t))
 
-  pub numbers-rest : (m : ℕ) (fits : Bool) → k < kinds → isDecimal k ≡ false → s ≤ 0 → fits ≡ unitFits k p → fits ≡ true → m ≡ (rulesOf (shapeOf k)) .params → ltb p m ≡ numbersFit k p s
+  -- the units fit, and word 4 decides
+  numbers-plain : (m : ℕ) → k < kinds → isDecimal k ≡ false → s ≤ 0 → true ≡ unitFits k p → m ≡ (rulesOf (shapeOf k)) .params → ltb p m ≡ numbersFit k p s
   unfolding numbersFit
-  numbers-rest m fits h e z q u f = sym (plain-shape (shapeOf k) k p s (decimal-shape k h ∙ e) (sym u ∙ q) ∙ rw (← f, lt-ltb s 1 (omega arith)) (and-true _))
+  numbers-plain m h e z u f = sym (plain-shape (shapeOf k) k p s (decimal-shape k h ∙ e) u ∙ rw (← f, lt-ltb s 1 (omega arith)) (and-true _))
 
-  pub numbers-unit : (fits : Bool) → fits ≡ unitFits k p → fits ≡ false → false ≡ numbersFit k p s
-  numbers-unit fits q u = sym (no-unit k p s (sym q ∙ u))
+  pub numbers-over : (m : ℕ) → m ≤ p → m ≡ (rulesOf (shapeOf k)) .params → false ≡ numbersFit k p s
+  unfolding numbersFit
+  numbers-over m h f = rw (← f, le-ltb p m h)
+
+  pub numbers-rest : (m : ℕ) (fits : Bool) → k < kinds → isDecimal k ≡ false → s ≤ 0 → p < m → m ≡ (rulesOf (shapeOf k)) .params → fits ≡ unitFits k p → fits ≡ numbersFit k p s
+  numbers-rest m fits h e z l f q = q ∙ go (unitFits k p) refl
+    where
+      go : (b : Bool) → unitFits k p ≡ b → unitFits k p ≡ numbersFit k p s
+      go true u = u ∙ sym (lt-ltb p m l) ∙ numbers-plain m h e z (sym u) f
+      go false u = u ∙ sym (no-unit k p s u)
 
   scales-one : (sh : Shape) → decimalShape sh ≡ false → 0 < s → (ltb p ((rulesOf sh) .params) && ltb s ((rulesOf sh) .scales) && ownShape sh k p s) ≡ false
   scales-one sh e l = rw (one-scale sh e, le-ltb s 1 (omega arith)) (and-off (ltb p ((rulesOf sh) .params)) (ownShape sh k p s))
@@ -198,42 +216,42 @@ module _ (k p s : ℕ) where
 
     pub numbers-one : s ≤ 0 → ltb p m ≡ numbersFit k p s
     unfolding rulesOf shapeOf
-    numbers-one z = numbers-rest m true h (one-plain k m h one is) z (unit-any k p (one-not k m h one is 16 4 refl (omega arith)) (one-not k m h one is 17 4 refl (omega arith))) refl is
+    numbers-one z = numbers-plain m h (one-plain k m h one is) z (unit-any k p (one-not k m h one is 16 4 refl (omega arith)) (one-not k m h one is 17 4 refl (omega arith))) is
 
--- ---- the place of a kind's children
+-- ---- the standing of a kind's children
 
-abbrev placeNumber : Place → ℕ
-placeNumber bare = 0
-placeNumber field = 1
-placeNumber unionField = 2
+abbrev standingNumber : Standing → ℕ
+standingNumber bare = 0
+standingNumber field = 1
+standingNumber unionField = 2
 
-field-below : T (allBelow kinds (λ k. eqb k 34 || eqb k 33 || eqb (placeNumber (belowOf k)) 1))
+field-below : T (allBelow kinds (λ k. eqb k 34 || eqb k 33 || eqb (standingNumber (belowOf k)) 1))
 unfolding rulesOf shapeOf
 field-below = tt
 
-place-number : (p : Place) (n : ℕ) → placeNumber p ≡ n → placeOf n ≡ p
-place-number bare n e = rw (← e)
-place-number field n e = rw (← e)
-place-number unionField n e = rw (← e)
+standing-number : (p : Standing) (n : ℕ) → standingNumber p ≡ n → standingOf n ≡ p
+standing-number bare n e = rw (← e)
+standing-number field n e = rw (← e)
+standing-number unionField n e = rw (← e)
 
 below-past : (k : ℕ) → kinds ≤ k → field ≡ belowOf k
 unfolding rulesOf
 below-past k h = ap (λ (sh : Shape). (rulesOf sh) .below) (sym (past-kinds k h))
 
 module _ (k : ℕ) where
-  pub below-bare : k ≡ 34 → placeOf 0 ≡ belowOf k
+  pub below-bare : k ≡ 34 → standingOf 0 ≡ belowOf k
   unfolding rulesOf shapeOf
   below-bare e = rw e
 
-  pub below-union : k ≡ 33 → placeOf 2 ≡ belowOf k
+  pub below-union : k ≡ 33 → standingOf 2 ≡ belowOf k
   unfolding rulesOf shapeOf
   below-union e = rw e
 
-  pub below-field : (k ≡ 34 → ⊥) → (k ≡ 33 → ⊥) → placeOf 1 ≡ belowOf k
+  pub below-field : (k ≡ 34 → ⊥) → (k ≡ 33 → ⊥) → standingOf 1 ≡ belowOf k
   below-field a b = go (ltb k kinds) refl
     where
-      go : (t : Bool) → ltb k kinds ≡ t → placeOf 1 ≡ belowOf k
+      go : (t : Bool) → ltb k kinds ≡ t → standingOf 1 ≡ belowOf k
       go true e =
-          let t : T (eqb k 34 || eqb k 33 || eqb (placeNumber (belowOf k)) 1) = below-at kinds (λ i. eqb i 34 || eqb i 33 || eqb (placeNumber (belowOf i)) 1) field-below k (ltb-true k kinds e) in
-          place-number (belowOf k) 1 (eqb→eq (placeNumber (belowOf k)) 1 (rw (ne-eqb k 34 a, ne-eqb k 33 b) at t))
+          let t : T (eqb k 34 || eqb k 33 || eqb (standingNumber (belowOf k)) 1) = below-at kinds (λ i. eqb i 34 || eqb i 33 || eqb (standingNumber (belowOf i)) 1) field-below k (ltb-true k kinds e) in
+          standing-number (belowOf k) 1 (eqb→eq (standingNumber (belowOf k)) 1 (rw (ne-eqb k 34 a, ne-eqb k 33 b) at t))
       go false e = below-past k (ltb-false k kinds e)

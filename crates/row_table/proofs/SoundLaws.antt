@@ -14,9 +14,9 @@ use Rattle.tokenizer.proofs.Basics.{of-true}
 use Rattle.datatype.specs.Kind.{kinds, shapeOf}
 use Rattle.datatype.specs.Tree.{Forest, ∅, node, count, depth, Row, nameList, labels}
 use Rattle.datatype.specs.Table.{rowWords, wordsOf, tableOf, join, viewOf, rowsAt}
-use Rattle.row_table.specs.Sound.{Place, bare, idFits, rulesOf, rowsFit, placed, isSound}
+use Rattle.row_table.specs.Sound.{Standing, bare, idFits, rulesOf, rowsFit, placed, isSound}
 use Rattle.subtrees.specs.Internal.Run.{rowAt, runAt, isRun, runOr, forestAt, Nests}
-use Rattle.row_table.specs.Internal.Check.{placeOf, belowOf, numbersFit, nameOk, zoneOk, ownFits, childrenFit, runFits}
+use Rattle.row_table.specs.Internal.Check.{standingOf, belowOf, numbersFit, nameOk, zoneOk, ownFits, childrenFit, runFits}
 use Rattle.datatype.proofs.Table.{table-view}
 use Rattle.datatype.proofs.Same.{same-eq}
 use Rattle.datatype.proofs.Tests.{iff-eq, false-of}
@@ -32,100 +32,100 @@ clash false e t = t
 
 -- ---- one row
 
-pub id-none : (place id : ℕ) → id ≡ 0 → true ≡ idFits (placeOf place) id
+pub id-none : (standing id : ℕ) → id ≡ 0 → true ≡ idFits (standingOf standing) id
 unfolding idFits
 id-none zero id e = rw e
 id-none (suc zero) id e = rw e
 id-none (suc (suc n)) id e = rw e
 
-pub id-low : (place id : ℕ) → (id ≡ 0 → ⊥) → place < 2 → false ≡ idFits (placeOf place) id
+pub id-low : (standing id : ℕ) → (id ≡ 0 → ⊥) → standing < 2 → false ≡ idFits (standingOf standing) id
 unfolding idFits
 id-low zero id d h = sym (ne-eqb id 0 d)
 id-low (suc zero) id d h = sym (ne-eqb id 0 d)
 id-low (suc (suc n)) id d h = absurd (omega arith)
 
-pub id-union : (place id : ℕ) → 2 ≤ place → ltb id 128 ≡ idFits (placeOf place) id
+pub id-union : (standing id : ℕ) → 2 ≤ standing → ltb id 128 ≡ idFits (standingOf standing) id
 unfolding idFits
 id-union zero id h = absurd (omega arith)
 id-union (suc zero) id h = absurd (omega arith)
 id-union (suc (suc n)) id h = refl
 
-module _ (text : List ℕ) (place : Place) (r : Row) (k : ℕ) (ek : k ≡ r .kind) where
-  pub row-1 : kinds ≤ k → false ≡ ownFits text place r
-  row-1 h = false-of (ownFits text place r) (λ t. let u = ltb→lt (r .kind) kinds (own-of text place r ∅ t .kind) in omega arith)
+module _ (text : List ℕ) (standing : Standing) (r : Row) (k : ℕ) (ek : k ≡ r .kind) where
+  pub row-1 : kinds ≤ k → false ≡ ownFits text standing r
+  row-1 h = false-of (ownFits text standing r) (λ t. let u = ltb→lt (r .kind) kinds (own-of text standing r ∅ t .kind) in omega arith)
 
-  pub row-2 : (p s : ℕ) → p ≡ r .number → s ≡ r .scale → numbersFit k p s ≡ false → false ≡ ownFits text place r
-  row-2 p s a b e = false-of (ownFits text place r) (λ t. clash (numbersFit (r .kind) (r .number) (r .scale)) (rw (← ek, ← a, ← b) e) (own-of text place r ∅ t .numbers))
+  pub row-2 : (p s : ℕ) → p ≡ r .number → s ≡ r .scale → numbersFit k p s ≡ false → false ≡ ownFits text standing r
+  row-2 p s a b e = false-of (ownFits text standing r) (λ t. clash (numbersFit (r .kind) (r .number) (r .scale)) (rw (← ek, ← a, ← b) e) (own-of text standing r ∅ t .numbers))
 
-  pub row-3 : (id : ℕ) → id ≡ r .unionId → idFits place id ≡ false → false ≡ ownFits text place r
-  row-3 id a e = false-of (ownFits text place r) (λ t. clash (idFits place (r .unionId)) (rw (← a) e) (own-of text place r ∅ t .unionId))
+  pub row-3 : (id : ℕ) → id ≡ r .unionId → idFits standing id ≡ false → false ≡ ownFits text standing r
+  row-3 id a e = false-of (ownFits text standing r) (λ t. clash (idFits standing (r .unionId)) (rw (← a) e) (own-of text standing r ∅ t .unionId))
 
-  pub row-4 : (role home start size : ℕ) → role ≡ r .role → home ≡ r .home → start ≡ r .nameStart → size ≡ r .nameLength → nameOk text place role home start size ≡ false
-      → false ≡ ownFits text place r
+  pub row-4 : (role home start size : ℕ) → role ≡ r .role → home ≡ r .home → start ≡ r .nameStart → size ≡ r .nameLength → nameOk text standing role home start size ≡ false
+      → false ≡ ownFits text standing r
   row-4 role home start size a b c d e =
-      false-of (ownFits text place r) (λ t. clash (nameOk text place (r .role) (r .home) (r .nameStart) (r .nameLength)) (rw (← a, ← b, ← c, ← d) e) (own-of text place r ∅ t .name))
+      false-of (ownFits text standing r) (λ t. clash (nameOk text standing (r .role) (r .home) (r .nameStart) (r .nameLength)) (rw (← a, ← b, ← c, ← d) e) (own-of text standing r ∅ t .name))
 
-  pub row-5 : (p s id role home start size zs zz : ℕ) (z : Bool) → k < kinds → p ≡ r .number → s ≡ r .scale → numbersFit k p s ≡ true → id ≡ r .unionId → idFits place id ≡ true
-      → role ≡ r .role → home ≡ r .home → start ≡ r .nameStart → size ≡ r .nameLength → nameOk text place role home start size ≡ true
-      → zs ≡ r .zoneStart → zz ≡ r .zoneLength → z ≡ zoneOk text ((rulesOf (shapeOf k)) .zoned) zs zz → z ≡ ownFits text place r
+  pub row-5 : (p s id role home start size zs zz : ℕ) (z : Bool) → k < kinds → p ≡ r .number → s ≡ r .scale → numbersFit k p s ≡ true → id ≡ r .unionId → idFits standing id ≡ true
+      → role ≡ r .role → home ≡ r .home → start ≡ r .nameStart → size ≡ r .nameLength → nameOk text standing role home start size ≡ true
+      → zs ≡ r .zoneStart → zz ≡ r .zoneLength → z ≡ zoneOk text ((rulesOf (shapeOf k)) .zoned) zs zz → z ≡ ownFits text standing r
   unfolding ownFits
   row-5 p s id role home start size zs zz z h a b en c ei d e f g em i j q =
       rw (← ek, ← a, ← b, ← c, ← d, ← e, ← f, ← g, ← i, ← j, lt-ltb k kinds h, en, ei, em) q
 
 -- ---- a run that is taken apart into its first row and two runs
 
-module _ (text : List ℕ) (place : Place) (l : ℕ) (r : Row) where
-  join-own : (a b : Option (Forest Row)) → ownFits text place r ≡ false → runFits text place (suc l) (join r a b) ≡ false
+module _ (text : List ℕ) (standing : Standing) (l : ℕ) (r : Row) where
+  join-own : (a b : Option (Forest Row)) → ownFits text standing r ≡ false → runFits text standing (suc l) (join r a b) ≡ false
   unfolding runFits
   join-own none b e = refl
   join-own (some k) none e = refl
-  join-own (some k) (some n) e = sym (false-of (runFits text place (suc l) (some (node r k n))) (λ t. clash (ownFits text place r) e (run-out text place l r k n (run-of text place (suc l) (node r k n) t) .0)))
+  join-own (some k) (some n) e = sym (false-of (runFits text standing (suc l) (some (node r k n))) (λ t. clash (ownFits text standing r) e (run-out text standing l r k n (run-of text standing (suc l) (node r k n) t) .0)))
 
-  join-below : (a b : Option (Forest Row)) → runFits text (belowOf (r .kind)) l a ≡ false → runFits text place (suc l) (join r a b) ≡ false
+  join-below : (a b : Option (Forest Row)) → runFits text (belowOf (r .kind)) l a ≡ false → runFits text standing (suc l) (join r a b) ≡ false
   unfolding runFits
   join-below none b e = refl
   join-below (some k) none e = refl
   join-below (some k) (some n) e =
-      sym (false-of (runFits text place (suc l) (some (node r k n))) (λ t. clash (runFits text (belowOf (r .kind)) l (some k)) e (of-run text (belowOf (r .kind)) l k (run-out text place l r k n (run-of text place (suc l) (node r k n) t) .1))))
+      sym (false-of (runFits text standing (suc l) (some (node r k n))) (λ t. clash (runFits text (belowOf (r .kind)) l (some k)) e (of-run text (belowOf (r .kind)) l k (run-out text standing l r k n (run-of text standing (suc l) (node r k n) t) .1))))
 
-  join-kids : (a b : Option (Forest Row)) → childrenFit (r .kind) (runOr a) ≡ false → runFits text place (suc l) (join r a b) ≡ false
+  join-kids : (a b : Option (Forest Row)) → childrenFit (r .kind) (runOr a) ≡ false → runFits text standing (suc l) (join r a b) ≡ false
   unfolding runFits
   join-kids none b e = refl
   join-kids (some k) none e = refl
-  join-kids (some k) (some n) e = sym (false-of (runFits text place (suc l) (some (node r k n))) (λ t. clash (childrenFit (r .kind) k) e (run-out text place l r k n (run-of text place (suc l) (node r k n) t) .2)))
+  join-kids (some k) (some n) e = sym (false-of (runFits text standing (suc l) (some (node r k n))) (λ t. clash (childrenFit (r .kind) k) e (run-out text standing l r k n (run-of text standing (suc l) (node r k n) t) .2)))
 
-  join-go : (a b : Option (Forest Row)) → ownFits text place r ≡ true → runFits text (belowOf (r .kind)) l a ≡ true → childrenFit (r .kind) (runOr a) ≡ true
-      → runFits text place (suc l) (join r a b) ≡ runFits text place (suc l) b
+  join-go : (a b : Option (Forest Row)) → ownFits text standing r ≡ true → runFits text (belowOf (r .kind)) l a ≡ true → childrenFit (r .kind) (runOr a) ≡ true
+      → runFits text standing (suc l) (join r a b) ≡ runFits text standing (suc l) b
   unfolding runFits
   join-go none b o e c = absurd (false≢true e)
   join-go (some k) none o e c = refl
   join-go (some k) (some n) o e c =
-      iff-eq (runFits text place (suc l) (some (node r k n))) (runFits text place (suc l) (some n))
-      (λ t. of-run text place (suc l) n (run-out text place l r k n (run-of text place (suc l) (node r k n) t) .3))
-      (λ t. of-run text place (suc l) (node r k n) (run-in text place l r k n (of-true _ o) (run-of text (belowOf (r .kind)) l k (of-true _ e)) (of-true _ c) (run-of text place (suc l) n t)))
+      iff-eq (runFits text standing (suc l) (some (node r k n))) (runFits text standing (suc l) (some n))
+      (λ t. of-run text standing (suc l) n (run-out text standing l r k n (run-of text standing (suc l) (node r k n) t) .3))
+      (λ t. of-run text standing (suc l) (node r k n) (run-in text standing l r k n (of-true _ o) (run-of text (belowOf (r .kind)) l k (of-true _ e)) (of-true _ c) (run-of text standing (suc l) n t)))
 
 -- a run that is sound is a run
-fits-run : (text : List ℕ) (place : Place) (level : ℕ) (o : Option (Forest Row)) → runFits text place level o ≡ true → T (isRun o)
+fits-run : (text : List ℕ) (standing : Standing) (level : ℕ) (o : Option (Forest Row)) → runFits text standing level o ≡ true → T (isRun o)
 unfolding runFits
-fits-run text place level none e = false≢true e
-fits-run text place level (some f) e = tt
+fits-run text standing level none e = false≢true e
+fits-run text standing level (some f) e = tt
 
 -- rows need a level
-no-level : (text : List ℕ) (place : Place) (f : Forest Row) → 1 ≤ count f → runFits text place 0 (some f) ≡ false
+no-level : (text : List ℕ) (standing : Standing) (f : Forest Row) → 1 ≤ count f → runFits text standing 0 (some f) ≡ false
 unfolding runFits
-no-level text place ∅ h = absurd (omega arith)
-no-level text place (node r k n) h = rw (lt-leb (depth (node r k n)) 0 (omega arith))
+no-level text standing ∅ h = absurd (omega arith)
+no-level text standing (node r k n) h = rw (lt-leb (depth (node r k n)) 0 (omega arith))
 
 -- ---- the loop over a run, in the code's terms
 
 -- the loop ends
-pub turn-end : (text : List ℕ) (place : Place) (level : ℕ) (table : List ℕ) (at end : ℕ) → end ≤ at → runFits text place level (runAt table at (end - at)) ≡ true
+pub turn-end : (text : List ℕ) (standing : Standing) (level : ℕ) (table : List ℕ) (at end : ℕ) → end ≤ at → runFits text standing level (runAt table at (end - at)) ≡ true
 unfolding runFits placed labels rowsFit
-turn-end text place level table at end h = let e : end - at ≡ 0 = omega arith in rw (e, no-rows table at, le-leb 0 level (omega arith))
+turn-end text standing level table at end h = let e : end - at ≡ 0 = omega arith in rw (e, no-rows table at, le-leb 0 level (omega arith))
 
-module _ (text : List ℕ) (place : Place) (level : ℕ) (table : List ℕ) (at end : ℕ) (room : rowWords * end ≤ length table) (go : at < end) where
+module _ (text : List ℕ) (standing : Standing) (level : ℕ) (table : List ℕ) (at end : ℕ) (room : rowWords * end ≤ length table) (go : at < end) where
   abbrev here : Bool
-  here = runFits text place level (runAt table at (end - at))
+  here = runFits text standing level (runAt table at (end - at))
 
   room-here : rowWords * (at + (end - at)) ≤ length table
   room-here = omega arith
@@ -133,12 +133,12 @@ module _ (text : List ℕ) (place : Place) (level : ℕ) (table : List ℕ) (at 
   pub turn-level : level ≡ 0 → here ≡ false
   turn-level e = rw e (by-run (runAt table at (end - at)) refl)
     where
-      nothing : runFits text place 0 none ≡ false
+      nothing : runFits text standing 0 none ≡ false
       nothing = unfold runFits in refl
 
-      by-run : (o : Option (Forest Row)) → runAt table at (end - at) ≡ o → runFits text place 0 o ≡ false
+      by-run : (o : Option (Forest Row)) → runAt table at (end - at) ≡ o → runFits text standing 0 o ≡ false
       by-run none q = nothing
-      by-run (some f) q = no-level text place f (let c = run-is table at (end - at) f room-here q .size in omega arith)
+      by-run (some f) q = no-level text standing f (let c = run-is table at (end - at) f room-here q .size in omega arith)
 
   module _ (s : ℕ) (is : s ≡ rowsAt table at) where
     turn-none : (1 ≤ s → s ≤ end - at → ⊥) → here ≡ false
@@ -168,11 +168,11 @@ module _ (text : List ℕ) (place : Place) (level : ℕ) (table : List ℕ) (at 
         deeper : level ≡ suc (level - 1)
         deeper = omega arith
 
-        here-is : here ≡ runFits text place (suc (level - 1)) (join (rowAt table at) below behind)
-        here-is = ap (λ (n : ℕ). runFits text place n (runAt table at (end - at))) deeper ∙ ap (runFits text place (suc (level - 1))) parts
+        here-is : here ≡ runFits text standing (suc (level - 1)) (join (rowAt table at) below behind)
+        here-is = ap (λ (n : ℕ). runFits text standing n (runAt table at (end - at))) deeper ∙ ap (runFits text standing (suc (level - 1))) parts
 
-        sized-row : ownFits text place (rowAt table at) ≡ false → here ≡ false
-        sized-row e = here-is ∙ join-own text place (level - 1) (rowAt table at) below behind e
+        sized-row : ownFits text standing (rowAt table at) ≡ false → here ≡ false
+        sized-row e = here-is ∙ join-own text standing (level - 1) (rowAt table at) below behind e
 
         module _ (k : ℕ) (ek : k ≡ getD table (rowWords * at + 0) 0) where
           kind-is : k ≡ (rowAt table at) .kind
@@ -184,30 +184,30 @@ module _ (text : List ℕ) (place : Place) (level : ℕ) (table : List ℕ) (at 
           kids-are = ap (λ (n : ℕ). childrenFit n (runOr below)) kind-is
 
           pub turn-kids : childrenFit k (forestAt table (at + 1) (at + s - (at + 1))) ≡ false → here ≡ false
-          turn-kids e = here-is ∙ join-kids text place (level - 1) (rowAt table at) below behind (sym kids-are ∙ e)
+          turn-kids e = here-is ∙ join-kids text standing (level - 1) (rowAt table at) below behind (sym kids-are ∙ e)
 
-          whole-go : ownFits text place (rowAt table at) ≡ true → runFits text (belowOf ((rowAt table at) .kind)) (level - 1) below ≡ true → childrenFit k (forestAt table (at + 1) (at + s - (at + 1))) ≡ true
-              → here ≡ runFits text place level behind
+          whole-go : ownFits text standing (rowAt table at) ≡ true → runFits text (belowOf ((rowAt table at) .kind)) (level - 1) below ≡ true → childrenFit k (forestAt table (at + 1) (at + s - (at + 1))) ≡ true
+              → here ≡ runFits text standing level behind
           whole-go o b c =
-              here-is ∙ join-go text place (level - 1) (rowAt table at) below behind o b (sym kids-are ∙ c)
-              ∙ ap (λ (n : ℕ). runFits text place n behind) (sym deeper)
+              here-is ∙ join-go text standing (level - 1) (rowAt table at) below behind o b (sym kids-are ∙ c)
+              ∙ ap (λ (n : ℕ). runFits text standing n behind) (sym deeper)
 
-          module _ (p : ℕ) (ep : placeOf p ≡ belowOf k) where
-            place-is : placeOf p ≡ belowOf ((rowAt table at) .kind)
-            place-is = ep ∙ ap belowOf kind-is
+          module _ (p : ℕ) (ep : standingOf p ≡ belowOf k) where
+            standing-is : standingOf p ≡ belowOf ((rowAt table at) .kind)
+            standing-is = ep ∙ ap belowOf kind-is
 
-            pub turn-below : runFits text (placeOf p) (level - 1) below ≡ false → here ≡ false
-            turn-below e = here-is ∙ join-below text place (level - 1) (rowAt table at) below behind (rw (← place-is) e)
+            pub turn-below : runFits text (standingOf p) (level - 1) below ≡ false → here ≡ false
+            turn-below e = here-is ∙ join-below text standing (level - 1) (rowAt table at) below behind (rw (← standing-is) e)
 
-            pub turn-nests : runFits text (placeOf p) (level - 1) below ≡ true → Nests table (at + 1) (at + s - (at + 1)) × (at + 1 ≤ at + s)
-            turn-nests e = (record { room = omega arith; whole = fits-run text (placeOf p) (level - 1) below e }, omega arith)
+            pub turn-nests : runFits text (standingOf p) (level - 1) below ≡ true → Nests table (at + 1) (at + s - (at + 1)) × (at + 1 ≤ at + s)
+            turn-nests e = (record { room = omega arith; whole = fits-run text (standingOf p) (level - 1) below e }, omega arith)
 
-            pub turn-go : ownFits text place (rowAt table at) ≡ true → runFits text (placeOf p) (level - 1) below ≡ true → childrenFit k (forestAt table (at + 1) (at + s - (at + 1))) ≡ true
-                → here ≡ runFits text place level behind
-            turn-go o b c = whole-go o (rw (← place-is) b) c
+            pub turn-go : ownFits text standing (rowAt table at) ≡ true → runFits text (standingOf p) (level - 1) below ≡ true → childrenFit k (forestAt table (at + 1) (at + s - (at + 1))) ≡ true
+                → here ≡ runFits text standing level behind
+            turn-go o b c = whole-go o (rw (← standing-is) b) c
 
   -- a row that does not fit, whatever its size
-  pub turn-row : (level ≡ 0 → ⊥) → ownFits text place (rowAt table at) ≡ false → here ≡ false
+  pub turn-row : (level ≡ 0 → ⊥) → ownFits text standing (rowAt table at) ≡ false → here ≡ false
   turn-row l e = by-size (eqb (rowsAt table at) 0) refl (leb (rowsAt table at) (end - at)) refl
     where
       by-size : (x : Bool) → eqb (rowsAt table at) 0 ≡ x → (y : Bool) → leb (rowsAt table at) (end - at) ≡ y → here ≡ false
@@ -216,9 +216,9 @@ module _ (text : List ℕ) (place : Place) (level : ℕ) (table : List ℕ) (at 
       by-size false x false y = turn-long (rowsAt table at) refl (leb-false (rowsAt table at) (end - at) y)
 
   module _ (k : ℕ) (ek : k ≡ getD table (rowWords * at + 0) 0) where
-    pub turn-kind : ownFits text place (rowAt table at) ≡ true → k < kinds
+    pub turn-kind : ownFits text standing (rowAt table at) ≡ true → k < kinds
     unfolding rowAt
-    turn-kind o = rw ek (ltb→lt ((rowAt table at) .kind) kinds (own-of text place (rowAt table at) ∅ (of-true _ o) .kind))
+    turn-kind o = rw ek (ltb→lt ((rowAt table at) .kind) kinds (own-of text standing (rowAt table at) ∅ (of-true _ o) .kind))
 
     -- a row of one
     module _ (s : ℕ) (is : s ≡ rowsAt table at) (one : s ≡ 1) (some-level : level ≡ 0 → ⊥) where
@@ -231,10 +231,10 @@ module _ (text : List ℕ) (place : Place) (level : ℕ) (table : List ℕ) (at 
       pub turn-full : childrenFit k ∅ ≡ false → here ≡ false
       turn-full e = turn-kids s is some-rows (omega arith) some-level k ek (no-kids ∙ e)
 
-      pub turn-leaf : ownFits text place (rowAt table at) ≡ true → childrenFit k ∅ ≡ true → here ≡ runFits text place level (runAt table (at + 1) (end - (at + 1)))
+      pub turn-leaf : ownFits text standing (rowAt table at) ≡ true → childrenFit k ∅ ≡ true → here ≡ runFits text standing level (runAt table (at + 1) (end - (at + 1)))
       turn-leaf o e =
           whole-go s is some-rows (omega arith) some-level k ek o (turn-end text (belowOf ((rowAt table at) .kind)) (level - 1) table (at + 1) (at + s) (omega arith)) (no-kids ∙ e)
-          ∙ ap (λ (n : ℕ). runFits text place level (runAt table (at + n) (end - (at + n)))) one
+          ∙ ap (λ (n : ℕ). runFits text standing level (runAt table (at + n) (end - (at + n)))) one
 
 -- ---- a whole table
 

@@ -16,7 +16,7 @@ use Rattle.tokenizer.proofs.Basics.{and-l, and-r, both}
 use Rattle.datatype.specs.Kind.{kinds, shapeOf}
 use Rattle.datatype.specs.Tree.{Forest, ∅, node, count, roots, depth, Row, Label, nameList, labels}
 use Rattle.datatype.specs.Table.{rowWords, viewOf, treeOf}
-use Rattle.row_table.specs.Sound.{Rules, Place, bare, arityFits, roleFits, idFits, nameFits, rulesOf, zoneFits, shapeFits, rowFits, rowsFit, placed, viewSound, isSound}
+use Rattle.row_table.specs.Sound.{Rules, Standing, bare, arityFits, roleFits, idFits, nameFits, rulesOf, zoneFits, shapeFits, rowFits, rowsFit, placed, viewSound, isSound}
 use Rattle.subtrees.specs.Parents.{parentsRight}
 use Rattle.subtrees.specs.Internal.Run.{forestAt, Nests}
 use Rattle.datatype.proofs.Same.{same-eq, eq-same}
@@ -24,15 +24,15 @@ use Rattle.subtrees.proofs.Runs.{view-rows, nests-all, forest-all}
 
 -- ---- one row
 
--- the clauses of a row's label, standing in a place, over its children
-pub record RowFits (place : Place) (l : Label) (kids : Forest Label) : Type 0 where
+-- the clauses of a row's label, by its standing, over its children
+pub record RowFits (standing : Standing) (l : Label) (kids : Forest Label) : Type 0 where
   pub kind : l .kind < kinds
   pub arity : T (arityFits ((rulesOf (shapeOf (l .kind))) .children) (length (roots kids)))
-  pub role : T (roleFits place (l .role))
-  pub unionId : T (idFits place (l .unionId))
+  pub role : T (roleFits standing (l .role))
+  pub unionId : T (idFits standing (l .unionId))
   pub number : l .number < (rulesOf (shapeOf (l .kind))) .params
   pub scale : l .scale < (rulesOf (shapeOf (l .kind))) .scales
-  pub name : T (nameFits place (l .name))
+  pub name : T (nameFits standing (l .name))
   pub zone : T (zoneFits ((rulesOf (shapeOf (l .kind))) .zoned) (l .zone))
   pub shape : T (shapeFits (shapeOf (l .kind)) l kids)
 
@@ -80,14 +80,14 @@ all-nine a b c d e f g h i n =
 abbrev pub rulesAt : Label → Rules
 rulesAt l = rulesOf (shapeOf (l .kind))
 
-module _ (place : Place) (l : Label) (kids : Forest Label) where
+module _ (standing : Standing) (l : Label) (kids : Forest Label) where
   abbrev Clauses : Type 0
   Clauses =
-      Nine (ltb (l .kind) kinds) (arityFits ((rulesAt l) .children) (length (roots kids))) (roleFits place (l .role)) (idFits place (l .unionId))
-      (ltb (l .number) ((rulesAt l) .params)) (ltb (l .scale) ((rulesAt l) .scales)) (nameFits place (l .name))
+      Nine (ltb (l .kind) kinds) (arityFits ((rulesAt l) .children) (length (roots kids))) (roleFits standing (l .role)) (idFits standing (l .unionId))
+      (ltb (l .number) ((rulesAt l) .params)) (ltb (l .scale) ((rulesAt l) .scales)) (nameFits standing (l .name))
       (zoneFits ((rulesAt l) .zoned) (l .zone)) (shapeFits (shapeOf (l .kind)) l kids)
 
-  from-clauses : Clauses → RowFits place l kids
+  from-clauses : Clauses → RowFits standing l kids
   from-clauses n =
       record {
         kind = ltb→lt (l .kind) kinds (n .t1);
@@ -101,7 +101,7 @@ module _ (place : Place) (l : Label) (kids : Forest Label) where
         shape = n .t9;
       }
 
-  to-clauses : RowFits place l kids → Clauses
+  to-clauses : RowFits standing l kids → Clauses
   to-clauses r =
       record {
         t1 = lt→ltb (l .kind) kinds (r .kind);
@@ -115,34 +115,34 @@ module _ (place : Place) (l : Label) (kids : Forest Label) where
         t9 = r .shape;
       }
 
-  pub row-fits : T (rowFits place l kids) → RowFits place l kids
+  pub row-fits : T (rowFits standing l kids) → RowFits standing l kids
   unfolding rowFits
-  row-fits t = from-clauses (nine (ltb (l .kind) kinds) (arityFits ((rulesAt l) .children) (length (roots kids))) (roleFits place (l .role)) (idFits place (l .unionId)) (ltb (l .number) ((rulesAt l) .params)) (ltb (l .scale) ((rulesAt l) .scales)) (nameFits place (l .name)) (zoneFits ((rulesAt l) .zoned) (l .zone)) (shapeFits (shapeOf (l .kind)) l kids) t)
+  row-fits t = from-clauses (nine (ltb (l .kind) kinds) (arityFits ((rulesAt l) .children) (length (roots kids))) (roleFits standing (l .role)) (idFits standing (l .unionId)) (ltb (l .number) ((rulesAt l) .params)) (ltb (l .scale) ((rulesAt l) .scales)) (nameFits standing (l .name)) (zoneFits ((rulesAt l) .zoned) (l .zone)) (shapeFits (shapeOf (l .kind)) l kids) t)
 
-  pub fits-row : RowFits place l kids → T (rowFits place l kids)
+  pub fits-row : RowFits standing l kids → T (rowFits standing l kids)
   unfolding rowFits
-  fits-row r = all-nine (ltb (l .kind) kinds) (arityFits ((rulesAt l) .children) (length (roots kids))) (roleFits place (l .role)) (idFits place (l .unionId)) (ltb (l .number) ((rulesAt l) .params)) (ltb (l .scale) ((rulesAt l) .scales)) (nameFits place (l .name)) (zoneFits ((rulesAt l) .zoned) (l .zone)) (shapeFits (shapeOf (l .kind)) l kids) (to-clauses r)
+  fits-row r = all-nine (ltb (l .kind) kinds) (arityFits ((rulesAt l) .children) (length (roots kids))) (roleFits standing (l .role)) (idFits standing (l .unionId)) (ltb (l .number) ((rulesAt l) .params)) (ltb (l .scale) ((rulesAt l) .scales)) (nameFits standing (l .name)) (zoneFits ((rulesAt l) .zoned) (l .zone)) (shapeFits (shapeOf (l .kind)) l kids) (to-clauses r)
 
 -- ---- a run of rows that fit
 
 -- the first tree's root, its children, its later siblings
-pub rows-fit : (place : Place) (l : Label) (kids next : Forest Label) → T (rowsFit place (node l kids next))
-    → RowFits place l kids × T (rowsFit ((rulesAt l) .below) kids) × T (rowsFit place next)
+pub rows-fit : (standing : Standing) (l : Label) (kids next : Forest Label) → T (rowsFit standing (node l kids next))
+    → RowFits standing l kids × T (rowsFit ((rulesAt l) .below) kids) × T (rowsFit standing next)
 unfolding rowsFit
-rows-fit place l kids next t =
-    let a = rowFits place l kids in
+rows-fit standing l kids next t =
+    let a = rowFits standing l kids in
     let b = rowsFit ((rulesAt l) .below) kids in
-    let c = rowsFit place next in
-    (row-fits place l kids (and-l a b (and-l (a && b) c t)), and-r a b (and-l (a && b) c t), and-r (a && b) c t)
+    let c = rowsFit standing next in
+    (row-fits standing l kids (and-l a b (and-l (a && b) c t)), and-r a b (and-l (a && b) c t), and-r (a && b) c t)
 
-pub fits-rows : (place : Place) (l : Label) (kids next : Forest Label) → RowFits place l kids → T (rowsFit ((rulesAt l) .below) kids) → T (rowsFit place next)
-    → T (rowsFit place (node l kids next))
+pub fits-rows : (standing : Standing) (l : Label) (kids next : Forest Label) → RowFits standing l kids → T (rowsFit ((rulesAt l) .below) kids) → T (rowsFit standing next)
+    → T (rowsFit standing (node l kids next))
 unfolding rowsFit
-fits-rows place l kids next r k n =
-    let a = rowFits place l kids in
+fits-rows standing l kids next r k n =
+    let a = rowFits standing l kids in
     let b = rowsFit ((rulesAt l) .below) kids in
-    let c = rowsFit place next in
-    both (a && b) c (both a b (fits-row place l kids r) k) n
+    let c = rowsFit standing next in
+    both (a && b) c (both a b (fits-row standing l kids r) k) n
 
 -- ---- a sound tree
 

@@ -12,7 +12,7 @@ use lib.Dec.{T}
 use Rattle.tokenizer.proofs.Basics.{and-l, and-r}
 use Rattle.datatype.specs.Tree.{Forest, node, Row, Label, nameOf, zoneOf, labelOf, labels}
 use Rattle.datatype.specs.Table.{rowWords, rowsAt}
-use Rattle.row_table.specs.Sound.{Place, namePlaced, zonePlaced, placed, rowsFit}
+use Rattle.row_table.specs.Sound.{Standing, namePlaced, zonePlaced, placed, rowsFit}
 use Rattle.subtrees.specs.Internal.Run.{rowAt, forestAt}
 use Rattle.subtrees.proofs.Runs.{Turn}
 use Rattle.row_table.proofs.SoundTree.{RowFits, rulesAt, rows-fit}
@@ -31,9 +31,9 @@ module _ (text names table : List ℕ) (at end : ℕ) (t : Turn table at end) wh
   unfolding labels
   labels-turn = rw (t .is)
 
-  pub fits-turn : (place : Place) → T (rowsFit place (labels text names (forestAt table at (end - at))))
-      → RowFits place label (labels text names kidsRun) × T (rowsFit ((rulesAt label) .below) (labels text names kidsRun)) × T (rowsFit place (labels text names restRun))
-  fits-turn place h = rows-fit place label (labels text names kidsRun) (labels text names restRun) (rw labels-turn at h)
+  pub fits-turn : (standing : Standing) → T (rowsFit standing (labels text names (forestAt table at (end - at))))
+      → RowFits standing label (labels text names kidsRun) × T (rowsFit ((rulesAt label) .below) (labels text names kidsRun)) × T (rowsFit standing (labels text names restRun))
+  fits-turn standing h = rows-fit standing label (labels text names kidsRun) (labels text names restRun) (rw labels-turn at h)
 
   pub placed-turn : T (placed text (forestAt table at (end - at)))
       → T (namePlaced text (rowAt table at)) × T (zonePlaced text (rowAt table at)) × T (placed text kidsRun) × T (placed text restRun)

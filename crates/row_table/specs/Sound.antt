@@ -35,17 +35,17 @@ arityFits twoChildren (suc (suc (suc n))) = false
 arityFits anyCount n = true
 
 -- Where a row stands: bare (the root, a dictionary's key and value), as a field, or as a field of a union.
-pub data Place : Type 0 where
-  bare field unionField : Place
+pub data Standing : Type 0 where
+  bare field unionField : Standing
 
 -- The role: 0 for a bare row, 1 or 2 for a field.
-unfoldable pub roleFits : Place → ℕ → Bool
+unfoldable pub roleFits : Standing → ℕ → Bool
 roleFits bare role = eqb role 0
 roleFits field role = eqb role 1 || eqb role 2
 roleFits unionField role = eqb role 1 || eqb role 2
 
 -- The union id: 0 to 127 for a field of a union, else unused.
-unfoldable pub idFits : Place → ℕ → Bool
+unfoldable pub idFits : Standing → ℕ → Bool
 idFits bare id = eqb id 0
 idFits field id = eqb id 0
 idFits unionField id = ltb id 128
@@ -55,7 +55,7 @@ abbrev pub isName : List ℕ → Bool
 isName [] = false
 isName (c ∷ s) = isUtf8 (c ∷ s)
 
-unfoldable pub nameFits : Place → List ℕ → Bool
+unfoldable pub nameFits : Standing → List ℕ → Bool
 nameFits bare name = isEmpty name
 nameFits field name = isName name
 nameFits unionField name = isName name
@@ -64,12 +64,12 @@ nameFits unionField name = isName name
 -- where the word is unused: 0), and whether it may have a zone.
 pub record Rules : Type 0 where
   pub children : Arity
-  pub below : Place
+  pub below : Standing
   pub params : ℕ
   pub scales : ℕ
   pub zoned : Bool
 
-abbrev pub rules : Arity → Place → ℕ → ℕ → Bool → Rules
+abbrev pub rules : Arity → Standing → ℕ → ℕ → Bool → Rules
 rules children below params scales zoned = record { children = children; below = below; params = params; scales = scales; zoned = zoned }
 
 unfoldable pub rulesOf : Shape → Rules
@@ -125,24 +125,24 @@ shapeFits decimal l kids = decimalFits (l .kind) (l .number) (l .scale)
 shapeFits mapping l kids = entriesFit kids
 shapeFits runEnds l kids = runEndsFit kids
 
--- One row, standing in a place, over its children.
-unfoldable pub rowFits : Place → Label → Forest Label → Bool
-rowFits place l kids =
+-- One row, by its standing, over its children.
+unfoldable pub rowFits : Standing → Label → Forest Label → Bool
+rowFits standing l kids =
     let shape = shapeOf (l .kind) in
     ltb (l .kind) kinds
     && arityFits ((rulesOf shape) .children) (length (roots kids))
-    && roleFits place (l .role)
-    && idFits place (l .unionId)
+    && roleFits standing (l .role)
+    && idFits standing (l .unionId)
     && ltb (l .number) ((rulesOf shape) .params)
     && ltb (l .scale) ((rulesOf shape) .scales)
-    && nameFits place (l .name)
+    && nameFits standing (l .name)
     && zoneFits ((rulesOf shape) .zoned) (l .zone)
     && shapeFits shape l kids
 
--- Every row of a run of trees that stand in a place.
-unfoldable pub rowsFit : Place → Forest Label → Bool
-rowsFit place ∅ = true
-rowsFit place (node l kids next) = rowFits place l kids && rowsFit ((rulesOf (shapeOf (l .kind))) .below) kids && rowsFit place next
+-- Every row of a run of trees of a standing.
+unfoldable pub rowsFit : Standing → Forest Label → Bool
+rowsFit standing ∅ = true
+rowsFit standing (node l kids next) = rowFits standing l kids && rowsFit ((rulesOf (shapeOf (l .kind))) .below) kids && rowsFit standing next
 
 -- ---- where names and zones stand
 

@@ -10,7 +10,7 @@ ghost use Rattle.tokenizer.specs.Utf8.{isUtf8};
 ghost use Rattle.datatype.specs.Kind.{kinds, shapeOf};
 ghost use Rattle.datatype.specs.Tree.{nameList};
 ghost use Rattle.row_table.specs.Sound.{isListed, rulesOf};
-ghost use Rattle.row_table.specs.Internal.Check.{placeOf, boundary, partFits, nameOk, zoneOk};
+ghost use Rattle.row_table.specs.Internal.Check.{standingOf, boundary, partFits, nameOk, zoneOk};
 use datatype::Field;
 use datatype::kind::TIMESTAMP;
 
@@ -118,19 +118,19 @@ fn is_bare(role: u32, home: u32, start: u32, size: u32) -> bool
     size == 0
 }
 
-// Whether role and name are those of a row in a place.
+// Whether role and name are those of a row of a standing.
 pub(crate) fn name_fits(
     text: &[u8],
-    place: u32,
+    standing: u32,
     role: u32,
     home: u32,
     start: u32,
     size: u32,
 ) -> bool
     requires { ⌜ T (isUtf8 (now text)) ⌝ }
-    ensures { λ r. ⌜ r ≡ nameOk (now (text .entry)) (placeOf place) role home start size ⌝ }
+    ensures { λ r. ⌜ r ≡ nameOk (now (text .entry)) (standingOf standing) role home start size ⌝ }
 {
-    if place == 0 {
+    if standing == 0 {
         return is_bare(role, home, start, size);
     }
     if role == 0 {

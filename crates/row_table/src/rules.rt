@@ -1,9 +1,11 @@
 // What each kind asks of a row's numbers, and where its children stand.
 ghost use mathlib.Core.Path.{_≡_};
+ghost use mathlib.Core.Bool.{_&&_};
 ghost use Prim.Native.Nat.{_<_};
+ghost use lib.Dec.{leb};
 ghost use Rattle.datatype.specs.Kind.{kinds, shapeOf};
 ghost use Rattle.row_table.specs.Sound.{rulesOf};
-ghost use Rattle.row_table.specs.Internal.Check.{placeOf, belowOf, isDecimal, numbersFit};
+ghost use Rattle.row_table.specs.Internal.Check.{standingOf, belowOf, isDecimal, numbersFit};
 use datatype::Decimal;
 use datatype::kind::DECIMAL32;
 use datatype::kind::DECIMAL64;
@@ -19,8 +21,17 @@ use datatype::kind::TIME32;
 use datatype::kind::TIME64;
 use datatype::kind::TIMESTAMP;
 use datatype::kind::UNION;
-use datatype::kind::between;
 use datatype::kind::unit_fits;
+
+// Whether a kind lies between two others, in the order of `DataType`, or is one of them.
+pub(crate) fn between(least: u32, kind: u32, most: u32) -> bool
+    ensures { λ r. ⌜ r ≡ (leb least kind && leb kind most) ⌝ }
+{
+    if kind < least {
+        return false;
+    }
+    kind <= most
+}
 
 // Whether a kind is one of the four decimals.
 pub(crate) fn is_decimal(kind: u32) -> bool
@@ -77,15 +88,15 @@ pub(crate) fn numbers_fit(kind: u32, param: u32, scale: u32) -> bool
     if 0 < scale {
         return false;
     }
-    if !unit_fits(kind, param) {
+    if values <= param {
         return false;
     }
-    param < values
+    unit_fits(kind, param)
 }
 
-// The place of a kind's children: 0 bare, 1 fields, 2 fields of a union.
+// The standing of a kind's children: 0 bare, 1 fields, 2 fields of a union.
 pub(crate) fn below(kind: u32) -> u32
-    ensures { λ r. ⌜ placeOf r ≡ belowOf kind ⌝ }
+    ensures { λ r. ⌜ standingOf r ≡ belowOf kind ⌝ }
 {
     if kind == DICTIONARY {
         return 0;

@@ -7,7 +7,7 @@ ghost use Rattle.tokenizer.specs.Utf8.{isUtf8};
 ghost use Rattle.datatype.specs.Table.{rowWords};
 ghost use Rattle.row_table.specs.Sound.{idFits, isSound};
 ghost use Rattle.subtrees.specs.Internal.Run.{rowAt, runAt};
-ghost use Rattle.row_table.specs.Internal.Check.{placeOf, ownFits, runFits};
+ghost use Rattle.row_table.specs.Internal.Check.{standingOf, ownFits, runFits};
 use crate::children::children_fit;
 use crate::children::is_childless;
 use crate::names::is_name_list;
@@ -34,23 +34,23 @@ use datatype::rows::ZONE_LENGTH;
 use datatype::rows::ZONE_START;
 use subtrees::parents_fit;
 
-// Whether the union id is one of a row in a place.
-fn id_fits(place: u32, id: u32) -> bool
-    ensures { λ r. ⌜ r ≡ idFits (placeOf place) id ⌝ }
+// Whether the union id is one of a row of a standing.
+fn id_fits(standing: u32, id: u32) -> bool
+    ensures { λ r. ⌜ r ≡ idFits (standingOf standing) id ⌝ }
 {
     if id == 0 {
         return true;
     }
-    if place < 2 {
+    if standing < 2 {
         return false;
     }
     id < 128
 }
 
-// Whether row i, in a place, is sound, but for what its children must be.
-fn row_fits(text: &[u8], rows: &[u32], place: u32, i: usize) -> bool
+// Whether row i, of a standing, is sound, but for what its children must be.
+fn row_fits(text: &[u8], rows: &[u32], standing: u32, i: usize) -> bool
     requires { ⌜ T (isUtf8 (now text)) × (rowWords * (i + 1) ≤ length (now rows)) ⌝ }
-    ensures { λ r. ⌜ r ≡ ownFits (now (text .entry)) (placeOf place) (rowAt (now (rows .entry)) i) ⌝ }
+    ensures { λ r. ⌜ r ≡ ownFits (now (text .entry)) (standingOf standing) (rowAt (now (rows .entry)) i) ⌝ }
 {
     let kind = word(rows, i, KIND);
     if KINDS <= kind {
@@ -59,14 +59,14 @@ fn row_fits(text: &[u8], rows: &[u32], place: u32, i: usize) -> bool
     if !numbers_fit(kind, word(rows, i, NUMBER), word(rows, i, SCALE)) {
         return false;
     }
-    if !id_fits(place, word(rows, i, UNION_ID)) {
+    if !id_fits(standing, word(rows, i, UNION_ID)) {
         return false;
     }
     let role = word(rows, i, ROLE);
     let home = word(rows, i, HOME);
     if !name_fits(
         text,
-        place,
+        standing,
         role,
         home,
         word(rows, i, NAME_START),
@@ -82,17 +82,24 @@ fn row_fits(text: &[u8], rows: &[u32], place: u32, i: usize) -> bool
     )
 }
 
-// Whether rows start to end nest, stand soundly in a place and have at most so many levels.
-fn run_fits(text: &[u8], rows: &[u32], place: u32, level: usize, start: usize, end: usize) -> bool
+// Whether rows start to end nest, are sound by a standing and have at most so many levels.
+fn run_fits(
+    text: &[u8],
+    rows: &[u32],
+    standing: u32,
+    level: usize,
+    start: usize,
+    end: usize,
+) -> bool
     requires { ⌜ T (isUtf8 (now text)) × (rowWords * end ≤ length (now rows)) × (start ≤ end) ⌝ }
-    ensures { λ r. ⌜ r ≡ runFits (now (text .entry)) (placeOf place) level (runAt (now (rows .entry)) start (end - start)) ⌝ }
+    ensures { λ r. ⌜ r ≡ runFits (now (text .entry)) (standingOf standing) level (runAt (now (rows .entry)) start (end - start)) ⌝ }
 {
     let mut at = start;
     while at < end {
         if level == 0 {
             return false;
         }
-        if !row_fits(text, rows, place, at) {
+        if !row_fits(text, rows, standing, at) {
             return false;
         }
         let kind = word(rows, at, KIND);

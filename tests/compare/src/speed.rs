@@ -17,6 +17,7 @@ const BYTES: usize = 4_000_000;
 pub fn run() -> ExitCode {
     read();
     print();
+    refuse();
     ExitCode::SUCCESS
 }
 
@@ -79,6 +80,42 @@ fn print() {
             data_type.to_string().len(),
             rust / port,
         );
+    }
+}
+
+/// Time grows with rows and bytes: 1,023 fields whose name is the whole text, so that it is looked at once for each and
+/// refused with 19.
+fn refuse() {
+    println!("\nprinting 1,023 fields with one name of n bytes each, refused with 19: nanoseconds, and for a byte.");
+    println!("n                                      port  a byte");
+    for (byte, shown) in [('a', "letters"), ('\u{1f}', "escapes")] {
+        for bytes in [64, 1_024, 16_384] {
+            let text: String = std::iter::repeat_n(byte, bytes).collect();
+            let mut rows = vec![0; MOST_ROWS * WORDS];
+            rows[..2].copy_from_slice(&[32, MOST_ROWS as u32]);
+            for row in rows.chunks_exact_mut(WORDS).skip(1) {
+                row.copy_from_slice(&[2, 1, 1, 0, 0, 0, 1, 0, bytes as u32, 0, 0, 0]);
+            }
+            let mut out = vec![0; MOST_BYTES];
+            assert_eq!(
+                Linked.print(text.as_bytes(), NAME_LIST, &rows, &mut out),
+                Err(19)
+            );
+            let start = Instant::now();
+            for _ in 0..ROUNDS {
+                let rows = black_box(rows.as_slice());
+                black_box(
+                    Linked
+                        .print(text.as_bytes(), NAME_LIST, rows, black_box(&mut out))
+                        .is_ok(),
+                );
+            }
+            let port = start.elapsed().as_nanos() as f64 / ROUNDS as f64;
+            println!(
+                "{bytes:>6} {shown:<28} {port:>9.0} {:>7.2}",
+                port / (1_023 * bytes) as f64
+            );
+        }
     }
 }
 

@@ -9,7 +9,7 @@ use Rattle.tokenizer.specs.Answer.{Out, refused, done}
 use Rattle.datatype.specs.Limits.{maxText}
 use Rattle.datatype.specs.Tree.{depth, nameList}
 use Rattle.datatype.specs.Table.{rowWords, treeOf}
-use Rattle.datatype_display.specs.Display.{digits}
+use Rattle.output.specs.Digits.{digits}
 use Rattle.datatype_display.specs.Print.{print}
 use Rattle.answer_line.specs.Line.{noLine}
 

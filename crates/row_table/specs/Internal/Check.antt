@@ -11,16 +11,16 @@ use Rattle.tokenizer.specs.Utf8.{utf8State, isUtf8}
 use Rattle.datatype.specs.Kind.{Shape, leaf, timestamp, time, interval, fixed, list, fixedList, struct, union, dictionary, decimal, mapping, runEnds, kinds, shapeOf, unitFits, decimalFits, idsFit}
 use Rattle.datatype.specs.Tree.{Forest, ∅, node, roots, depth, Row, nameList, part, labels}
 use Rattle.subtrees.specs.Internal.Run.{entriesOf}
-use Rattle.row_table.specs.Sound.{Place, bare, field, unionField, arityFits, idFits, rulesOf, isListed, rowsFit, placed}
+use Rattle.row_table.specs.Sound.{Standing, bare, field, unionField, arityFits, idFits, rulesOf, isListed, rowsFit, placed}
 
--- A place as the code has it: 0 bare, 1 a field, 2 a field of a union.
-abbrev pub placeOf : ℕ → Place
-placeOf zero = bare
-placeOf (suc zero) = field
-placeOf (suc (suc n)) = unionField
+-- A standing as the code has it: 0 bare, 1 a field, 2 a field of a union.
+abbrev pub standingOf : ℕ → Standing
+standingOf zero = bare
+standingOf (suc zero) = field
+standingOf (suc (suc n)) = unionField
 
 -- Where a kind's children stand.
-abbrev pub belowOf : ℕ → Place
+abbrev pub belowOf : ℕ → Standing
 belowOf k = (rulesOf (shapeOf k)) .below
 
 -- A place of the text that stands between two characters, or at an end.
@@ -31,8 +31,8 @@ boundary text at = eqb (utf8State 0 (take at text)) 0
 unfoldable pub partFits : List ℕ → ℕ → ℕ → Bool
 partFits text start size = leb 1 size && leb (start + size) (length text) && isUtf8 (part text start size)
 
--- The name of a row in a place, by words 2, 6, 7 and 8.
-unfoldable pub nameOk : List ℕ → Place → ℕ → ℕ → ℕ → ℕ → Bool
+-- The name of a row of a standing, by words 2, 6, 7 and 8.
+unfoldable pub nameOk : List ℕ → Standing → ℕ → ℕ → ℕ → ℕ → Bool
 nameOk text bare role home start size = eqb role 0 && eqb home 0 && eqb start 0 && eqb size 0
 nameOk text field role home start size = (eqb role 1 || eqb role 2) && ((eqb home 1 && partFits text start size) || (eqb home 2 && isListed start size))
 nameOk text unionField role home start size = (eqb role 1 || eqb role 2) && ((eqb home 1 && partFits text start size) || (eqb home 2 && isListed start size))
@@ -70,13 +70,13 @@ unfoldable pub numbersFit : ℕ → ℕ → ℕ → Bool
 numbersFit k param scale =
     ltb param ((rulesOf (shapeOf k)) .params) && ltb scale ((rulesOf (shapeOf k)) .scales) && ownShape (shapeOf k) k param scale
 
--- A row in a place, but for what its children must be.
-unfoldable pub ownFits : List ℕ → Place → Row → Bool
-ownFits text place r =
+-- A row of a standing, but for what its children must be.
+unfoldable pub ownFits : List ℕ → Standing → Row → Bool
+ownFits text standing r =
     ltb (r .kind) kinds
     && numbersFit (r .kind) (r .number) (r .scale)
-    && idFits place (r .unionId)
-    && nameOk text place (r .role) (r .home) (r .nameStart) (r .nameLength)
+    && idFits standing (r .unionId)
+    && nameOk text standing (r .role) (r .home) (r .nameStart) (r .nameLength)
     && zoneOk text ((rulesOf (shapeOf (r .kind))) .zoned) (r .zoneStart) (r .zoneLength)
 
 -- Map's entries: a non-null Struct of two whose first is non-null.
@@ -108,7 +108,7 @@ overKids runEnds kids = firstNonNull kids
 unfoldable pub childrenFit : ℕ → Forest Row → Bool
 childrenFit k kids = arityFits ((rulesOf (shapeOf k)) .children) (length (roots kids)) && overKids (shapeOf k) kids
 
--- A run of trees that stand in a place and have at most so many levels; none where the rows do not nest.
-unfoldable pub runFits : List ℕ → Place → ℕ → Option (Forest Row) → Bool
-runFits text place level none = false
-runFits text place level (some f) = leb (depth f) level && placed text f && rowsFit place (labels text nameList f)
+-- A run of trees of a standing that have at most so many levels; none where the rows do not nest.
+unfoldable pub runFits : List ℕ → Standing → ℕ → Option (Forest Row) → Bool
+runFits text standing level none = false
+runFits text standing level (some f) = leb (depth f) level && placed text f && rowsFit standing (labels text nameList f)

@@ -38,7 +38,7 @@ enum-known-n-2 : tie.Need-enum-known-n-2
 enum-known-n-2 c = search needs
 
 put-frame-requires : tie.Need-put-frame-requires
-put-frame-requires c κs = tree-room _ _ _ _ _ _ (c .before .before .before .before .before .before .before .before .before .head-length .ensures) (c .before .before .before .before .before .before .before .before .before .before .before .before .before .pre .0) _ _ _ refl refl _ (c .before .before .before .before .before .before .print-data-type .ensures .0) (c .before .before .before .before .before .before .print-data-type .ensures .1) _ (c .before .before .n2 .given .1)
+put-frame-requires c κs = (c .before .before .before .before .before .before .before .before .before .before .before .before .before .pre .1, c .before .before .before .before .before .before .before .before .before .before .before .before .before .pre .2, tree-room _ _ _ _ _ _ (c .before .before .before .before .before .before .before .before .before .head-length .ensures) (c .before .before .before .before .before .before .before .before .before .before .before .before .before .pre .0) _ _ _ refl refl _ (c .before .before .before .before .before .before .print-data-type .ensures .0) (c .before .before .before .before .before .before .print-data-type .ensures .1) _ (c .before .before .n2 .given .1))
 
 same-length : tie.Need-same-length
 same-length c = search needs

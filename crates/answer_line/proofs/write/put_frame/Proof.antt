@@ -2,10 +2,6 @@ use Rattle.answer_line.proofs.Writing.{frame}
 use borrow.Author.Needs.{needs}
 use Rattle.answer_line.proofs.write.put_frame.Statement.{statement}
 use Rattle.answer_line.proofs.write.put_frame.Tie as tie
-use Rattle.answer_line.proofs.write.put_frame.Reads as reads
-use Rattle.answer_line.proofs.write.put_frame.Lts as lts
-use Rattle.answer_line.proofs.write.put_byte.Reads as put-byte-reads
-use Rattle.answer_line.proofs.write.put_head.Reads as put-head-reads
 
 put-head-requires : tie.Need-put-head-requires
 put-head-requires c κs = search needs
@@ -20,7 +16,7 @@ same-length : tie.Need-same-length
 same-length c = search needs
 
 returns : tie.Need-returns
-returns c = frame _ _ _ _ _ _ _ (c .before .before .before .before .before .before .before .before .before .pre) (c .before .before .before .before .before .before .put-head .ensures) (c .before .before .put-byte .ensures)
+returns c = frame _ _ _ _ _ _ _ (c .before .before .before .before .before .before .before .before .before .pre .2) (c .before .before .before .before .before .before .put-head .ensures) (c .before .before .put-byte .ensures)
 
 pub put-frame-spec : {M : Type 1} → statement M
 put-frame-spec =

@@ -1,28 +1,29 @@
-use Rattle.answer_line.proofs.Writing.{head-size, head-put}
 use native.Mathlib.Omega.{arith}
+use Rattle.answer_line.proofs.Writing.{head-size, head-put}
 use borrow.Author.Needs.{needs}
 use Rattle.answer_line.proofs.write.put_head.Statement.{statement}
 use Rattle.answer_line.proofs.write.put_head.Tie as tie
-use Rattle.answer_line.proofs.write.put_head.Reads as reads
-use Rattle.answer_line.proofs.write.put_head.Lts as lts
-use Rattle.answer_line.proofs.write.put_byte.Reads as put-byte-reads
-use Rattle.answer_line.proofs.write.put_digits.Reads as put-digits-reads
-use Rattle.answer_line.proofs.write.put_word.Reads as put-word-reads
 
 put-word-requires : tie.Need-put-word-requires
-put-word-requires c κs = omega (arith, c .before .before .pre, head-size (c .before .before .args .rows) (c .before .before .args .levels))
+put-word-requires c κs = omega (arith, c .before .before .pre .2, head-size (c .before .before .args .rows) (c .before .before .args .levels))
+
+cast-put-digits : tie.Need-cast-put-digits
+cast-put-digits c = search needs
 
 put-digits-requires : tie.Need-put-digits-requires
-put-digits-requires c κs = omega (arith, c .before .before .before .before .before .before .pre, head-size (c .before .before .before .before .before .before .args .rows) (c .before .before .before .before .before .before .args .levels), c .before .before .before .put-word .ensures .place, c .before .before .before .put-word .kept .0)
+put-digits-requires c κs = omega (arith, c .before .before .before .before .before .before .pre .2, head-size (c .before .before .before .before .before .before .args .rows) (c .before .before .before .before .before .before .args .levels), c .before .before .before .put-word .ensures .place, c .before .before .before .put-word .kept .0)
 
 put-byte-requires : tie.Need-put-byte-requires
-put-byte-requires c κs = omega (arith, c .before .before .before .before .before .before .before .before .before .before .pre, head-size (c .before .before .before .before .before .before .before .before .before .before .args .rows) (c .before .before .before .before .before .before .before .before .before .before .args .levels), c .before .before .before .before .before .before .before .put-word .ensures .place, c .before .before .before .before .before .before .before .put-word .kept .0, c .before .before .before .put-digits .ensures .place, c .before .before .before .put-digits .kept .0)
+put-byte-requires c κs = omega (arith, c .before .before .before .before .before .before .before .before .before .before .pre .2, head-size (c .before .before .before .before .before .before .before .before .before .before .args .rows) (c .before .before .before .before .before .before .before .before .before .before .args .levels), c .before .before .before .before .before .before .before .put-word .ensures .place, c .before .before .before .before .before .before .before .put-word .kept .0, c .before .before .before .put-digits .ensures .place, c .before .before .before .put-digits .kept .0)
+
+cast-put-digits-2 : tie.Need-cast-put-digits-2
+cast-put-digits-2 c = search needs
 
 put-digits-requires-2 : tie.Need-put-digits-requires-2
-put-digits-requires-2 c κs = omega (arith, c .before .before .before .before .before .before .before .before .before .before .before .before .before .before .pre, head-size (c .before .before .before .before .before .before .before .before .before .before .before .before .before .before .args .rows) (c .before .before .before .before .before .before .before .before .before .before .before .before .before .before .args .levels), c .before .before .before .before .before .before .before .before .before .before .before .put-word .ensures .place, c .before .before .before .before .before .before .before .before .before .before .before .put-word .kept .0, c .before .before .before .before .before .before .before .put-digits .ensures .place, c .before .before .before .before .before .before .before .put-digits .kept .0, c .before .before .before .put-byte .ensures .place, c .before .before .before .put-byte .kept .0)
+put-digits-requires-2 c κs = omega (arith, c .before .before .before .before .before .before .before .before .before .before .before .before .before .before .pre .2, head-size (c .before .before .before .before .before .before .before .before .before .before .before .before .before .before .args .rows) (c .before .before .before .before .before .before .before .before .before .before .before .before .before .before .args .levels), c .before .before .before .before .before .before .before .before .before .before .before .put-word .ensures .place, c .before .before .before .before .before .before .before .before .before .before .before .put-word .kept .0, c .before .before .before .before .before .before .before .put-digits .ensures .place, c .before .before .before .before .before .before .before .put-digits .kept .0, c .before .before .before .put-byte .ensures .place, c .before .before .before .put-byte .kept .0)
 
 put-byte-requires-2 : tie.Need-put-byte-requires-2
-put-byte-requires-2 c κs = omega (arith, c .before .before .before .before .before .before .before .before .before .before .before .before .before .before .before .before .before .before .pre, head-size (c .before .before .before .before .before .before .before .before .before .before .before .before .before .before .before .before .before .before .args .rows) (c .before .before .before .before .before .before .before .before .before .before .before .before .before .before .before .before .before .before .args .levels), c .before .before .before .before .before .before .before .before .before .before .before .before .before .before .before .put-word .ensures .place, c .before .before .before .before .before .before .before .before .before .before .before .before .before .before .before .put-word .kept .0, c .before .before .before .before .before .before .before .before .before .before .before .put-digits .ensures .place, c .before .before .before .before .before .before .before .before .before .before .before .put-digits .kept .0, c .before .before .before .before .before .before .before .put-byte .ensures .place, c .before .before .before .before .before .before .before .put-byte .kept .0, c .before .before .before .put-digits2 .ensures .place, c .before .before .before .put-digits2 .kept .0)
+put-byte-requires-2 c κs = omega (arith, c .before .before .before .before .before .before .before .before .before .before .before .before .before .before .before .before .before .before .pre .2, head-size (c .before .before .before .before .before .before .before .before .before .before .before .before .before .before .before .before .before .before .args .rows) (c .before .before .before .before .before .before .before .before .before .before .before .before .before .before .before .before .before .before .args .levels), c .before .before .before .before .before .before .before .before .before .before .before .before .before .before .before .put-word .ensures .place, c .before .before .before .before .before .before .before .before .before .before .before .before .before .before .before .put-word .kept .0, c .before .before .before .before .before .before .before .before .before .before .before .put-digits .ensures .place, c .before .before .before .before .before .before .before .before .before .before .before .put-digits .kept .0, c .before .before .before .before .before .before .before .put-byte .ensures .place, c .before .before .before .before .before .before .before .put-byte .kept .0, c .before .before .before .put-digits2 .ensures .place, c .before .before .before .put-digits2 .kept .0)
 
 same-length : tie.Need-same-length
 same-length c = search needs
@@ -35,8 +36,10 @@ put-head-spec =
     tie.close
     (tie.spec
     put-word-requires
+    cast-put-digits
     put-digits-requires
     put-byte-requires
+    cast-put-digits-2
     put-digits-requires-2
     put-byte-requires-2
     same-length

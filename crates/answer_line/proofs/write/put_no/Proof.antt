@@ -1,13 +1,9 @@
-use Rattle.answer_line.proofs.Writing.{digits-at-most, no-answers}
 use native.Mathlib.Omega.{arith}
+use Rattle.output.proofs.DigitLaws.{digits-at-most}
+use Rattle.answer_line.proofs.Writing.{no-answers}
 use borrow.Author.Needs.{needs}
 use Rattle.answer_line.proofs.write.put_no.Statement.{statement}
 use Rattle.answer_line.proofs.write.put_no.Tie as tie
-use Rattle.answer_line.proofs.write.put_no.Reads as reads
-use Rattle.answer_line.proofs.write.put_no.Lts as lts
-use Rattle.answer_line.proofs.write.put_byte.Reads as put-byte-reads
-use Rattle.answer_line.proofs.write.put_digits.Reads as put-digits-reads
-use Rattle.answer_line.proofs.write.put_word.Reads as put-word-reads
 
 put-word-requires : tie.Need-put-word-requires
 put-word-requires c κs = search needs

@@ -2,14 +2,15 @@ use Rattle.datatype_display.proofs.Escapes.{hex-low, hex-high}
 use borrow.Author.Needs.{needs}
 use Rattle.datatype_display.proofs.escape.hex_digit.Statement.{statement}
 use Rattle.datatype_display.proofs.escape.hex_digit.Tie as tie
-use Rattle.datatype_display.proofs.escape.hex_digit.Reads as reads
-use Rattle.datatype_display.proofs.escape.hex_digit.Lts as lts
 
 add-result : tie.Need-add-result
 add-result c = search needs
 
 returns : tie.Need-returns
 returns c = hex-low _ (c .if1 .taken)
+
+sub-result : tie.Need-sub-result
+sub-result c = search needs
 
 add-result-2 : tie.Need-add-result-2
 add-result-2 c = search needs
@@ -18,4 +19,4 @@ returns-2 : tie.Need-returns-2
 returns-2 c = hex-high _ (c .if1 .left)
 
 pub hex-digit-spec : {M : Type 1} → statement M
-hex-digit-spec = tie.close (tie.spec add-result returns add-result-2 returns-2)
+hex-digit-spec = tie.close (tie.spec add-result returns sub-result add-result-2 returns-2)

@@ -1,11 +1,7 @@
-use Rattle.datatype_display.proofs.Rows.{name-is}
+use Rattle.datatype_display.proofs.Texts.{name-is}
 use borrow.Author.Needs.{needs}
 use Rattle.datatype_display.proofs.row.name_at.Statement.{statement}
 use Rattle.datatype_display.proofs.row.name_at.Tie as tie
-use Rattle.datatype_display.proofs.row.name_at.Reads as reads
-use Rattle.datatype_display.proofs.row.name_at.Lts as lts
-use Rattle.datatype.proofs.field.Field.name.Reads as name-reads
-use Rattle.datatype_display.proofs.row.word.Reads as word-reads
 
 word-requires : tie.Need-word-requires
 word-requires c κs = search needs

@@ -1,39 +1,33 @@
-use mathlib.Core.Path.{ap, sym}
-use Rattle.datatype_display.proofs.Writes.{put-as}
-use Rattle.datatype_display.proofs.WordLaws.{mode-rest}
-use Rattle.datatype_display.specs.Display.{modeText}
+use Rattle.datatype_display.proofs.Writes.{fits-as, wrote-as}
+use mathlib.Core.Path.{sym}
+use Rattle.datatype_display.proofs.WordLaws.{mode-0, mode-rest}
 use borrow.Author.Needs.{needs}
 use Rattle.datatype_display.proofs.words.put_mode.Statement.{statement}
 use Rattle.datatype_display.proofs.words.put_mode.Tie as tie
-use Rattle.datatype_display.proofs.words.put_mode.Reads as reads
-use Rattle.datatype_display.proofs.words.put_mode.Lts as lts
-use Rattle.datatype_display.proofs.write.put.Reads as put-reads
 
 slice-aggregate-put : tie.Need-slice-aggregate-put
 slice-aggregate-put c = search needs
 
 put-requires : tie.Need-put-requires
-put-requires c κs = search needs
+put-requires c κs = fits-as (sym (mode-0 _ (c .before .before .match .keys1))) (c .before .before .before .before .pre)
 
 slice-aggregate-put-2 : tie.Need-slice-aggregate-put-2
 slice-aggregate-put-2 c = search needs
 
 put-requires-2 : tie.Need-put-requires-2
-put-requires-2 c κs = search needs
+put-requires-2 c κs = fits-as (sym (mode-rest _ (c .before .before .match .rest))) (c .before .before .before .before .pre)
 
 same-length : tie.Need-same-length
 same-length c = search needs
 
 returns : tie.Need-returns
-unfolding modeText
-returns c = put-as _ _ _ _ _ _ (ap modeText (sym (c .before .before .before .before .before .match .keys1))) (c .before .before .put .ensures)
+returns c = wrote-as (mode-0 _ (c .before .before .before .before .before .match .keys1)) (c .before .before .put .ensures)
 
 same-length-2 : tie.Need-same-length-2
 same-length-2 c = search needs
 
 returns-2 : tie.Need-returns-2
-unfolding modeText
-returns-2 c = put-as _ _ _ _ _ _ (mode-rest _ (c .before .before .before .before .before .match .rest)) (c .before .before .put2 .ensures)
+returns-2 c = wrote-as (mode-rest _ (c .before .before .before .before .before .match .rest)) (c .before .before .put2 .ensures)
 
 pub put-mode-spec : {M : Type 1} → statement M
 put-mode-spec =

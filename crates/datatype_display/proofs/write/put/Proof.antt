@@ -1,50 +1,61 @@
-use Rattle.datatype_display.proofs.Writes.{moved-by, put-past, put-wrote}
-use native.Mathlib.Omega.{arith}
+use Rattle.output.proofs.Writes.{Copied, copied-length, copied-room, copied-more, copied-all}
+use Rattle.datatype_display.proofs.Writes.{copied-fits, stored-at}
+use mathlib.Core.Path.{refl}
+use lib.ListN.{length}
+use Prim.Native.Nat.{_-_}
 use borrow.Author.Needs.{needs}
 use Rattle.datatype_display.proofs.write.put.Statement.{statement}
 use Rattle.datatype_display.proofs.write.put.Tie as tie
-use Rattle.datatype_display.proofs.write.put.Reads as reads
-use Rattle.datatype_display.proofs.write.put.Lts as lts
-use Rattle.datatype_display.proofs.write.advance.Reads as advance-reads
-use Rattle.datatype_display.proofs.write.copy.Reads as copy-reads
 
-advance-requires : tie.Need-advance-requires
-advance-requires c κs = search needs
+abbrev Inv-loop : tie.InvT-loop
+Inv-loop out₀ at s i₀ out i = Copied out₀ s at (length s) i out
 
-returns : tie.Need-returns
-returns c = put-past _ _ _ _ (c .advance .ensures) (omega (arith, c .before .if1 .taken))
+abbrev μ-loop : tie.MeasureT-loop
+μ-loop out₀ at s i₀ out i = length s - i
 
-sub-if2 : tie.Need-sub-if2
-sub-if2 c = search needs
+loop-holds : tie.Need-loop-holds Inv-loop μ-loop
+loop-holds c = copied-fits _ _ _ (c .pre)
 
-advance-requires-2 : tie.Need-advance-requires-2
-advance-requires-2 c κs = search needs
+shared-slice-read-out : tie.Need-shared-slice-read-out Inv-loop μ-loop
+shared-slice-read-out c = search needs
 
-returns-2 : tie.Need-returns-2
-returns-2 c = put-past _ _ _ _ (c .advance2 .ensures) (omega (arith, c .before .if2 .taken, c .before .before .if1 .left))
+add-out : tie.Need-add-out Inv-loop μ-loop
+add-out c = search needs
 
-copy-requires : tie.Need-copy-requires
-copy-requires c κs = omega (arith, c .before .if2 .left, c .before .before .if1 .left)
+slice-write-out : tie.Need-slice-write-out Inv-loop μ-loop
+slice-write-out c = copied-room _ _ _ _ _ _ (c .before .before .loop .inv) (c .before .loop-test .taken)
 
-add-result : tie.Need-add-result
+add-i : tie.Need-add-i Inv-loop μ-loop
+add-i c = search needs
+
+loop-less : tie.Need-loop-less Inv-loop μ-loop
+loop-less c = search needs
+
+loop-again : tie.Need-loop-again Inv-loop μ-loop
+loop-again c = copied-more _ _ _ _ _ _ (c .before .before .loop .inv) (c .before .loop-test .taken)
+
+add-result : tie.Need-add-result Inv-loop μ-loop
 add-result c = search needs
 
-same-length : tie.Need-same-length
-same-length c = search needs
+same-length : tie.Need-same-length Inv-loop μ-loop
+same-length c = copied-length _ _ _ _ _ _ (c .before .loop .inv)
 
-returns-3 : tie.Need-returns-3
-returns-3 c = put-wrote _ _ _ _ _ (moved-by _ _) (c .before .before .copy .ensures)
+returns : tie.Need-returns Inv-loop μ-loop
+returns c = stored-at _ _ _ _ _ (copied-all _ _ _ _ _ _ (c .before .loop .inv) (c .loop-test .left)) refl
 
 pub put-spec : {M : Type 1} → statement M
 put-spec =
     tie.close
     (tie.spec
-    advance-requires
-    returns
-    sub-if2
-    advance-requires-2
-    returns-2
-    copy-requires
+    Inv-loop
+    μ-loop
+    loop-holds
+    shared-slice-read-out
+    add-out
+    slice-write-out
+    add-i
+    loop-less
+    loop-again
     add-result
     same-length
-    returns-3)
+    returns)

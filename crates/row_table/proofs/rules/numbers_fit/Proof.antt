@@ -1,6 +1,5 @@
 use mathlib.Core.Path.{sym, _∙_}
-use borrow.Author.Tests.{not-true, not-false}
-use Rattle.row_table.proofs.RuleLaws.{numbers-one, numbers-one-scaled, numbers-decimal, numbers-scaled, numbers-unit, numbers-rest}
+use Rattle.row_table.proofs.RuleLaws.{numbers-one, numbers-one-scaled, numbers-decimal, numbers-scaled, numbers-over, numbers-rest}
 use borrow.Author.Needs.{needs}
 use Rattle.row_table.proofs.rules.numbers_fit.Statement.{statement}
 use Rattle.row_table.proofs.rules.numbers_fit.Tie as tie
@@ -26,14 +25,14 @@ returns-3 c = numbers-decimal _ _ _ _ (c .before .before .before .before .before
 returns-4 : tie.Need-returns-4
 returns-4 c = numbers-scaled _ _ _ (c .before .before .before .before .before .pre) (sym (c .before .before .is-decimal .ensures) ∙ c .before .if3 .left) (c .if4 .taken)
 
+returns-5 : tie.Need-returns-5
+returns-5 c = numbers-over _ _ _ _ (c .if5 .taken) (c .before .before .before .before .before .params .ensures)
+
 unit-fits-requires : tie.Need-unit-fits-requires
 unit-fits-requires c κs = search needs
 
-returns-5 : tie.Need-returns-5
-returns-5 c = numbers-unit _ _ _ _ (c .before .unit-fits .ensures) (not-true _ (c .if5 .taken))
-
 returns-6 : tie.Need-returns-6
-returns-6 c = numbers-rest _ _ _ _ _ (c .before .before .before .before .before .before .before .pre) (sym (c .before .before .before .before .is-decimal .ensures) ∙ c .before .before .before .if3 .left) (c .before .before .if4 .left) (c .before .unit-fits .ensures) (not-false _ (c .if5 .left)) (c .before .before .before .before .before .before .params .ensures)
+returns-6 c = numbers-rest _ _ _ _ _ (c .before .before .before .before .before .before .before .pre) (sym (c .before .before .before .before .is-decimal .ensures) ∙ c .before .before .before .if3 .left) (c .before .before .if4 .left) (c .before .if5 .left) (c .before .before .before .before .before .before .params .ensures) (c .unit-fits .ensures)
 
 pub numbers-fit-spec : {M : Type 1} → statement M
 numbers-fit-spec =
@@ -46,6 +45,6 @@ numbers-fit-spec =
     fits-requires
     returns-3
     returns-4
-    unit-fits-requires
     returns-5
+    unit-fits-requires
     returns-6)

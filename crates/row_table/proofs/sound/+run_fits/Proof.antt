@@ -2,7 +2,7 @@ use mathlib.Core.Path.{_≡_, refl, sym, _∙_}
 use Prim.Native.Nat.{_≤_, _-_}
 use borrow.Author.Tests.{not-true, not-false}
 use Rattle.subtrees.specs.Internal.Run.{runAt}
-use Rattle.row_table.specs.Internal.Check.{placeOf, runFits}
+use Rattle.row_table.specs.Internal.Check.{standingOf, runFits}
 use Rattle.row_table.proofs.SoundLaws.{turn-level, turn-row, turn-kind, turn-full, turn-leaf, turn-empty, turn-long, turn-below, turn-nests, turn-kids, turn-go, turn-end}
 use borrow.Author.Needs.{needs}
 use Prim.Native.Nat.{ℕ, _<_}
@@ -31,10 +31,10 @@ run-fits-below t =
     and 2 run-fits-kinds.ps (falls 2 run-fits-kinds.ps _<_ μ-run-fits t) run-fits.Pre
 
 abbrev Inv-loop : run-fits-lts.InvT-loop
-Inv-loop text rows place level start end at₀ at = (at ≤ end) × (runFits text (placeOf place) level (runAt rows start (end - start)) ≡ runFits text (placeOf place) level (runAt rows at (end - at)))
+Inv-loop text rows standing level start end at₀ at = (at ≤ end) × (runFits text (standingOf standing) level (runAt rows start (end - start)) ≡ runFits text (standingOf standing) level (runAt rows at (end - at)))
 
 abbrev μ-loop : run-fits-lts.MeasureT-loop
-μ-loop text rows place level start end at₀ at = end - at
+μ-loop text rows standing level start end at₀ at = end - at
 
 -- what is known of the callees, of this function at levels below
 abbrev calls : ℕ → run-fits-lts.Claims
@@ -60,7 +60,7 @@ module _ (t : ℕ) where
   subtree-requires c κs = search needs
 
   is-childless-requires : run-fits-lts.Need-is-childless-requires (calls t) (run-fits-at t) run-fits.Post Inv-loop μ-loop
-  is-childless-requires c κs = turn-kind _ (placeOf (c .before .before .before .before .before .before .before .before .before .before .args .place)) (c .before .before .before .before .before .before .before .before .before .before .args .level) _ _ _ (c .before .before .before .before .before .before .before .before .before .before .pre .1 .1) (c .before .before .before .before .before .before .loop-test .taken) _ (c .before .before .word .ensures) (sym (c .before .before .before .before .row-fits .ensures) ∙ not-false _ (c .before .before .before .if2 .left))
+  is-childless-requires c κs = turn-kind _ (standingOf (c .before .before .before .before .before .before .before .before .before .before .args .standing)) (c .before .before .before .before .before .before .before .before .before .before .args .level) _ _ _ (c .before .before .before .before .before .before .before .before .before .before .pre .1 .1) (c .before .before .before .before .before .before .loop-test .taken) _ (c .before .before .word .ensures) (sym (c .before .before .before .before .row-fits .ensures) ∙ not-false _ (c .before .before .before .if2 .left))
 
   returns-3 : run-fits-lts.Need-returns-3 (calls t) (run-fits-at t) run-fits.Post Inv-loop μ-loop
   returns-3 c = sym (c .before .before .before .before .before .before .before .before .before .loop .inv .1 ∙ turn-full _ _ _ _ _ _ (c .before .before .before .before .before .before .before .before .before .before .before .before .pre .1 .1) (c .before .before .before .before .before .before .before .before .loop-test .taken) _ (c .before .before .before .before .word .ensures) _ (c .before .before .before .subtree .ensures) (c .before .before .if3 .taken) (c .before .before .before .before .before .before .before .if1 .left) (sym (c .before .is-childless .ensures) ∙ not-true _ (c .if4 .taken)))
@@ -108,7 +108,7 @@ module _ (t : ℕ) where
   add-children-fit-2 c = search needs
 
   children-fit-requires : run-fits-lts.Need-children-fit-requires (calls t) (run-fits-at t) run-fits.Post Inv-loop μ-loop
-  children-fit-requires c κs = turn-nests _ (placeOf (c .before .before .before .before .before .before .before .before .before .before .before .before .before .before .before .args .place)) _ _ _ _ (c .before .before .before .before .before .before .before .before .before .before .before .before .before .before .before .pre .1 .1) (c .before .before .before .before .before .before .before .before .before .before .before .loop-test .taken) _ (c .before .before .before .before .before .before .subtree .ensures) (c .before .before .before .before .if5 .left) (c .before .before .before .if6 .left) (c .before .before .before .before .before .before .before .before .before .before .if1 .left) _ (c .before .before .before .before .before .before .before .word .ensures) (c .before .before .below .result) (c .before .before .below .ensures) (sym (c .before .run-fits .ensures) ∙ not-false _ (c .if7 .left))
+  children-fit-requires c κs = turn-nests _ (standingOf (c .before .before .before .before .before .before .before .before .before .before .before .before .before .before .before .args .standing)) _ _ _ _ (c .before .before .before .before .before .before .before .before .before .before .before .before .before .before .before .pre .1 .1) (c .before .before .before .before .before .before .before .before .before .before .before .loop-test .taken) _ (c .before .before .before .before .before .before .subtree .ensures) (c .before .before .before .before .if5 .left) (c .before .before .before .if6 .left) (c .before .before .before .before .before .before .before .before .before .before .if1 .left) _ (c .before .before .before .before .before .before .before .word .ensures) (c .before .before .below .result) (c .before .before .below .ensures) (sym (c .before .run-fits .ensures) ∙ not-false _ (c .if7 .left))
 
   returns-7 : run-fits-lts.Need-returns-7 (calls t) (run-fits-at t) run-fits.Post Inv-loop μ-loop
   returns-7 c = sym (c .before .before .before .before .before .before .before .before .before .before .before .before .before .before .loop .inv .1 ∙ turn-kids _ _ _ _ _ _ (c .before .before .before .before .before .before .before .before .before .before .before .before .before .before .before .before .before .pre .1 .1) (c .before .before .before .before .before .before .before .before .before .before .before .before .before .loop-test .taken) _ (c .before .before .before .before .before .before .before .before .subtree .ensures) (c .before .before .before .before .before .before .if5 .left) (c .before .before .before .before .before .if6 .left) (c .before .before .before .before .before .before .before .before .before .before .before .before .if1 .left) _ (c .before .before .before .before .before .before .before .before .before .word .ensures) (sym (c .before .children-fit .ensures) ∙ not-true _ (c .if8 .taken)))

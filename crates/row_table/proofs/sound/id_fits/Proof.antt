@@ -3,7 +3,7 @@ use Rattle.row_table.proofs.sound.id_fits.Statement.{statement}
 use Rattle.row_table.proofs.sound.id_fits.Tie as tie
 
 returns : tie.Need-returns
-returns c = id-none (c .before .args .place) _ (c .if1 .taken)
+returns c = id-none (c .before .args .standing) _ (c .if1 .taken)
 
 returns-2 : tie.Need-returns-2
 returns-2 c = id-low _ _ (c .before .if1 .left) (c .if2 .taken)

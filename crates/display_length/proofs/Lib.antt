@@ -1,0 +1,10 @@
+pub mod Length
+pub mod AsciiLaws
+pub mod RowLaws
+pub mod StringLaws
+pub mod WordLaws
+pub mod LengthLaws
+pub mod KindRanges
+pub mod CleanLaws
+pub mod TreeLaws
+pub mod PrintedLaws

@@ -1,0 +1,3 @@
+pub mod Display
+pub mod PrintedLength
+pub mod Internal
