@@ -2,16 +2,16 @@
 use mathlib.Core.Path.{_≡_, refl, sym, ap, _∙_}
 use mathlib.Core.Bool.{Bool, true, false, not, _&&_}
 use mathlib.Core.List.{List, [], _∷_, _++_}
-use Prim.Native.Nat.{ℕ, zero, suc, _+_, _/_, _%_, _≤_, _<_, max}
+use Prim.Native.Nat.{ℕ, suc, _+_, _/_, _%_, _≤_, _<_}
 use native.Mathlib.Omega.{arith}
 use lib.ListN.{length, getD, drop, drop-of-length-le}
 use lib.Seq.{drop-cons}
 use lib.Dec.{T, leb, eqb, leb→le}
 use borrow.Author.Tests.{lt-ltb, le-ltb, le-leb, lt-leb, eq-eqb, ne-eqb}
-use Rattle.tokenizer.specs.Text.{bytes, all, if_then_else_}
+use Rattle.tokenizer.specs.Text.{bytes, all}
 use Rattle.tokenizer.proofs.Basics.{and-l, and-r}
 use Rattle.display_length.specs.Display.{hexDigit, hex, escape, escaped, quoted}
-use Rattle.datatype_display.specs.Internal.Steps.{Wrote, isItself, escapeWeight, unicodeText}
+use Rattle.datatype_display.specs.Internal.Steps.{Wrote, isItself, unicodeText}
 use Rattle.datatype_display.proofs.Writes.{joined, wrote-as, wrote-none, Rest, rest-step, rest-last, rest-as}
 
 -- ---- hex digits
@@ -82,51 +82,27 @@ module _ (c : ℕ) where
 -- ---- bytes that are written as they are
 
 module _ (c : ℕ) where
-  pub weight-low : c < 32 → 1 ≡ escapeWeight c
-  unfolding isItself escapeWeight
-  weight-low h = rw (lt-leb 32 c h)
+  and-held : (b : Bool) → (b && true) ≡ b
+  and-held true = refl
+  and-held false = refl
 
-  pub weight-34 : c ≡ 34 → 1 ≡ escapeWeight c
-  unfolding isItself escapeWeight
-  weight-34 e = rw e
+  pub itself-low : c < 32 → false ≡ isItself c
+  unfolding isItself
+  itself-low h = rw (lt-leb 32 c h)
 
-  pub weight-92 : c ≡ 92 → 1 ≡ escapeWeight c
-  unfolding isItself escapeWeight
-  weight-92 e = rw e
+  pub itself-first : 32 ≤ c → c ≤ 34 → not (eqb c 34) ≡ isItself c
+  unfolding isItself
+  itself-first h k =
+      rw (le-leb 32 c h, ne-eqb c 92 (λ e. omega arith), ne-eqb c 127 (λ e. omega arith))
+      (sym (and-held (not (eqb c 34) && true) ∙ and-held (not (eqb c 34))))
 
-  pub weight-127 : c ≡ 127 → 1 ≡ escapeWeight c
-  unfolding isItself escapeWeight
-  weight-127 e = rw e
+  pub itself-middle : 34 < c → c ≤ 92 → not (eqb c 92) ≡ isItself c
+  unfolding isItself
+  itself-middle h k = rw (le-leb 32 c (omega arith), ne-eqb c 34 (λ e. omega arith), ne-eqb c 127 (λ e. omega arith)) (sym (and-held (not (eqb c 92))))
 
-  pub weight-none : 32 ≤ c → (c ≡ 34 → ⊥) → (c ≡ 92 → ⊥) → (c ≡ 127 → ⊥) → 0 ≡ escapeWeight c
-  unfolding isItself escapeWeight
-  weight-none h p q r = rw (le-leb 32 c h, ne-eqb c 34 p, ne-eqb c 92 q, ne-eqb c 127 r)
-
--- the greatest weight so far, and the bytes that are left
-abbrev pub plainSoFar : ℕ → List ℕ → Bool
-plainSoFar top s = eqb top 0 && all isItself s
-
-pub plain-end : (s : List ℕ) (i top : ℕ) (b : Bool) → b ≡ plainSoFar top (drop i s) → length s ≤ i → eqb top 0 ≡ b
-plain-end s i top b e h = sym (e ∙ rw (drop-of-length-le s {i = i} h) (go (eqb top 0)))
-  where
-    go : (a : Bool) → (a && true) ≡ a
-    go true = refl
-    go false = refl
-
-weighed : (top w : ℕ) (c : Bool) → w ≡ (if c then 0 else 1) → (b : Bool) → (eqb top 0 && (c && b)) ≡ (eqb (max top w) 0 && b)
-weighed zero w true e b = rw e
-weighed zero w false e b = rw e
-weighed (suc n) w c e b = rw (ne-eqb (suc n) 0 (λ z. omega arith), ne-eqb (max (suc n) w) 0 (λ z. omega arith))
-
-pub plain-more : (s : List ℕ) (i top w next : ℕ) (b : Bool) → b ≡ plainSoFar top (drop i s) → i < length s → w ≡ escapeWeight (getD s i 0) → next ≡ max top w
-    → b ≡ plainSoFar next (drop (i + 1) s)
-unfolding escapeWeight
-plain-more s i top w next b e h x y =
-    let n : suc i ≡ i + 1 = omega arith in
-    e
-    ∙ ap (λ (l : List ℕ). plainSoFar top l) (drop-cons s i 0 h)
-    ∙ weighed top w (isItself (getD s i 0)) x (all isItself (drop (suc i) s))
-    ∙ rw (y, ← n)
+  pub itself-high : 92 < c → not (eqb c 127) ≡ isItself c
+  unfolding isItself
+  itself-high h = rw (le-leb 32 c (omega arith), ne-eqb c 34 (λ e. omega arith), ne-eqb c 92 (λ e. omega arith))
 
 -- a byte that is written as it is
 escape-itself : (c : ℕ) → T (isItself c) → escape c ≡ c ∷ []

@@ -1,10 +1,10 @@
 // Double-quoted strings, written as Rust's `{:?}` writes them.
 ghost use mathlib.Core.Path.{_≡_};
 ghost use mathlib.Core.List.{[], _∷_};
-ghost use Prim.Native.Nat.{_<_, max};
+ghost use Prim.Native.Nat.{_<_};
 ghost use Rattle.tokenizer.specs.Text.{all};
 ghost use Rattle.display_length.specs.Display.{hexDigit, hex, escape, escaped, quoted};
-ghost use Rattle.datatype_display.specs.Internal.Steps.{Fits, Wrote, unicodeText, isItself, escapeWeight};
+ghost use Rattle.datatype_display.specs.Internal.Steps.{Fits, Wrote, unicodeText, isItself};
 use crate::write::put;
 use crate::write::put_mark;
 
@@ -82,47 +82,34 @@ fn put_escape(out: &mut [u8], at: usize, c: u8) -> usize
     put_mark(out, at, c)
 }
 
-// 0 for a byte that is written as it is, 1 for one that is escaped.
-fn escape_weight(c: u8) -> u8
-    ensures { λ r. ⌜ r ≡ escapeWeight c ⌝ }
+// Whether a byte is written as it is: letters, most of all bytes, are told by the fewest tests.
+fn is_itself(c: u8) -> bool
+    ensures { λ r. ⌜ r ≡ isItself c ⌝ }
 {
-    if c < 32 {
-        return 1;
+    if b'\\' < c {
+        return c != 127;
     }
-    if c == b'"' {
-        return 1;
+    if b'"' < c {
+        return c != b'\\';
     }
-    if c == b'\\' {
-        return 1;
+    if c < b' ' {
+        return false;
     }
-    if c == 127 {
-        return 1;
-    }
-    0
+    c != b'"'
 }
 
-// The greater of two bytes.
-fn greater(a: u8, b: u8) -> u8
-    ensures { λ r. ⌜ r ≡ max a b ⌝ }
-{
-    if a < b {
-        return b;
-    }
-    a
-}
-
-// Whether all bytes are written as they are: every byte is looked at, with no early exit, so that many are compared at
-// once.
+// Whether all bytes are written as they are. Most names are short: the first that is not ends the search.
 fn prints_as_is(s: &[u8]) -> bool
     ensures { λ r. ⌜ r ≡ all isItself (now (s .entry)) ⌝ }
 {
-    let mut top: u8 = 0;
     let mut i = 0;
     while i < s.len() {
-        top = greater(top, escape_weight(s[i]));
+        if !is_itself(s[i]) {
+            return false;
+        }
         i += 1;
     }
-    top == 0
+    true
 }
 
 // Writes a string byte by byte.

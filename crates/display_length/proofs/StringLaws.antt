@@ -36,6 +36,27 @@ module _ (c : ℕ) where
   unfolding isNoMark
   mark-none n = rw (ne-eqb c 34 n)
 
+-- ---- a search for the first byte that does not pass a test
+
+module _ (test : ℕ → Bool) (s : List ℕ) (i : ℕ) (inv : all test (drop i s) ≡ all test s) where
+  pub all-end : length s ≤ i → true ≡ all test s
+  all-end h = ap (all test) (sym (drop-of-length-le s {i = i} h)) ∙ inv
+
+  module _ (h : i < length s) where
+    met : (test (getD s i 0) && all test (drop (suc i) s)) ≡ all test s
+    met = ap (all test) (sym (drop-cons s i 0 h)) ∙ inv
+
+    pub all-other : test (getD s i 0) ≡ false → false ≡ all test s
+    all-other n =
+        let m = met in
+        rw n at m
+
+    pub all-more : test (getD s i 0) ≡ true → all test (drop (i + 1) s) ≡ all test s
+    all-more q =
+        let e : i + 1 ≡ suc i = omega arith in
+        let m = met in
+        rw e (rw q at m)
+
 -- ---- one byte between the marks
 
 module _ (c : ℕ) where

@@ -40,26 +40,18 @@ pub(crate) fn is_clean(s: &[u8]) -> bool
     top <= 126
 }
 
-fn mark_weight(c: u8) -> u8
-    ensures { λ r. ⌜ leb r 126 ≡ isNoMark c ⌝ }
-{
-    if c == b'"' {
-        return 255;
-    }
-    0
-}
-
-// Whether no byte is a double quote.
+// Whether no byte is a double quote. Most names are short: the first that is one ends the search.
 fn has_no_mark(s: &[u8]) -> bool
     ensures { λ r. ⌜ r ≡ all isNoMark (now (s .entry)) ⌝ }
 {
-    let mut top: u8 = 0;
     let mut i = 0;
     while i < s.len() {
-        top = greater(top, mark_weight(s[i]));
+        if s[i] == b'"' {
+            return false;
+        }
         i += 1;
     }
-    top <= 126
+    true
 }
 
 // How many bytes a control character becomes: a letter or its number in hex digits behind a backslash.

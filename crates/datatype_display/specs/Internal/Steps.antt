@@ -56,12 +56,9 @@ wordOf k =
 
 -- ---- strings
 
--- A byte that is written as it is between double quotes, and its weight.
+-- A byte that is written as it is between double quotes.
 unfoldable pub isItself : ℕ → Bool
 isItself c = leb 32 c && not (eqb c 34) && not (eqb c 92) && not (eqb c 127)
-
-unfoldable pub escapeWeight : ℕ → ℕ
-escapeWeight c = if isItself c then 0 else 1
 
 -- A control character, by its number in hex digits.
 unfoldable pub unicodeText : ℕ → List ℕ
