@@ -168,6 +168,11 @@ module _ (text names table : List ℕ) (i : ℕ) where
     unfolding shapeText labelAt labelOf
     leaf-type e = type-parts kind k leaf e
 
+    -- a field whose type is a word alone
+    pub word-parts : (role : ℕ) → role ≡ getD table (rowWords * i + 2) 0 → shapeOf kind ≡ leaf → joined (nullability role ∷ kindWord kind ∷ []) ≡ nullableText (at i)
+    unfolding joined
+    word-parts role e s = ap (λ (t : List ℕ). nullability role ++ t) (sym (append-nil (kindWord kind)) ∙ leaf-type s) ∙ nullable-parts role e
+
     pub timestamp-type : shapeOf kind ≡ timestamp → joined (kindWord kind ∷ shapeText timestamp (labelAt text [] table i) [] ∷ []) ≡ textAt text names table i
     unfolding shapeText labelAt labelOf
     timestamp-type e = type-parts kind k timestamp e

@@ -43,6 +43,11 @@ fn put_nullable<'a>(
 {
     let role = word(rows, i, ROLE);
     let next = put_nullability(out, at, role);
+    let kind = word(rows, i, KIND);
+    // Of most types only the word is written, with no call of the walk.
+    if kind < kind::TIMESTAMP {
+        return put_kind(out, next, kind);
+    }
     put_type(text, names, rows, level, i, out, next)
 }
 

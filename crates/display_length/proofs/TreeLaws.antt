@@ -19,6 +19,7 @@ use Rattle.display_length.specs.Display.{displayLength}
 use Rattle.display_length.specs.PrintedLength.{quotesNames}
 use Rattle.display_length.specs.Internal.Steps.{Subtree, Clean, ownAt, labelAt, kidsAt, wordLength, behindLength, rowLength, aroundLength, childrenLength, typeLength, lengthAt}
 use Rattle.display_length.proofs.WordLaws.{word-few}
+use Rattle.display_length.proofs.KindRanges.{first-leaf}
 use Rattle.display_length.proofs.CleanLaws.{clean-as, clean-zone, clean-name, behind-few, around-few}
 use Rattle.display_length.proofs.LengthLaws.{type-length}
 
@@ -178,6 +179,15 @@ module _ (text table : List ℕ) (i kind number scale start size : ℕ) (w b : �
       let f = word-few kind in
       let g = behind-few (shapeOf kind) number scale (zoneOf text start size) n s (clean-zone clean text start size c .short) in
       omega arith
+
+-- a type that is a word alone
+module _ (text table : List ℕ) (i kind w : ℕ) (is : w ≡ wordLength kind) where
+  pub word-counted : kind ≡ getD table (rowWords * i + 0) 0 → kind < 13 → w ≡ ownAt text table i
+  unfolding rowLength ownAt behindLength
+  word-counted k h = rw (is, ← k, first-leaf kind h) (omega arith)
+
+  pub word-sum : w ≤ 100000
+  word-sum = let f = word-few kind in omega arith
 
 pub around-counted : (text names table : List ℕ) (j : ℕ) (s : Shape) (q f : Bool) (role id : ℕ) (name : List ℕ) → role ≡ getD table (rowWords * j + 2) 0 → id ≡ getD table (rowWords * j + 3) 0
     → name ≡ (labelAt text names table j) .name → (r : ℕ) → r ≡ aroundLength s q f role id name → r ≡ aroundAt text names table s q f j

@@ -248,7 +248,7 @@ abbrev pub calls-put-map : ℕ → put-map-lts.Claims
 calls-put-map t = (word-reads.Asked, word-reads.Learnt, put-mark-reads.Asked, put-mark-reads.Learnt, put-field-below t, put-field.Post, put-reads.Asked, put-reads.Learnt, put-sorted-reads.Asked, put-sorted-reads.Learnt)
 
 abbrev pub calls-put-nullable : ℕ → put-nullable-lts.Claims
-calls-put-nullable t = (word-reads.Asked, word-reads.Learnt, put-nullability-reads.Asked, put-nullability-reads.Learnt, put-type-below t, put-type.Post)
+calls-put-nullable t = (word-reads.Asked, word-reads.Learnt, put-nullability-reads.Asked, put-nullability-reads.Learnt, put-kind-reads.Asked, put-kind-reads.Learnt, put-type-below t, put-type.Post)
 
 abbrev pub calls-put-run-end-encoded : ℕ → put-run-end-encoded-lts.Claims
 calls-put-run-end-encoded t = (subtree-reads.Asked, subtree-reads.Learnt, default-names-reads.Asked, default-names-reads.Learnt, put-mark-reads.Asked, put-mark-reads.Learnt, put-nullable-below t, put-nullable.Post, put-reads.Asked, put-reads.Learnt, put-field-below t, put-field.Post)
