@@ -1,103 +1,24 @@
 // Refusal 18: whether no name or zone that prints in double quotes holds a byte above 127.
 ghost use mathlib.Core.Path.{_≡_};
-ghost use Prim.Native.Nat.{_+_, _-_, _*_, _≤_, max};
-ghost use lib.ListN.{length};
+ghost use Prim.Native.Nat.{_+_, _-_, _≤_};
 ghost use lib.Dec.{T};
-ghost use Rattle.datatype.specs.Kind.{runEnds, shapeOf};
 ghost use Rattle.datatype.specs.Tree.{roots, depth, labels};
-ghost use Rattle.datatype.specs.Table.{rowWords, treeOf};
+ghost use Rattle.datatype.specs.Table.{treeOf};
 ghost use Rattle.subtrees.specs.Internal.Run.{Nests, forestAt};
 ghost use Rattle.row_table.specs.Sound.{isSound};
-ghost use Rattle.display_length.specs.Display.{defaultNames};
-ghost use Rattle.display_length.specs.PrintedLength.{quotesNames, isAscii, namesAscii, quotedAscii};
+ghost use Rattle.display_length.specs.PrintedLength.{namesAscii, quotedAscii};
 ghost use Rattle.display_length.specs.Internal.Steps.{labelAt, rowAscii, Clean};
+use crate::names::quotes_names;
 use crate::rows::name_at;
 use crate::rows::subtree;
 use crate::rows::word;
-use datatype::Field;
-use datatype::equal_bytes;
-use datatype::kind::MAP;
-use datatype::kind::RUN_END_ENCODED;
-use datatype::kind::STRUCT;
-use datatype::kind::UNION;
+use crate::strings::is_ascii;
 use datatype::rows::KIND;
 use datatype::rows::MAX_LEVELS;
 use datatype::rows::ROW_WORDS;
 use datatype::rows::ZONE_LENGTH;
 use datatype::rows::ZONE_START;
 use datatype::zone;
-
-// The greater of two bytes.
-pub(crate) fn greater(a: u8, b: u8) -> u8
-    ensures { λ r. ⌜ r ≡ max a b ⌝ }
-{
-    if a < b {
-        return b;
-    }
-    a
-}
-
-// Whether all bytes are up to 127: every byte is looked at, with no early exit, so that many are compared at once.
-fn is_ascii(s: &[u8]) -> bool
-    ensures { λ r. ⌜ r ≡ isAscii (now (s .entry)) ⌝ }
-{
-    let mut top: u8 = 0;
-    let mut i = 0;
-    while i < s.len() {
-        top = greater(top, s[i]);
-        i += 1;
-    }
-    top <= 127
-}
-
-// Whether two rows have the default names of run ends and values.
-fn default_names<'a>(text: &'a [u8], names: &'a [u8], rows: &[u32], i: usize, j: usize) -> bool
-    requires { ⌜ (rowWords * (i + 1) ≤ length (now rows)) × (rowWords * (j + 1) ≤ length (now rows)) ⌝ }
-    ensures { λ r. ⌜ r ≡ defaultNames (labelAt (now (text .entry)) (now (names .entry)) (now (rows .entry)) i) (labelAt (now (text .entry)) (now (names .entry)) (now (rows .entry)) j) ⌝ }
-{
-    let run_ends = name_at(text, names, rows, i);
-    if !equal_bytes(run_ends, &Field::REE_RUN_ENDS_FIELD_DEFAULT_NAME) {
-        return false;
-    }
-    let values = name_at(text, names, rows, j);
-    equal_bytes(values, &Field::REE_VALUES_FIELD_DEFAULT_NAME)
-}
-
-// Whether rows start to end, below a RunEndEncoded, print their names.
-fn quotes_pair<'a>(text: &'a [u8], names: &'a [u8], rows: &[u32], start: usize, end: usize) -> bool
-    requires { ⌜ Nests (now rows) start (end - start) × (start ≤ end) ⌝ }
-    ensures { λ r. ⌜ r ≡ quotesNames runEnds (roots (labels (now (text .entry)) (now (names .entry)) (forestAt (now (rows .entry)) start (end - start)))) ⌝ }
-{
-    if start == end {
-        return false;
-    }
-    let second = start + subtree(rows, start);
-    if second == end {
-        return false;
-    }
-    !default_names(text, names, rows, start, second)
-}
-
-// Whether rows start to end, below a row of a kind, print their names in double quotes.
-pub(crate) fn quotes_names<'a>(
-    text: &'a [u8],
-    names: &'a [u8],
-    rows: &[u32],
-    kind: u32,
-    start: usize,
-    end: usize,
-) -> bool
-    requires { ⌜ Nests (now rows) start (end - start) × (start ≤ end) ⌝ }
-    ensures { λ r. ⌜ r ≡ quotesNames (shapeOf kind) (roots (labels (now (text .entry)) (now (names .entry)) (forestAt (now (rows .entry)) start (end - start)))) ⌝ }
-{
-    match kind {
-        STRUCT => true,
-        UNION => true,
-        MAP => true,
-        RUN_END_ENCODED => quotes_pair(text, names, rows, start, end),
-        _ => false,
-    }
-}
 
 // Whether the names of the trees in rows start to end are ASCII.
 fn names_ascii<'a>(text: &'a [u8], names: &'a [u8], rows: &[u32], start: usize, end: usize) -> bool

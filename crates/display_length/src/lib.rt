@@ -6,6 +6,7 @@ use tokenizer::refusal;
 
 mod around;
 mod ascii;
+mod names;
 mod own;
 mod rows;
 mod strings;

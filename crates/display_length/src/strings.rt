@@ -1,17 +1,41 @@
-// The lengths of double-quoted strings, which are written as Rust's `{:?}` writes them.
+// Strings: tests of all of their bytes, and the lengths of those in double quotes, which are written as Rust's `{:?}`
+// writes them.
 ghost use mathlib.Core.Path.{_≡_};
-ghost use Prim.Native.Nat.{_≤_, _<_};
+ghost use Prim.Native.Nat.{_≤_, _<_, max};
 ghost use lib.ListN.{length};
 ghost use lib.Dec.{leb};
 ghost use Rattle.tokenizer.specs.Text.{all};
 ghost use Rattle.datatype.specs.Limits.{maxText};
 ghost use Rattle.datatype.specs.Tree.{zoneOf};
 ghost use Rattle.display_length.specs.Display.{escape, escaped, quoted, zoneText, listNameText};
+ghost use Rattle.display_length.specs.PrintedLength.{isAscii};
 ghost use Rattle.display_length.specs.Internal.Steps.{isClean, isNoMark, Clean};
-use crate::ascii::greater;
 use datatype::Field;
 use datatype::equal_bytes;
 use datatype::zone;
+
+// The greater of two bytes.
+fn greater(a: u8, b: u8) -> u8
+    ensures { λ r. ⌜ r ≡ max a b ⌝ }
+{
+    if a < b {
+        return b;
+    }
+    a
+}
+
+// Whether all bytes are up to 127: every byte is looked at, with no early exit, so that many are compared at once.
+pub(crate) fn is_ascii(s: &[u8]) -> bool
+    ensures { λ r. ⌜ r ≡ isAscii (now (s .entry)) ⌝ }
+{
+    let mut top: u8 = 0;
+    let mut i = 0;
+    while i < s.len() {
+        top = greater(top, s[i]);
+        i += 1;
+    }
+    top <= 127
+}
 
 // A byte's weight: at most 126 where it is clean.
 fn clean_weight(c: u8) -> u8

@@ -5,7 +5,7 @@ ghost use Rattle.datatype.specs.Limits.{maxLevels};
 ghost use Rattle.datatype.specs.Table.{rowsAt};
 ghost use Rattle.display_length.specs.Internal.Steps.{Clean, Subtree, lengthAt};
 use crate::around::around_length;
-use crate::ascii::quotes_names;
+use crate::names::quotes_names;
 use crate::own::row_length;
 use crate::rows::subtree;
 use crate::rows::word;

@@ -8,6 +8,7 @@ ghost use lib.ListN.{length, drop, getD};
 ghost use Rattle.tokenizer.specs.Token.{wordOf, wordKind};
 ghost use Rattle.parser.specs.Internal.Sought.{isPlain, Found, Four};
 ghost use Rattle.tokenizer.specs.declared.TokenKind.the-variants.{DataType, TimeUnit};
+use datatype::kind;
 use tokenizer::is_separator;
 
 // The value of a word that was found, and the place behind it; the place is 0 where none was.
@@ -119,9 +120,9 @@ fn from_b(text: &[u8], at: usize) -> Word
     ensures { λ r. ⌜ Found (DataType (r .value)) (now (text .entry)) at (r .next) ⌝ }
 {
     match byte_at(text, at + 6) {
-        110 => if_type(text, at, b"Boolean", 1),
-        86 => if_type(text, at, b"BinaryView", 23),
-        _ => if_type(text, at, b"Binary", 20),
+        b'n' => if_type(text, at, b"Boolean", kind::BOOLEAN),
+        b'V' => if_type(text, at, b"BinaryView", kind::BINARY_VIEW),
+        _ => if_type(text, at, b"Binary", kind::BINARY),
     }
 }
 
@@ -130,10 +131,10 @@ fn from_decimal(text: &[u8], at: usize) -> Word
     ensures { λ r. ⌜ Found (DataType (r .value)) (now (text .entry)) at (r .next) ⌝ }
 {
     match byte_at(text, at + 7) {
-        51 => if_type(text, at, b"Decimal32", 35),
-        54 => if_type(text, at, b"Decimal64", 36),
-        49 => if_type(text, at, b"Decimal128", 37),
-        _ => if_type(text, at, b"Decimal256", 38),
+        b'3' => if_type(text, at, b"Decimal32", kind::DECIMAL32),
+        b'6' => if_type(text, at, b"Decimal64", kind::DECIMAL64),
+        b'1' => if_type(text, at, b"Decimal128", kind::DECIMAL128),
+        _ => if_type(text, at, b"Decimal256", kind::DECIMAL256),
     }
 }
 
@@ -142,10 +143,10 @@ fn from_d(text: &[u8], at: usize) -> Word
     ensures { λ r. ⌜ Found (DataType (r .value)) (now (text .entry)) at (r .next) ⌝ }
 {
     match byte_at(text, at + 4) {
-        51 => if_type(text, at, b"Date32", 14),
-        54 => if_type(text, at, b"Date64", 15),
-        116 => if_type(text, at, b"Duration", 18),
-        105 => if_type(text, at, b"Dictionary", 34),
+        b'3' => if_type(text, at, b"Date32", kind::DATE32),
+        b'6' => if_type(text, at, b"Date64", kind::DATE64),
+        b't' => if_type(text, at, b"Duration", kind::DURATION),
+        b'i' => if_type(text, at, b"Dictionary", kind::DICTIONARY),
         _ => from_decimal(text, at),
     }
 }
@@ -155,8 +156,8 @@ fn from_fixed(text: &[u8], at: usize) -> Word
     ensures { λ r. ⌜ Found (DataType (r .value)) (now (text .entry)) at (r .next) ⌝ }
 {
     match byte_at(text, at + 9) {
-        66 => if_type(text, at, b"FixedSizeBinary", 21),
-        _ => if_type(text, at, b"FixedSizeList", 29),
+        b'B' => if_type(text, at, b"FixedSizeBinary", kind::FIXED_SIZE_BINARY),
+        _ => if_type(text, at, b"FixedSizeList", kind::FIXED_SIZE_LIST),
     }
 }
 
@@ -165,9 +166,9 @@ fn from_f(text: &[u8], at: usize) -> Word
     ensures { λ r. ⌜ Found (DataType (r .value)) (now (text .entry)) at (r .next) ⌝ }
 {
     match byte_at(text, at + 5) {
-        49 => if_type(text, at, b"Float16", 10),
-        51 => if_type(text, at, b"Float32", 11),
-        54 => if_type(text, at, b"Float64", 12),
+        b'1' => if_type(text, at, b"Float16", kind::FLOAT16),
+        b'3' => if_type(text, at, b"Float32", kind::FLOAT32),
+        b'6' => if_type(text, at, b"Float64", kind::FLOAT64),
         _ => from_fixed(text, at),
     }
 }
@@ -177,11 +178,11 @@ fn from_i(text: &[u8], at: usize) -> Word
     ensures { λ r. ⌜ Found (DataType (r .value)) (now (text .entry)) at (r .next) ⌝ }
 {
     match byte_at(text, at + 3) {
-        56 => if_type(text, at, b"Int8", 2),
-        49 => if_type(text, at, b"Int16", 3),
-        51 => if_type(text, at, b"Int32", 4),
-        54 => if_type(text, at, b"Int64", 5),
-        _ => if_type(text, at, b"Interval", 19),
+        b'8' => if_type(text, at, b"Int8", kind::INT8),
+        b'1' => if_type(text, at, b"Int16", kind::INT16),
+        b'3' => if_type(text, at, b"Int32", kind::INT32),
+        b'6' => if_type(text, at, b"Int64", kind::INT64),
+        _ => if_type(text, at, b"Interval", kind::INTERVAL),
     }
 }
 
@@ -190,11 +191,11 @@ fn from_large(text: &[u8], at: usize) -> Word
     ensures { λ r. ⌜ Found (DataType (r .value)) (now (text .entry)) at (r .next) ⌝ }
 {
     match byte_at(text, at + 9) {
-        86 => if_type(text, at, b"LargeListView", 31),
-        114 => if_type(text, at, b"LargeBinary", 22),
+        b'V' => if_type(text, at, b"LargeListView", kind::LARGE_LIST_VIEW),
+        b'r' => if_type(text, at, b"LargeBinary", kind::LARGE_BINARY),
         _ => match byte_at(text, at + 5) {
-            85 => if_type(text, at, b"LargeUtf8", 25),
-            _ => if_type(text, at, b"LargeList", 30),
+            b'U' => if_type(text, at, b"LargeUtf8", kind::LARGE_UTF8),
+            _ => if_type(text, at, b"LargeList", kind::LARGE_LIST),
         },
     }
 }
@@ -204,9 +205,9 @@ fn from_l(text: &[u8], at: usize) -> Word
     ensures { λ r. ⌜ Found (DataType (r .value)) (now (text .entry)) at (r .next) ⌝ }
 {
     match byte_at(text, at + 4) {
-        86 => if_type(text, at, b"ListView", 28),
-        101 => from_large(text, at),
-        _ => if_type(text, at, b"List", 27),
+        b'V' => if_type(text, at, b"ListView", kind::LIST_VIEW),
+        b'e' => from_large(text, at),
+        _ => if_type(text, at, b"List", kind::LIST),
     }
 }
 
@@ -215,9 +216,9 @@ fn from_t(text: &[u8], at: usize) -> Word
     ensures { λ r. ⌜ Found (DataType (r .value)) (now (text .entry)) at (r .next) ⌝ }
 {
     match byte_at(text, at + 4) {
-        115 => if_type(text, at, b"Timestamp", 13),
-        51 => if_type(text, at, b"Time32", 16),
-        _ => if_type(text, at, b"Time64", 17),
+        b's' => if_type(text, at, b"Timestamp", kind::TIMESTAMP),
+        b'3' => if_type(text, at, b"Time32", kind::TIME32),
+        _ => if_type(text, at, b"Time64", kind::TIME64),
     }
 }
 
@@ -226,13 +227,13 @@ fn from_u(text: &[u8], at: usize) -> Word
     ensures { λ r. ⌜ Found (DataType (r .value)) (now (text .entry)) at (r .next) ⌝ }
 {
     match byte_at(text, at + 4) {
-        56 => if_type(text, at, b"UInt8", 6),
-        49 => if_type(text, at, b"UInt16", 7),
-        51 => if_type(text, at, b"UInt32", 8),
-        54 => if_type(text, at, b"UInt64", 9),
-        86 => if_type(text, at, b"Utf8View", 26),
-        110 => if_type(text, at, b"Union", 33),
-        _ => if_type(text, at, b"Utf8", 24),
+        b'8' => if_type(text, at, b"UInt8", kind::UINT8),
+        b'1' => if_type(text, at, b"UInt16", kind::UINT16),
+        b'3' => if_type(text, at, b"UInt32", kind::UINT32),
+        b'6' => if_type(text, at, b"UInt64", kind::UINT64),
+        b'V' => if_type(text, at, b"Utf8View", kind::UTF8_VIEW),
+        b'n' => if_type(text, at, b"Union", kind::UNION),
+        _ => if_type(text, at, b"Utf8", kind::UTF8),
     }
 }
 
@@ -244,17 +245,17 @@ pub(crate) fn type_word(text: &[u8], at: usize) -> Word
         return Word { value: 0, next: 0 };
     }
     match text[at] {
-        66 => from_b(text, at),
-        68 => from_d(text, at),
-        70 => from_f(text, at),
-        73 => from_i(text, at),
-        76 => from_l(text, at),
-        77 => if_type(text, at, b"Map", 39),
-        78 => if_type(text, at, b"Null", 0),
-        82 => if_type(text, at, b"RunEndEncoded", 40),
-        83 => if_type(text, at, b"Struct", 32),
-        84 => from_t(text, at),
-        85 => from_u(text, at),
+        b'B' => from_b(text, at),
+        b'D' => from_d(text, at),
+        b'F' => from_f(text, at),
+        b'I' => from_i(text, at),
+        b'L' => from_l(text, at),
+        b'M' => if_type(text, at, b"Map", kind::MAP),
+        b'N' => if_type(text, at, b"Null", kind::NULL),
+        b'R' => if_type(text, at, b"RunEndEncoded", kind::RUN_END_ENCODED),
+        b'S' => if_type(text, at, b"Struct", kind::STRUCT),
+        b'T' => from_t(text, at),
+        b'U' => from_u(text, at),
         _ => Word { value: 0, next: 0 },
     }
 }
@@ -279,10 +280,10 @@ pub(crate) fn unit_word(text: &[u8], at: usize) -> Word
         return Word { value: 0, next: 0 };
     }
     match text[at] {
-        115 => if_unit(text, at, b"s", 0),
-        109 => if_unit(text, at, b"ms", 1),
-        117 => if_unit(text, at, b"us", 2),
-        110 => if_unit(text, at, b"ns", 3),
+        b's' => if_unit(text, at, b"s", 0),
+        b'm' => if_unit(text, at, b"ms", 1),
+        b'u' => if_unit(text, at, b"us", 2),
+        b'n' => if_unit(text, at, b"ns", 3),
         _ => Word { value: 0, next: 0 },
     }
 }

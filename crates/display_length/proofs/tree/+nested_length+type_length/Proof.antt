@@ -7,7 +7,7 @@ use borrow.Author.Needs.{needs}
 use borrow.Fn.Kinds.{In}
 use borrow.Fn.PlainCycle.{Measures, is, falls, and}
 use Rattle.display_length.proofs.around.around_length.Reads as around-length-reads
-use Rattle.display_length.proofs.ascii.quotes_names.Reads as quotes-names-reads
+use Rattle.display_length.proofs.names.quotes_names.Reads as quotes-names-reads
 use Rattle.display_length.proofs.own.row_length.Reads as row-length-reads
 use Rattle.display_length.proofs.rows.subtree.Reads as subtree-reads
 use Rattle.display_length.proofs.rows.word.Reads as word-reads

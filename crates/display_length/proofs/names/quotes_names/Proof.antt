@@ -3,8 +3,8 @@ use Rattle.datatype.specs.Kind.{shapeOf}
 use Rattle.display_length.specs.PrintedLength.{quotesNames}
 use Rattle.display_length.proofs.AsciiLaws.{quotes-at, quotes-none}
 use borrow.Author.Needs.{needs}
-use Rattle.display_length.proofs.ascii.quotes_names.Statement.{statement}
-use Rattle.display_length.proofs.ascii.quotes_names.Tie as tie
+use Rattle.display_length.proofs.names.quotes_names.Statement.{statement}
+use Rattle.display_length.proofs.names.quotes_names.Tie as tie
 
 quotes-pair-requires : tie.Need-quotes-pair-requires
 quotes-pair-requires c κs = search needs

@@ -4,8 +4,8 @@ use Prim.Native.Nat.{_-_}
 use lib.Dec.{leb}
 use lib.ListN.{length}
 use borrow.Author.Needs.{needs}
-use Rattle.display_length.proofs.ascii.is_ascii.Statement.{statement}
-use Rattle.display_length.proofs.ascii.is_ascii.Tie as tie
+use Rattle.display_length.proofs.strings.is_ascii.Statement.{statement}
+use Rattle.display_length.proofs.strings.is_ascii.Tie as tie
 
 abbrev Inv-loop : tie.InvT-loop
 Inv-loop s top₀ i₀ top i = Tops (λ c. leb c 127) 127 s top i

@@ -1,8 +1,8 @@
 use Rattle.display_length.proofs.AsciiLaws.{default-not, default-both}
 use borrow.Author.Tests.{not-true, not-false}
 use borrow.Author.Needs.{needs}
-use Rattle.display_length.proofs.ascii.default_names.Statement.{statement}
-use Rattle.display_length.proofs.ascii.default_names.Tie as tie
+use Rattle.display_length.proofs.names.default_names.Statement.{statement}
+use Rattle.display_length.proofs.names.default_names.Tie as tie
 
 name-at-requires : tie.Need-name-at-requires
 name-at-requires c κs = search needs

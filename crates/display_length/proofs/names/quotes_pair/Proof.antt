@@ -2,8 +2,8 @@ use Rattle.display_length.proofs.AsciiLaws.{pair-none, pair-one, pair-t
 use Rattle.row_table.proofs.ChildLaws.{child-turn}
 use native.Mathlib.Omega.{arith}
 use borrow.Author.Needs.{needs}
-use Rattle.display_length.proofs.ascii.quotes_pair.Statement.{statement}
-use Rattle.display_length.proofs.ascii.quotes_pair.Tie as tie
+use Rattle.display_length.proofs.names.quotes_pair.Statement.{statement}
+use Rattle.display_length.proofs.names.quotes_pair.Tie as tie
 
 returns : tie.Need-returns
 returns c = pair-none _ _ _ _ _ (c .before .before .before .before .pre .0) (c .before .before .before .before .pre .1) (c .if1 .taken)
