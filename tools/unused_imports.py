@@ -1,5 +1,5 @@
 #!/usr/bin/env python3
-"""Names that are imported and not used, in the .rt and .antt files under crates/.
+"""Names that are imported and not used, or imported twice, in the .rt and .antt files under crates/.
 
     python3 tools/unused_imports.py [--fix] [--modules] [CRATE..]
 
@@ -95,11 +95,18 @@ def edited(path, crate):
 def listed(pattern, text, present):
     """The text with each import list cut to what is used, and the names that were cut."""
     cut = []
+    met = set()
 
     def shorter(match):
         items = [item.strip() for item in match.group("names").split(",") if item.strip()]
-        kept = [item for item in items if is_used(brought(item), present)]
-        cut.extend(f"{match.group('module')}.{item}" for item in items if item not in kept)
+        module = match.group("module")
+        kept = []
+        for item in items:
+            if is_used(brought(item), present) and (module, item) not in met:
+                kept.append(item)
+                met.add((module, item))
+            else:
+                cut.append(f"{module}.{item}")
         if len(kept) == len(items):
             return match.group(0)
         return match.group("head") + ", ".join(kept) + match.group("tail") if kept else ""

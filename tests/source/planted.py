@@ -40,6 +40,10 @@ class Planted(unittest.TestCase):
         self.assert_cut("use M.{a, b, c}\n\nx = b\n", ["M.a", "M.c"], "use M.{b}\n\nx = b\n")
         self.assert_cut("use M.{a}\nuse N.{b}\n\nx = b\n", ["M.a"], "use N.{b}\n\nx = b\n")
 
+    def test_twice(self):
+        self.assert_cut("use M.{a, b}\nuse M.{a, c}\n\nx = a b c\n", ["M.a"], "use M.{a, b}\nuse M.{c}\n\nx = a b c\n")
+        self.assert_cut("use M.{a}\nuse N.{a as b}\n\nx = a b\n", [])
+
     def test_renamed(self):
         self.assert_cut("use M.{a as c}\n\nx = c\n", [])
         self.assert_cut("use M.{a as c}\n\nx = a\n", ["M.a as c"])

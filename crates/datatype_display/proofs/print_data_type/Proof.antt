@@ -1,7 +1,6 @@
 use Rattle.datatype_display.proofs.Prints.{prints-refused, prints-19-limit, prints-19-room, root-asks, prints-text}
 use mathlib.Core.Path.{ap, sym, _∙_}
 use Rattle.display_length.specs.PrintedLength.{printedLengthMeans}
-use Rattle.datatype_display.proofs.Prints.{prints-refused, prints-19-limit, prints-19-room, prints-text}
 use borrow.Author.Needs.{needs}
 use Rattle.datatype_display.proofs.print_data_type.Statement.{statement}
 use Rattle.datatype_display.proofs.print_data_type.Tie as tie

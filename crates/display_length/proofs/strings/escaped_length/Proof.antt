@@ -1,8 +1,6 @@
 use Prim.Native.Nat.{_-_}
 use Rattle.display_length.proofs.StringLaws.{EscapedSo, escaped-start, escaped-end, escaped-room, escaped-more}
-use Prim.Native.Nat.{_-_}
 use lib.ListN.{length}
-use Rattle.display_length.proofs.StringLaws.{EscapedSo, escaped-start, escaped-end, escaped-more}
 use borrow.Author.Needs.{needs}
 use Rattle.display_length.proofs.strings.escaped_length.Statement.{statement}
 use Rattle.display_length.proofs.strings.escaped_length.Tie as tie

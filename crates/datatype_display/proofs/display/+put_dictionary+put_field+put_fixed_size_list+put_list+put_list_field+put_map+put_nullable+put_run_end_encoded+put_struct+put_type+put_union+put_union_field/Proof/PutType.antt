@@ -1,10 +1,7 @@
 use mathlib.Core.Path.{refl, ap, _∙_}
 use Rattle.datatype_display.proofs.Writes.{wrote-none, rest-start, rest-fits, rest-step, rest-last}
 use Rattle.datatype_display.proofs.Rows.{subtree-room, subtree-kind}
-use mathlib.Core.Path.{refl, ap, _∙_}
 use native.Mathlib.Omega.{arith}
-use Rattle.datatype_display.proofs.Writes.{wrote-none, rest-start, rest-fits, rest-step, rest-last}
-use Rattle.datatype_display.proofs.Rows.{subtree-room, subtree-kind}
 use Rattle.datatype_display.proofs.Texts.{shape-here, type-parts, leaf-type, timestamp-type, time-type, interval-type, fixed-type, decimal-type}
 use Rattle.datatype_display.proofs.Shapes.{time-kind, list-kind, decimal-kind, leaf-low, leaf-middle, leaf-high}
 use Rattle.datatype.proofs.ShapeLaws.{shapes-of}
