@@ -58,15 +58,6 @@ shape-in lo hi s t k h n a b =
     let u = rw (none-has k (Unit {0}) singles n .1, le-ltb k lo a, lt-leb hi k b) at (below-at kinds (outside lo hi s) t k h) in
     sym (back (shapeOf k)) ∙ ap shape (eqb→eq (number (shapeOf k)) (number s) u) ∙ back s
 
--- the kinds before Timestamp
-abbrev first : ℕ → Bool
-first k = leb 13 k || eqb (number (shapeOf k)) (number leaf)
-
-pub leaf-first : (k : ℕ) → k < kinds → k < 13 → shapeOf k ≡ leaf
-leaf-first k h b =
-    let u = rw (lt-leb 13 k b) at (below-at kinds first (unfold shapeOf in tt) k h) in
-    sym (back (shapeOf k)) ∙ ap shape (eqb→eq (number (shapeOf k)) (number leaf) u) ∙ back leaf
-
 module _ (k : ℕ) (h : k < kinds) (n : NoneOf k (Unit {0}) singles) where
   pub time-kind : 16 ≤ k → k < 19 → shapeOf k ≡ time
   time-kind = shape-in 16 19 time (unfold shapeOf in tt) k h n

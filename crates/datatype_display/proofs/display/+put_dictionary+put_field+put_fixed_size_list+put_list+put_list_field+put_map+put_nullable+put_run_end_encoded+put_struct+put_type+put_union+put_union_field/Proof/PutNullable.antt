@@ -1,6 +1,6 @@
 use Rattle.datatype_display.proofs.Writes.{rest-start, rest-fits, rest-step, rest-last}
 use Rattle.datatype_display.proofs.Rows.{subtree-room, subtree-kind}
-use Rattle.datatype_display.proofs.Shapes.{leaf-first}
+use Rattle.display_length.proofs.KindRanges.{first-leaf}
 use native.Mathlib.Omega.{arith}
 use Rattle.datatype_display.proofs.Texts.{nullable-parts, word-parts}
 use borrow.Author.Needs.{needs}
@@ -20,13 +20,13 @@ module _ (t : ℕ) where
   word-requires-2 c κs = (subtree-room _ _ _ _ _ (c .before .before .before .before .before .before .before .before .before .pre .1 .0 .subtree), omega arith)
 
   put-kind-requires : lts.Need-put-kind-requires (calls t) (at t) put-nullable.Post
-  put-kind-requires c κs = (subtree-kind _ _ _ _ _ (c .before .before .before .before .before .before .before .before .before .before .before .before .pre .1 .0 .subtree) _ (c .before .before .word2 .ensures), rest-fits (rest-step (rest-start (word-parts _ _ _ _ _ (c .before .before .word2 .ensures) _ (c .before .before .before .before .before .before .before .word .ensures) (leaf-first _ (subtree-kind _ _ _ _ _ (c .before .before .before .before .before .before .before .before .before .before .before .before .pre .1 .0 .subtree) _ (c .before .before .word2 .ensures)) (c .before .if1 .taken))) (c .before .before .before .before .before .before .before .before .before .before .before .before .pre .1 .1)) (c .before .before .before .before .before .put-nullability .ensures)))
+  put-kind-requires c κs = (subtree-kind _ _ _ _ _ (c .before .before .before .before .before .before .before .before .before .before .before .before .pre .1 .0 .subtree) _ (c .before .before .word2 .ensures), rest-fits (rest-step (rest-start (word-parts _ _ _ _ _ (c .before .before .word2 .ensures) _ (c .before .before .before .before .before .before .before .word .ensures) (first-leaf _ (c .before .if1 .taken))) (c .before .before .before .before .before .before .before .before .before .before .before .before .pre .1 .1)) (c .before .before .before .before .before .put-nullability .ensures)))
 
   same-length : lts.Need-same-length (calls t) (at t) put-nullable.Post
   same-length c = search needs
 
   returns : lts.Need-returns (calls t) (at t) put-nullable.Post
-  returns c = rest-last (rest-step (rest-start (word-parts _ _ _ _ _ (c .before .before .before .before .before .word2 .ensures) _ (c .before .before .before .before .before .before .before .before .before .before .word .ensures) (leaf-first _ (subtree-kind _ _ _ _ _ (c .before .before .before .before .before .before .before .before .before .before .before .before .before .before .before .pre .1 .0 .subtree) _ (c .before .before .before .before .before .word2 .ensures)) (c .before .before .before .before .if1 .taken))) (c .before .before .before .before .before .before .before .before .before .before .before .before .before .before .before .pre .1 .1)) (c .before .before .before .before .before .before .before .before .put-nullability .ensures)) (c .before .before .put-kind .ensures)
+  returns c = rest-last (rest-step (rest-start (word-parts _ _ _ _ _ (c .before .before .before .before .before .word2 .ensures) _ (c .before .before .before .before .before .before .before .before .before .before .word .ensures) (first-leaf _ (c .before .before .before .before .if1 .taken))) (c .before .before .before .before .before .before .before .before .before .before .before .before .before .before .before .pre .1 .1)) (c .before .before .before .before .before .before .before .before .put-nullability .ensures)) (c .before .before .put-kind .ensures)
 
   put-type-requires : lts.Need-put-type-requires (calls t) (at t) put-nullable.Post
   put-type-requires c κs = (omega (arith, c .before .before .before .before .before .before .before .before .before .before .before .before .pre .0), (c .before .before .before .before .before .before .before .before .before .before .before .before .pre .1 .0, (rest-fits (rest-step (rest-start (nullable-parts _ _ _ _ _ (c .before .before .before .before .before .before .before .word .ensures)) (c .before .before .before .before .before .before .before .before .before .before .before .before .pre .1 .1)) (c .before .before .before .before .before .put-nullability .ensures)))))
