@@ -1,6 +1,6 @@
 -- The shapes of kinds, for a `match` over kinds: those that are not leaves one by one, and all others.
 use mathlib.Core.Path.{_≡_, refl, sym}
-use mathlib.Core.Bool.{Bool, true, false, _||_}
+use mathlib.Core.Bool.{true, false, _||_}
 use mathlib.Core.List.{List, [], _∷_}
 use Prim.Native.Nat.{ℕ, _<_}
 use native.Mathlib.Decide.{decLt}
@@ -8,7 +8,7 @@ use native.Mathlib.Omega.{arith}
 use lib.Dec.{T, eqb, eqb→eq}
 use borrow.Author.Tests.{ne-eqb}
 use Rattle.tokenizer.proofs.Listed.{NoneOf}
-use Rattle.datatype.specs.Kind.{Shape, leaf, timestamp, time, interval, fixed, list, fixedList, struct, union, dictionary, decimal, mapping, runEnds, kinds, shapeOf, has}
+use Rattle.datatype.specs.Kind.{Shape, leaf, timestamp, time, interval, fixed, list, fixedList, struct, union, dictionary, decimal, mapping, runEnds, kinds, shapeOf, isLeaf, isWord, has}
 use Rattle.datatype.proofs.Tests.{allBelow, below-at}
 use Rattle.datatype.proofs.KindLaws.{past-kinds}
 
@@ -22,21 +22,6 @@ shapes-of = (refl, refl, refl, refl, refl, refl, refl, refl, refl, refl, refl, r
 -- their kinds; all others are leaves
 abbrev pub branching : List ℕ
 branching = 13 ∷ 16 ∷ 17 ∷ 18 ∷ 19 ∷ 21 ∷ 27 ∷ 28 ∷ 29 ∷ 30 ∷ 31 ∷ 32 ∷ 33 ∷ 34 ∷ 35 ∷ 36 ∷ 37 ∷ 38 ∷ 39 ∷ 40 ∷ []
-
-abbrev isLeaf : Shape → Bool
-isLeaf leaf = true
-isLeaf timestamp = false
-isLeaf time = false
-isLeaf interval = false
-isLeaf fixed = false
-isLeaf list = false
-isLeaf fixedList = false
-isLeaf struct = false
-isLeaf union = false
-isLeaf dictionary = false
-isLeaf decimal = false
-isLeaf mapping = false
-isLeaf runEnds = false
 
 leaf-is : (s : Shape) → T (isLeaf s) → s ≡ leaf
 leaf-is leaf h = refl
@@ -72,3 +57,19 @@ leaf-kind k h n =
 -- a number that is no kind has the shape of a leaf too
 pub leaf-number : (k : ℕ) → NoneOf k (Unit {0}) branching → shapeOf k ≡ leaf
 leaf-number k n = elim (decLt k 41) [ yes h ↦ leaf-kind k h n | no h ↦ past-kinds k (omega arith) ]
+
+-- the kinds that are written by their word alone
+pub word-leaf : (k : ℕ) → T (isWord k) → shapeOf k ≡ leaf
+unfolding isWord
+word-leaf k h = leaf-is (shapeOf k) h
+
+pub leaf-word : (k : ℕ) → NoneOf k (Unit {0}) branching → true ≡ isWord k
+unfolding isWord
+leaf-word k n = rw (leaf-number k n)
+
+pub no-word : (k n : ℕ) → k ≡ n → isWord n ≡ false → false ≡ isWord k
+no-word k n e h = rw e (sym h)
+
+pub words-not : (isWord 13 ≡ false) × (isWord 16 ≡ false) × (isWord 17 ≡ false) × (isWord 18 ≡ false) × (isWord 19 ≡ false) × (isWord 21 ≡ false) × (isWord 27 ≡ false) × (isWord 28 ≡ false) × (isWord 29 ≡ false) × (isWord 30 ≡ false) × (isWord 31 ≡ false) × (isWord 32 ≡ false) × (isWord 33 ≡ false) × (isWord 34 ≡ false) × (isWord 35 ≡ false) × (isWord 36 ≡ false) × (isWord 37 ≡ false) × (isWord 38 ≡ false) × (isWord 39 ≡ false) × (isWord 40 ≡ false)
+unfolding shapeOf isWord
+words-not = (refl, refl, refl, refl, refl, refl, refl, refl, refl, refl, refl, refl, refl, refl, refl, refl, refl, refl, refl, refl)

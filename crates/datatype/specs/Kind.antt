@@ -41,6 +41,26 @@ shapes =
 unfoldable pub shapeOf : ℕ → Shape
 shapeOf k = getD shapes k leaf
 
+-- A leaf has nothing behind its word.
+abbrev pub isLeaf : Shape → Bool
+isLeaf leaf = true
+isLeaf timestamp = false
+isLeaf time = false
+isLeaf interval = false
+isLeaf fixed = false
+isLeaf list = false
+isLeaf fixedList = false
+isLeaf struct = false
+isLeaf union = false
+isLeaf dictionary = false
+isLeaf decimal = false
+isLeaf mapping = false
+isLeaf runEnds = false
+
+-- A type of a kind is written by its word alone.
+unfoldable pub isWord : ℕ → Bool
+isWord k = isLeaf (shapeOf k)
+
 -- The units of a kind: Time32 takes s and ms, Time64 µs and ns, the others all four.
 unfoldable pub unitFits : ℕ → ℕ → Bool
 unitFits k u = if eqb k time32Kind then ltb u 2 else if eqb k time64Kind then leb 2 u else true

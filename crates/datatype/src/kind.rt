@@ -1,6 +1,6 @@
 // Kinds of types, the units of a kind of time, and the numbers of a decimal.
 ghost use mathlib.Core.Path.{_≡_};
-ghost use Rattle.datatype.specs.Kind.{unitFits, maxPrecision, decimalFits};
+ghost use Rattle.datatype.specs.Kind.{isWord, unitFits, maxPrecision, decimalFits};
 
 // The kinds, by their place in the Rust's `DataType`.
 pub const NULL: u32 = 0;
@@ -99,6 +99,35 @@ pub fn unit_fits(kind: u32, unit: u32) -> bool
         return 2 <= unit;
     }
     true
+}
+
+// Whether a type of a kind is written by its word alone.
+pub fn is_word(kind: u32) -> bool
+    ensures { λ r. ⌜ r ≡ isWord kind ⌝ }
+{
+    match kind {
+        TIMESTAMP => false,
+        TIME32 => false,
+        TIME64 => false,
+        DURATION => false,
+        INTERVAL => false,
+        FIXED_SIZE_BINARY => false,
+        LIST => false,
+        LIST_VIEW => false,
+        FIXED_SIZE_LIST => false,
+        LARGE_LIST => false,
+        LARGE_LIST_VIEW => false,
+        STRUCT => false,
+        UNION => false,
+        DICTIONARY => false,
+        DECIMAL32 => false,
+        DECIMAL64 => false,
+        DECIMAL128 => false,
+        DECIMAL256 => false,
+        MAP => false,
+        RUN_END_ENCODED => false,
+        _ => true,
+    }
 }
 
 // A decimal's precision, and its scale plus 128.

@@ -1,18 +1,19 @@
 -- Double-quoted strings: what a byte is written as, and what the loops of `escape.rt` hold.
 use mathlib.Core.Path.{_≡_, refl, sym, ap, _∙_}
 use mathlib.Core.Bool.{Bool, true, false, not, _&&_}
-use mathlib.Core.List.{List, [], _∷_, _++_}
-use Prim.Native.Nat.{ℕ, suc, _+_, _/_, _%_, _≤_, _<_}
+use mathlib.Core.List.{List, [], _∷_, _++_, append-assoc, append-nil}
+use Prim.Native.Nat.{ℕ, suc, _+_, _-_, _/_, _%_, _≤_, _<_}
 use native.Mathlib.Omega.{arith}
-use lib.ListN.{length, getD, drop, drop-of-length-le}
-use lib.Seq.{drop-cons}
+use lib.ListN.{length, length-append, getD, set, take, drop, length-drop, drop-of-length-le}
+use lib.Seq.{sets, length-sets, drop-cons, take-suc, take-all, length-take-le}
 use lib.Dec.{T, leb, eqb, leb→le}
 use borrow.Author.Tests.{lt-ltb, le-ltb, le-leb, lt-leb, eq-eqb, ne-eqb}
-use Rattle.tokenizer.specs.Text.{bytes, all}
+use Rattle.tokenizer.specs.Text.{bytes}
 use Rattle.tokenizer.proofs.Basics.{and-l, and-r}
+use Rattle.datatype.proofs.Sets.{sets-append}
 use Rattle.display_length.specs.Display.{hexDigit, hex, escape, escaped, quoted}
-use Rattle.datatype_display.specs.Internal.Steps.{Wrote, isItself, unicodeText}
-use Rattle.datatype_display.proofs.Writes.{joined, wrote-as, wrote-none, Rest, rest-step, rest-last, rest-as}
+use Rattle.datatype_display.specs.Internal.Steps.{Fits, Wrote, Ran, isItself, unicodeText}
+use Rattle.datatype_display.proofs.Writes.{joined, fits-as, fits-right, wrote-as, wrote-then, wrote-none, Rest, rest-step, rest-last, rest-as}
 
 -- ---- hex digits
 
@@ -119,12 +120,85 @@ escape-itself c t =
     differs : (x y : ℕ) → T (not (eqb x y)) → x ≡ y → ⊥
     differs x y u p = absurd (rw (eq-eqb x y p) at u)
 
-pub escaped-itself : (s : List ℕ) → T (all isItself s) → s ≡ escaped s
-unfolding escaped
-escaped-itself [] t = refl
-escaped-itself (c ∷ s) t =
-    ap (λ (l : List ℕ). c ∷ l) (escaped-itself s (and-r (isItself c) (all isItself s) t))
-    ∙ ap (λ (l : List ℕ). l ++ escaped s) (sym (escape-itself c (and-l (isItself c) (all isItself s) t)))
+-- ---- a run of bytes that are written as they are
+
+module _ (before s : List ℕ) (at : ℕ) where
+  pub ran-start : Ran before at s 0 before
+  ran-start = record { few = omega arith; stored = refl; same = refl }
+
+  module _ (i : ℕ) (out : List ℕ) (r : Ran before at s i out) where
+    pub ran-kept : length out ≡ length before
+    ran-kept = ap (λ (l : List ℕ). length l) (r .stored) ∙ length-sets before at (take i s)
+
+    run-size : length (take i s) ≡ i
+    run-size = length-take-le i s (r .few)
+
+    module _ (h : i < length s) (t : T (isItself (getD s i 0))) where
+      -- the byte's own place
+      here : escaped (drop i s) ≡ getD s i 0 ∷ escaped (drop (suc i) s)
+      unfolding escaped
+      here = ap escaped (drop-cons s i 0 h) ∙ ap (λ (l : List ℕ). l ++ escaped (drop (suc i) s)) (escape-itself (getD s i 0) t)
+
+      next : take (suc i) s ++ escaped (drop (suc i) s) ≡ escaped s
+      next =
+          ap (λ (l : List ℕ). l ++ escaped (drop (suc i) s)) (take-suc s i 0 h)
+          ∙ append-assoc (take i s) (getD s i 0 ∷ []) (escaped (drop (suc i) s))
+          ∙ ap (λ (l : List ℕ). take i s ++ l) (sym here)
+          ∙ r .same
+
+      pub ran-room : Fits before at (escaped s) → at + i < length out
+      ran-room f =
+          let e = ap (λ (l : List ℕ). length l) (r .same) in
+          let g = length-append (take i s) (escaped (drop i s)) in
+          let k = ap (λ (l : List ℕ). length l) here in
+          let a = run-size in
+          let b = ran-kept in
+          let m = f .room in
+          omega arith
+
+      pub ran-more : Ran before at s (i + 1) (set out (at + i) (getD s i 0))
+      ran-more =
+          let n : suc i ≡ i + 1 = omega arith in
+          record {
+            few = omega arith;
+            stored =
+                ap (λ (l : List ℕ). set l (at + i) (getD s i 0)) (r .stored)
+                ∙ ap (λ (k : ℕ). set (sets before at (take i s)) (at + k) (getD s i 0)) (sym run-size)
+                ∙ sets-append before at (take i s) (getD s i 0 ∷ [])
+                ∙ ap (λ (l : List ℕ). sets before at l) (sym (take-suc s i 0 h))
+                ∙ ap (λ (k : ℕ). sets before at (take k s)) n;
+            same = rw (← n) next;
+          }
+
+    pub ran-place : Fits before at (escaped s) → at + i ≤ length before
+    ran-place f =
+        let e = ap (λ (l : List ℕ). length l) (r .same) in
+        let g = length-append (take i s) (escaped (drop i s)) in
+        let a = run-size in
+        let m = f .room in
+        omega arith
+
+    -- nothing is escaped
+    pub ran-all : i ≡ length s → Wrote before at (escaped s) (at + i) out
+    unfolding escaped
+    ran-all e =
+        let none : drop i s ≡ [] = drop-of-length-le s {i = i} (omega arith) in
+        let whole : take i s ≡ escaped s = sym (append-nil (take i s)) ∙ ap (λ (l : List ℕ). take i s ++ escaped l) (sym none) ∙ r .same in
+        wrote-as whole (record { stored = r .stored; place = let a = run-size in omega arith })
+
+    -- a byte is escaped: the rest follows
+    run-wrote : Wrote before at (take i s) (at + i) out
+    run-wrote = record { stored = r .stored; place = let a = run-size in omega arith }
+
+    rest : take (length s - i) (drop i s) ≡ drop i s
+    rest = take-all (length s - i) (drop i s) (let e = length-drop i s in omega arith)
+
+    pub ran-rest : Fits before at (escaped s) → Fits out (at + i) (escaped (take (length s - i) (drop i s)))
+    ran-rest f = rw rest (fits-right before (take i s) (escaped (drop i s)) at (at + i) out (fits-as (sym (r .same)) f) run-wrote)
+
+    pub ran-then : (last : ℕ) (after : List ℕ) → Wrote out (at + i) (escaped (take (length s - i) (drop i s))) last after → Wrote before at (escaped s) last after
+    ran-then last after w =
+        wrote-as (r .same) (wrote-then before (take i s) (escaped (drop i s)) at (at + i) last out after run-wrote (wrote-as (ap escaped rest) w))
 
 -- ---- strings, byte by byte
 

@@ -1,17 +1,17 @@
 -- The shapes of kinds that a `match` tells apart by their order, once those that stand alone are out.
---   singles    the kinds that stand alone, and their shapes
---   shape-in   a shape that all other kinds of a stretch have
 use mathlib.Core.Path.{_≡_, refl, ap, sym, _∙_}
-use mathlib.Core.Bool.{Bool, _||_}
+use mathlib.Core.Bool.{Bool, true, false, not, _||_}
 use mathlib.Core.List.{List, [], _∷_}
 use Prim.Native.Nat.{ℕ, _≤_, _<_}
 use lib.ListN.{getD}
 use lib.Dec.{T, leb, ltb, eqb, eqb→eq}
-use borrow.Author.Tests.{le-ltb, lt-leb}
+use native.Mathlib.Omega.{arith}
+use borrow.Author.Tests.{lt-ltb, le-ltb, le-leb, lt-leb}
 use Rattle.tokenizer.proofs.Listed.{NoneOf}
 use Rattle.datatype.specs.Kind.{Shape, leaf, timestamp, time, interval, fixed, list, fixedList, struct, union, dictionary, decimal, mapping, runEnds, kinds, shapeOf, has}
 use Rattle.datatype.proofs.Tests.{allBelow, below-at}
 use Rattle.datatype.proofs.ShapeLaws.{none-has}
+use Rattle.datatype_display.specs.Internal.Steps.{isAlone}
 
 -- a shape as a number, and back
 abbrev number : Shape → ℕ
@@ -47,32 +47,55 @@ back decimal = refl
 back mapping = refl
 back runEnds = refl
 
-abbrev pub singles : List ℕ
-singles = 13 ∷ 19 ∷ 21 ∷ 29 ∷ 32 ∷ 33 ∷ 34 ∷ 39 ∷ 40 ∷ []
+-- Of some kinds, those that do not stand alone and lie between two numbers have one shape: the test is computed once.
+abbrev outside : (ℕ → Bool) → List ℕ → ℕ → ℕ → Shape → ℕ → Bool
+outside some singles lo hi s k = not (some k) || has k singles || ltb k lo || leb hi k || eqb (number (shapeOf k)) (number s)
 
-abbrev outside : ℕ → ℕ → Shape → ℕ → Bool
-outside lo hi s k = has k singles || ltb k lo || leb hi k || eqb (number (shapeOf k)) (number s)
-
-shape-in : (lo hi : ℕ) (s : Shape) → T (allBelow kinds (outside lo hi s)) → (k : ℕ) → k < kinds → NoneOf k (Unit {0}) singles → lo ≤ k → k < hi → shapeOf k ≡ s
-shape-in lo hi s t k h n a b =
-    let u = rw (none-has k (Unit {0}) singles n .1, le-ltb k lo a, lt-leb hi k b) at (below-at kinds (outside lo hi s) t k h) in
+shape-in : (some : ℕ → Bool) (singles : List ℕ) (lo hi : ℕ) (s : Shape) → T (allBelow kinds (outside some singles lo hi s)) → (k : ℕ) → k < kinds → some k ≡ true
+    → NoneOf k (Unit {0}) singles → lo ≤ k → k < hi → shapeOf k ≡ s
+shape-in some singles lo hi s t k h o n a b =
+    let u = rw (o, none-has k (Unit {0}) singles n .1, le-ltb k lo a, lt-leb hi k b) at (below-at kinds (outside some singles lo hi s) t k h) in
     sym (back (shapeOf k)) ∙ ap shape (eqb→eq (number (shapeOf k)) (number s) u) ∙ back s
 
-module _ (k : ℕ) (h : k < kinds) (n : NoneOf k (Unit {0}) singles) where
-  pub time-kind : 16 ≤ k → k < 19 → shapeOf k ≡ time
-  time-kind = shape-in 16 19 time (unfold shapeOf in tt) k h n
+-- ---- kinds that have no types below them
 
-  pub list-kind : 27 ≤ k → k < 32 → shapeOf k ≡ list
-  list-kind = shape-in 27 32 list (unfold shapeOf in tt) k h n
+module _ (k : ℕ) where
+  pub alone-low : k < 27 → true ≡ isAlone k
+  unfolding isAlone
+  alone-low h = rw (lt-ltb k 27 h)
 
-  pub decimal-kind : 32 ≤ k → k < 39 → shapeOf k ≡ decimal
-  decimal-kind = shape-in 32 39 decimal (unfold shapeOf in tt) k h n
+  pub alone-none : 27 ≤ k → k < 35 → false ≡ isAlone k
+  unfolding isAlone
+  alone-none h l = rw (le-ltb k 27 h, lt-leb 35 k l)
 
-  pub leaf-low : 0 ≤ k → k < 16 → shapeOf k ≡ leaf
-  leaf-low = shape-in 0 16 leaf (unfold shapeOf in tt) k h n
+  pub alone-high : 35 ≤ k → leb k 38 ≡ isAlone k
+  unfolding isAlone
+  alone-high h = rw (le-ltb k 27 (omega arith), le-leb 35 k h)
 
-  pub leaf-middle : 19 ≤ k → k < 27 → shapeOf k ≡ leaf
-  leaf-middle = shape-in 19 27 leaf (unfold shapeOf in tt) k h n
+-- ---- what the arms of `put_leaf` and of `put_nested` know
 
-  pub leaf-high : 39 ≤ k → k < 41 → shapeOf k ≡ leaf
-  leaf-high = shape-in 39 41 leaf (unfold shapeOf in tt) k h n
+abbrev aloneSingles : List ℕ
+aloneSingles = 13 ∷ 19 ∷ 21 ∷ []
+
+abbrev nestedSingles : List ℕ
+nestedSingles = 29 ∷ 32 ∷ 33 ∷ 34 ∷ 39 ∷ 40 ∷ []
+
+module _ (k : ℕ) (h : k < kinds) where
+  module _ (o : isAlone k ≡ true) (n : NoneOf k (Unit {0}) aloneSingles) where
+    pub time-kind : 16 ≤ k → k < 19 → shapeOf k ≡ time
+    time-kind = shape-in isAlone aloneSingles 16 19 time (unfold shapeOf isAlone in tt) k h o n
+
+    pub decimal-kind : 35 ≤ k → k < 39 → shapeOf k ≡ decimal
+    decimal-kind = shape-in isAlone aloneSingles 35 39 decimal (unfold shapeOf isAlone in tt) k h o n
+
+    pub leaf-low : 0 ≤ k → k < 16 → shapeOf k ≡ leaf
+    leaf-low = shape-in isAlone aloneSingles 0 16 leaf (unfold shapeOf isAlone in tt) k h o n
+
+    pub leaf-middle : 19 ≤ k → k < 35 → shapeOf k ≡ leaf
+    leaf-middle = shape-in isAlone aloneSingles 19 35 leaf (unfold shapeOf isAlone in tt) k h o n
+
+    pub leaf-high : 39 ≤ k → k < 41 → shapeOf k ≡ leaf
+    leaf-high = shape-in isAlone aloneSingles 39 41 leaf (unfold shapeOf isAlone in tt) k h o n
+
+  pub list-kind : isAlone k ≡ false → NoneOf k (Unit {0}) nestedSingles → shapeOf k ≡ list
+  list-kind o n = shape-in (λ i. not (isAlone i)) nestedSingles 0 41 list (unfold shapeOf isAlone in tt) k h (rw o) n (omega arith) h

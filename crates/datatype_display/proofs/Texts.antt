@@ -1,22 +1,25 @@
 -- The text of each sort of type and field, in the parts that the code writes.
 use mathlib.Core.Path.{_≡_, refl, sym, ap, _∙_}
-use mathlib.Core.Bool.{Bool, true, false}
+use mathlib.Core.Bool.{Bool, true, false, not, _||_}
 use mathlib.Core.List.{List, [], _∷_, _++_, append-assoc, append-nil}
 use Prim.Native.Nat.{ℕ, _+_, _*_, _≤_, _<_}
 use native.Mathlib.Decide.{decLt}
 use native.Mathlib.Omega.{arith}
 use borrow.Author.Tests.{lt-ltb, le-ltb, ne-eqb}
 use lib.ListN.{length, getD}
-use lib.Dec.{ltb}
+use lib.Dec.{T, ltb}
 use Rattle.tokenizer.specs.Text.{bytes, same}
-use Rattle.datatype.specs.Kind.{Shape, leaf, timestamp, time, interval, fixed, list, fixedList, struct, union, dictionary, decimal, mapping, runEnds, shapeOf}
+use Rattle.datatype.specs.Kind.{Shape, leaf, timestamp, time, interval, fixed, list, fixedList, struct, union, dictionary, decimal, mapping, runEnds, kinds, shapeOf, isWord}
+use Rattle.tokenizer.proofs.Basics.{is-true}
+use Rattle.datatype.proofs.Tests.{allBelow, below-at}
+use Rattle.datatype.proofs.ShapeLaws.{word-leaf}
 use Rattle.datatype.specs.Tree.{Label, nameOf, zoneOf, labelOf}
 use Rattle.datatype.specs.Table.{rowWords, rowsAt}
 use Rattle.subtrees.specs.Internal.Run.{rowAt}
 use Rattle.row_table.specs.Sound.{Standing}
 use Rattle.output.specs.Digits.{digits}
 use Rattle.display_length.specs.Display.{kindWord, unitText, intervalText, modeText, sortedText, scaleText, quoted, Shown, nullityText, fieldText, listNameText, listFieldText, structText, unionText, zoneText, defaultNames, runEndText, shapeText, typeText, shown}
-use Rattle.datatype_display.specs.Internal.Steps.{Fits, Wrote, Trees, Subtree, placeBelow, nullability, comma, nullableText, unionFieldText, labelAt, kidsAt, textAt, shownAt}
+use Rattle.datatype_display.specs.Internal.Steps.{Fits, Wrote, Trees, Subtree, placeBelow, isAlone, nullability, nameText, comma, nullableText, unionFieldText, labelAt, kidsAt, textAt, shownAt}
 use Rattle.datatype_display.proofs.Writes.{joined, Rest, rest-start, rest-fits, rest-step, rest-as}
 use Rattle.datatype_display.proofs.Rows.{trees, trees-none, trees-some, siblings, kids-are, One, Two}
 
@@ -45,6 +48,10 @@ name-item s r is e = rw (sym is ∙ e)
 pub name-parts : (s : List ℕ) (r : Bool) → r ≡ same s (bytes "item") → r ≡ false → joined (bytes ", field: '" ∷ s ∷ bytes "'" ∷ []) ≡ listNameText s
 unfolding joined listNameText
 name-parts s r is e = rw (sym is ∙ e)
+
+pub quoted-name-parts : (name : List ℕ) (role : ℕ) → joined (quoted name ∷ bytes ": " ∷ nullability role ∷ []) ≡ nameText name role
+unfolding joined nameText
+quoted-name-parts name role = refl
 
 pub no-zone : (z : List ℕ) → length z ≡ 0 → [] ≡ zoneText z
 unfolding zoneText
@@ -101,9 +108,9 @@ module _ (text names table : List ℕ) (i : ℕ) where
   unfolding joined nullability nullableText nullityText labelAt labelOf rowAt
   nullable-parts role e = rw e
 
-  pub field-parts : (name : List ℕ) → name ≡ l .name → joined (quoted name ∷ bytes ": " ∷ nullableText (at i) ∷ []) ≡ fieldText (at i)
-  unfolding joined nullableText fieldText
-  field-parts name e = rw e
+  pub field-parts : (name : List ℕ) → name ≡ l .name → (role : ℕ) → role ≡ getD table (rowWords * i + 2) 0 → joined (nameText name role ∷ textAt text names table i ∷ []) ≡ fieldText (at i)
+  unfolding joined nameText nullability fieldText nullityText labelAt labelOf rowAt
+  field-parts name e role r = rw (e, r) (append-assoc (quoted (l .name)) (bytes ": " ++ nullityText l) (textAt text names table i))
 
   pub list-field-parts : (name : List ℕ) → name ≡ l .name → joined (nullableText (at i) ∷ listNameText name ∷ []) ≡ listFieldText (at i)
   unfolding joined nullableText listFieldText
@@ -164,34 +171,90 @@ module _ (text names table : List ℕ) (i : ℕ) where
     type-parts = rw (← k, e)
 
   module _ (kind : ℕ) (k : kind ≡ getD table (rowWords * i + 0) 0) where
-    pub leaf-type : shapeOf kind ≡ leaf → joined (kindWord kind ∷ [] ∷ []) ≡ textAt text names table i
-    unfolding shapeText labelAt labelOf
-    leaf-type e = type-parts kind k leaf e
+    pub nested-here : (b : Bool) → b ≡ isAlone kind → b ≡ false → isAlone (l .kind) ≡ false
+    unfolding labelAt labelOf rowAt
+    nested-here b e f = ap isAlone (sym k) ∙ sym e ∙ f
 
-    -- a field whose type is a word alone
-    pub word-parts : (role : ℕ) → role ≡ getD table (rowWords * i + 2) 0 → shapeOf kind ≡ leaf → joined (nullability role ∷ kindWord kind ∷ []) ≡ nullableText (at i)
-    unfolding joined
-    word-parts role e s = ap (λ (t : List ℕ). nullability role ++ t) (sym (append-nil (kindWord kind)) ∙ leaf-type s) ∙ nullable-parts role e
+    pub nested-kind : isAlone (l .kind) ≡ false → isAlone kind ≡ false
+    unfolding labelAt labelOf rowAt
+    nested-kind e = ap isAlone k ∙ e
 
-    pub timestamp-type : shapeOf kind ≡ timestamp → joined (kindWord kind ∷ shapeText timestamp (labelAt text [] table i) [] ∷ []) ≡ textAt text names table i
-    unfolding shapeText labelAt labelOf
-    timestamp-type e = type-parts kind k timestamp e
+-- ---- types that have no types below them, by their row alone
 
-    pub time-type : shapeOf kind ≡ time → joined (kindWord kind ∷ shapeText time (labelAt [] [] table i) [] ∷ []) ≡ textAt text names table i
-    unfolding shapeText labelAt labelOf
-    time-type e = type-parts kind k time e
+abbrev flat : Shape → Bool
+flat leaf = true
+flat timestamp = true
+flat time = true
+flat interval = true
+flat fixed = true
+flat list = false
+flat fixedList = false
+flat struct = false
+flat union = false
+flat dictionary = false
+flat decimal = true
+flat mapping = false
+flat runEnds = false
 
-    pub interval-type : shapeOf kind ≡ interval → joined (kindWord kind ∷ shapeText interval (labelAt [] [] table i) [] ∷ []) ≡ textAt text names table i
-    unfolding shapeText labelAt labelOf
-    interval-type e = type-parts kind k interval e
+alone-flat : T (allBelow kinds (λ k. not (isAlone k) || flat (shapeOf k)))
+unfolding isAlone shapeOf
+alone-flat = tt
 
-    pub fixed-type : shapeOf kind ≡ fixed → joined (kindWord kind ∷ shapeText fixed (labelAt [] [] table i) [] ∷ []) ≡ textAt text names table i
-    unfolding shapeText labelAt labelOf
-    fixed-type e = type-parts kind k fixed e
+module _ (text table : List ℕ) (i kind : ℕ) (k : kind ≡ getD table (rowWords * i + 0) 0) where
+  abbrev only : List ℕ
+  only = typeText (labelAt text [] table i) []
 
-    pub decimal-type : shapeOf kind ≡ decimal → joined (kindWord kind ∷ shapeText decimal (labelAt [] [] table i) [] ∷ []) ≡ textAt text names table i
+  pub only-parts : (s : Shape) → shapeOf kind ≡ s → joined (kindWord kind ∷ shapeText s (labelAt text [] table i) [] ∷ []) ≡ only
+  unfolding joined typeText labelAt labelOf rowAt
+  only-parts s e = rw (← k, e)
+
+  pub leaf-only : shapeOf kind ≡ leaf → joined (kindWord kind ∷ [] ∷ []) ≡ only
+  unfolding shapeText
+  leaf-only e = only-parts leaf e
+
+  pub timestamp-only : shapeOf kind ≡ timestamp → joined (kindWord kind ∷ shapeText timestamp (labelAt text [] table i) [] ∷ []) ≡ only
+  timestamp-only e = only-parts timestamp e
+
+  pub time-only : shapeOf kind ≡ time → joined (kindWord kind ∷ shapeText time (labelAt [] [] table i) [] ∷ []) ≡ only
+  unfolding shapeText labelAt labelOf
+  time-only e = only-parts time e
+
+  pub interval-only : shapeOf kind ≡ interval → joined (kindWord kind ∷ shapeText interval (labelAt [] [] table i) [] ∷ []) ≡ only
+  unfolding shapeText labelAt labelOf
+  interval-only e = only-parts interval e
+
+  pub fixed-only : shapeOf kind ≡ fixed → joined (kindWord kind ∷ shapeText fixed (labelAt [] [] table i) [] ∷ []) ≡ only
+  unfolding shapeText labelAt labelOf
+  fixed-only e = only-parts fixed e
+
+  pub decimal-only : shapeOf kind ≡ decimal → joined (kindWord kind ∷ shapeText decimal (labelAt [] [] table i) [] ∷ []) ≡ only
+  unfolding shapeText labelAt labelOf
+  decimal-only e = only-parts decimal e
+
+  -- the same text as with the whole name list and all rows at hand
+  module _ (names : List ℕ) where
+    pub alone-text : kind < kinds → T (isAlone kind) → only ≡ textAt text names table i
     unfolding shapeText labelAt labelOf
-    decimal-type e = type-parts kind k decimal e
+    alone-text h t = go (shapeOf kind) (rw (is-true (isAlone kind) t) at (below-at kinds (λ k. not (isAlone k) || flat (shapeOf k)) alone-flat kind h)) refl
+      where
+        go : (s : Shape) → T (flat s) → shapeOf kind ≡ s → only ≡ textAt text names table i
+        go leaf f e = sym (leaf-only e) ∙ type-parts text names table i kind k leaf e
+        go timestamp f e = sym (timestamp-only e) ∙ type-parts text names table i kind k timestamp e
+        go time f e = sym (time-only e) ∙ type-parts text names table i kind k time e
+        go interval f e = sym (interval-only e) ∙ type-parts text names table i kind k interval e
+        go fixed f e = sym (fixed-only e) ∙ type-parts text names table i kind k fixed e
+        go decimal f e = sym (decimal-only e) ∙ type-parts text names table i kind k decimal e
+        go list f e = absurd f
+        go fixedList f e = absurd f
+        go struct f e = absurd f
+        go union f e = absurd f
+        go dictionary f e = absurd f
+        go mapping f e = absurd f
+        go runEnds f e = absurd f
+
+    pub word-text : T (isWord kind) → kindWord kind ≡ textAt text names table i
+    unfolding joined shapeText
+    word-text w = sym (append-nil (kindWord kind)) ∙ type-parts text names table i kind k leaf (word-leaf kind w)
 
 -- ---- the fields of a Struct or Union, one behind another
 

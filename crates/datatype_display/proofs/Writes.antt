@@ -21,6 +21,10 @@ fits-as {out} {at = at} e f = subst (λ b. Fits out at b) e f
 pub wrote-as : {before s t after : List ℕ} {at next : ℕ} → s ≡ t → Wrote before at s next after → Wrote before at t next after
 wrote-as {before} {after = after} {at = at} {next = next} e w = subst (λ b. Wrote before at b next after) e w
 
+-- the same buffer and place, where two ways meet
+pub wrote-came : {before s after out : List ℕ} {at next last : ℕ} → Wrote before at s next after → out ≡ after → last ≡ next → Wrote before at s last out
+wrote-came w e f = record { stored = e ∙ w .stored; place = f ∙ w .place }
+
 pub wrote-kept : {before s after : List ℕ} {at next : ℕ} → Wrote before at s next after → length after ≡ length before
 wrote-kept {before} {s} {at = at} w = ap (λ (l : List ℕ). length l) (w .stored) ∙ length-sets before at s
 

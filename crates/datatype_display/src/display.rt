@@ -1,18 +1,17 @@
 // The printed text of a row's subtree, as `datatype_display.rs` writes it: a type's word, then by its kind what stands
 // behind it. The level falls from a type to those below it.
+ghost use mathlib.Core.Path.{_≡_};
+ghost use mathlib.Core.Bool.{false};
 ghost use Rattle.datatype.specs.Kind.{list, fixedList, struct, union, dictionary, mapping, runEnds};
 ghost use Rattle.display_length.specs.Display.{fieldText, listFieldText, shapeText, shown};
-ghost use Rattle.datatype_display.specs.Internal.Steps.{Fits, Wrote, Shaped, Child, labelAt, kidsAt, textAt, shownAt, nullableText, unionFieldText};
-use crate::escape::put_quoted;
+ghost use Rattle.datatype_display.specs.Internal.Steps.{Fits, Wrote, Shaped, Child, isAlone, labelAt, kidsAt, textAt, shownAt, nullableText, unionFieldText};
 use crate::kind_words::put_kind;
+use crate::leaves::is_alone;
 use crate::leaves::put_comma;
-use crate::leaves::put_decimal;
-use crate::leaves::put_fixed_size_binary;
-use crate::leaves::put_interval;
+use crate::leaves::put_leaf;
 use crate::leaves::put_list_name;
+use crate::leaves::put_name;
 use crate::leaves::put_nullability;
-use crate::leaves::put_time;
-use crate::leaves::put_timestamp;
 use crate::row::default_names;
 use crate::row::name_at;
 use crate::row::subtree;
@@ -23,6 +22,7 @@ use crate::write::put;
 use crate::write::put_mark;
 use crate::write::put_number;
 use datatype::kind;
+use datatype::kind::is_word;
 use datatype::rows::KIND;
 use datatype::rows::NUMBER;
 use datatype::rows::ROLE;
@@ -43,11 +43,6 @@ fn put_nullable<'a>(
 {
     let role = word(rows, i, ROLE);
     let next = put_nullability(out, at, role);
-    let kind = word(rows, i, KIND);
-    // Of most types only the word is written, with no call of the walk.
-    if kind < kind::TIMESTAMP {
-        return put_kind(out, next, kind);
-    }
     put_type(text, names, rows, level, i, out, next)
 }
 
@@ -65,9 +60,9 @@ fn put_field<'a>(
     ensures { λ r. ⌜ Wrote (now (out .entry)) at (fieldText (shownAt (now (text .entry)) (now (names .entry)) (now (rows .entry)) i)) r (now (out .exit)) ⌝ }
 {
     let name = name_at(text, names, rows, i);
-    let named = put_quoted(out, at, name);
-    let next = put(out, named, b": ");
-    put_nullable(text, names, rows, level, i, out, next)
+    let role = word(rows, i, ROLE);
+    let next = put_name(out, at, name, role);
+    put_type(text, names, rows, level, i, out, next)
 }
 
 // [non-null ]type[, field: 'name']
@@ -144,7 +139,18 @@ fn put_struct<'a>(
     let mut next = put_mark(out, at, b'(');
     let mut j = i + 1;
     while j < end {
-        let last = put_field(text, names, rows, level, j, out, next);
+        let name = name_at(text, names, rows, j);
+        let role = word(rows, j, ROLE);
+        let named = put_name(out, next, name, role);
+        // As `put_type` does, with no call of the walk where no types stand below: a fifth of the time of 700 fields.
+        let kind = word(rows, j, KIND);
+        let last = if is_word(kind) {
+            put_kind(out, named, kind)
+        } else if is_alone(kind) {
+            put_leaf(text, rows, kind, j, out, named)
+        } else {
+            put_nested(text, names, rows, level, j, out, named)
+        };
         j = j + subtree(rows, j);
         next = put_comma(out, last, j < end);
     }
@@ -281,34 +287,38 @@ pub(crate) fn put_type<'a>(
     ensures { λ r. ⌜ Wrote (now (out .entry)) at (textAt (now (text .entry)) (now (names .entry)) (now (rows .entry)) i) r (now (out .exit)) ⌝ }
 {
     let kind = word(rows, i, KIND);
+    if is_word(kind) {
+        return put_kind(out, at, kind);
+    }
+    if is_alone(kind) {
+        return put_leaf(text, rows, kind, i, out, at);
+    }
+    put_nested(text, names, rows, level, i, out, at)
+}
+
+// Writes the type of row i with the types below it.
+fn put_nested<'a>(
+    text: &'a [u8],
+    names: &'a [u8],
+    rows: &[u32],
+    level: usize,
+    i: usize,
+    out: &mut [u8],
+    at: usize,
+) -> usize
+    requires { ⌜ Child (now text) (now names) (now rows) level i × (isAlone ((labelAt (now text) (now names) (now rows) i) .kind) ≡ false) × Fits (now out) at (textAt (now text) (now names) (now rows) i) ⌝ }
+    ensures { λ r. ⌜ Wrote (now (out .entry)) at (textAt (now (text .entry)) (now (names .entry)) (now (rows .entry)) i) r (now (out .exit)) ⌝ }
+{
+    let kind = word(rows, i, KIND);
     let next = put_kind(out, at, kind);
     let below = level - 1;
     match kind {
-        kind::TIMESTAMP => put_timestamp(text, rows, i, out, next),
-        kind::TIME32 | kind::TIME64 | kind::DURATION => put_time(rows, i, out, next),
-        kind::INTERVAL => put_interval(rows, i, out, next),
-        kind::FIXED_SIZE_BINARY => put_fixed_size_binary(rows, i, out, next),
-        kind::LIST | kind::LIST_VIEW | kind::LARGE_LIST | kind::LARGE_LIST_VIEW => put_list(
-            text,
-            names,
-            rows,
-            below,
-            i,
-            out,
-            next,
-        ),
         kind::FIXED_SIZE_LIST => put_fixed_size_list(text, names, rows, below, i, out, next),
         kind::STRUCT => put_struct(text, names, rows, below, i, out, next),
         kind::UNION => put_union(text, names, rows, below, i, out, next),
         kind::DICTIONARY => put_dictionary(text, names, rows, below, i, out, next),
-        kind::DECIMAL32 | kind::DECIMAL64 | kind::DECIMAL128 | kind::DECIMAL256 => put_decimal(
-            rows,
-            i,
-            out,
-            next,
-        ),
         kind::MAP => put_map(text, names, rows, below, i, out, next),
         kind::RUN_END_ENCODED => put_run_end_encoded(text, names, rows, below, i, out, next),
-        _ => next,
+        _ => put_list(text, names, rows, below, i, out, next),
     }
 }

@@ -2,9 +2,8 @@
 ghost use mathlib.Core.Path.{_≡_};
 ghost use mathlib.Core.List.{[], _∷_};
 ghost use Prim.Native.Nat.{_<_};
-ghost use Rattle.tokenizer.specs.Text.{all};
 ghost use Rattle.display_length.specs.Display.{hexDigit, hex, escape, escaped, quoted};
-ghost use Rattle.datatype_display.specs.Internal.Steps.{Fits, Wrote, unicodeText, isItself};
+ghost use Rattle.datatype_display.specs.Internal.Steps.{Fits, Wrote, Ran, unicodeText, isItself};
 use crate::write::put;
 use crate::write::put_mark;
 
@@ -98,20 +97,6 @@ fn is_itself(c: u8) -> bool
     c != b'"'
 }
 
-// Whether all bytes are written as they are. Most names are short: the first that is not ends the search.
-fn prints_as_is(s: &[u8]) -> bool
-    ensures { λ r. ⌜ r ≡ all isItself (now (s .entry)) ⌝ }
-{
-    let mut i = 0;
-    while i < s.len() {
-        if !is_itself(s[i]) {
-            return false;
-        }
-        i += 1;
-    }
-    true
-}
-
 // Writes a string byte by byte.
 fn put_escaped(out: &mut [u8], at: usize, s: &[u8]) -> usize
     requires { ⌜ Fits (now out) at (escaped (now s)) ⌝ }
@@ -126,15 +111,34 @@ fn put_escaped(out: &mut [u8], at: usize, s: &[u8]) -> usize
     next
 }
 
-// Writes what stands between the marks: at once where nothing is escaped.
+// Writes the bytes up to the first that is escaped, and answers how many they are: of most names, all. One loop looks at
+// a byte and writes it, since most names are short.
+fn put_run(out: &mut [u8], at: usize, s: &[u8]) -> usize
+    requires { ⌜ Fits (now out) at (escaped (now s)) ⌝ }
+    ensures { λ r. ⌜ Ran (now (out .entry)) at (now (s .entry)) r (now (out .exit)) ⌝ }
+{
+    let mut i = 0;
+    while i < s.len() {
+        let c = s[i];
+        if !is_itself(c) {
+            return i;
+        }
+        out[at + i] = c;
+        i += 1;
+    }
+    i
+}
+
+// Writes what stands between the marks.
 fn put_between(out: &mut [u8], at: usize, s: &[u8]) -> usize
     requires { ⌜ Fits (now out) at (escaped (now s)) ⌝ }
     ensures { λ r. ⌜ Wrote (now (out .entry)) at (escaped (now (s .entry))) r (now (out .exit)) ⌝ }
 {
-    if prints_as_is(s) {
-        return put(out, at, s);
+    let n = put_run(out, at, s);
+    if n == s.len() {
+        return at + n;
     }
-    put_escaped(out, at, s)
+    put_escaped(out, at + n, &s[n..])
 }
 
 // Writes a string in double quotes.

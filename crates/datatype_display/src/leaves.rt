@@ -1,12 +1,14 @@
 // What stands behind the word of a type that has no types below it, and the parts of fields.
+ghost use mathlib.Core.Path.{_≡_};
 ghost use mathlib.Core.List.{[]};
 ghost use Prim.Native.Nat.{_+_, _*_, _≤_};
 ghost use lib.ListN.{length};
 ghost use Rattle.datatype.specs.Kind.{timestamp, time, interval, fixed, decimal};
 ghost use Rattle.datatype.specs.Table.{rowWords};
-ghost use Rattle.display_length.specs.Display.{zoneText, listNameText, shapeText};
-ghost use Rattle.datatype_display.specs.Internal.Steps.{Fits, Wrote, labelAt, nullability, comma};
+ghost use Rattle.display_length.specs.Display.{zoneText, listNameText, shapeText, typeText};
+ghost use Rattle.datatype_display.specs.Internal.Steps.{Fits, Wrote, Leaf, isAlone, labelAt, nullability, nameText, comma};
 use crate::escape::put_quoted;
+use crate::kind_words::put_kind;
 use crate::row::word;
 use crate::row::zone_at;
 use crate::words::put_interval_unit;
@@ -17,6 +19,7 @@ use crate::write::put_mark;
 use crate::write::put_number;
 use datatype::Field;
 use datatype::equal_bytes;
+use datatype::kind;
 use datatype::rows::NON_NULL;
 use datatype::rows::NUMBER;
 use datatype::rows::SCALE;
@@ -34,7 +37,7 @@ fn put_zone(out: &mut [u8], at: usize, zone: &[u8]) -> usize
 }
 
 // Timestamp(unit[, "zone"])
-pub(crate) fn put_timestamp(text: &[u8], rows: &[u32], i: usize, out: &mut [u8], at: usize) -> usize
+fn put_timestamp(text: &[u8], rows: &[u32], i: usize, out: &mut [u8], at: usize) -> usize
     requires { ⌜ (rowWords * (i + 1) ≤ length (now rows)) × Fits (now out) at (shapeText timestamp (labelAt (now text) [] (now rows) i) []) ⌝ }
     ensures { λ r. ⌜ Wrote (now (out .entry)) at (shapeText timestamp (labelAt (now (text .entry)) [] (now (rows .entry)) i) []) r (now (out .exit)) ⌝ }
 {
@@ -47,7 +50,7 @@ pub(crate) fn put_timestamp(text: &[u8], rows: &[u32], i: usize, out: &mut [u8],
 }
 
 // Time32(unit), Time64(unit), Duration(unit)
-pub(crate) fn put_time(rows: &[u32], i: usize, out: &mut [u8], at: usize) -> usize
+fn put_time(rows: &[u32], i: usize, out: &mut [u8], at: usize) -> usize
     requires { ⌜ (rowWords * (i + 1) ≤ length (now rows)) × Fits (now out) at (shapeText time (labelAt [] [] (now rows) i) []) ⌝ }
     ensures { λ r. ⌜ Wrote (now (out .entry)) at (shapeText time (labelAt [] [] (now (rows .entry)) i) []) r (now (out .exit)) ⌝ }
 {
@@ -58,7 +61,7 @@ pub(crate) fn put_time(rows: &[u32], i: usize, out: &mut [u8], at: usize) -> usi
 }
 
 // Interval(unit)
-pub(crate) fn put_interval(rows: &[u32], i: usize, out: &mut [u8], at: usize) -> usize
+fn put_interval(rows: &[u32], i: usize, out: &mut [u8], at: usize) -> usize
     requires { ⌜ (rowWords * (i + 1) ≤ length (now rows)) × Fits (now out) at (shapeText interval (labelAt [] [] (now rows) i) []) ⌝ }
     ensures { λ r. ⌜ Wrote (now (out .entry)) at (shapeText interval (labelAt [] [] (now (rows .entry)) i) []) r (now (out .exit)) ⌝ }
 {
@@ -69,7 +72,7 @@ pub(crate) fn put_interval(rows: &[u32], i: usize, out: &mut [u8], at: usize) ->
 }
 
 // FixedSizeBinary(length)
-pub(crate) fn put_fixed_size_binary(rows: &[u32], i: usize, out: &mut [u8], at: usize) -> usize
+fn put_fixed_size_binary(rows: &[u32], i: usize, out: &mut [u8], at: usize) -> usize
     requires { ⌜ (rowWords * (i + 1) ≤ length (now rows)) × Fits (now out) at (shapeText fixed (labelAt [] [] (now rows) i) []) ⌝ }
     ensures { λ r. ⌜ Wrote (now (out .entry)) at (shapeText fixed (labelAt [] [] (now (rows .entry)) i) []) r (now (out .exit)) ⌝ }
 {
@@ -80,7 +83,7 @@ pub(crate) fn put_fixed_size_binary(rows: &[u32], i: usize, out: &mut [u8], at: 
 }
 
 // Decimal32(precision, scale) and the other three widths
-pub(crate) fn put_decimal(rows: &[u32], i: usize, out: &mut [u8], at: usize) -> usize
+fn put_decimal(rows: &[u32], i: usize, out: &mut [u8], at: usize) -> usize
     requires { ⌜ (rowWords * (i + 1) ≤ length (now rows)) × Fits (now out) at (shapeText decimal (labelAt [] [] (now rows) i) []) ⌝ }
     ensures { λ r. ⌜ Wrote (now (out .entry)) at (shapeText decimal (labelAt [] [] (now (rows .entry)) i) []) r (now (out .exit)) ⌝ }
 {
@@ -93,6 +96,47 @@ pub(crate) fn put_decimal(rows: &[u32], i: usize, out: &mut [u8], at: usize) -> 
     put_mark(out, last, b')')
 }
 
+// Whether no types stand below one of a kind.
+pub(crate) fn is_alone(kind: u32) -> bool
+    ensures { λ r. ⌜ r ≡ isAlone kind ⌝ }
+{
+    if kind < kind::LIST {
+        return true;
+    }
+    if kind < kind::DECIMAL32 {
+        return false;
+    }
+    kind <= kind::DECIMAL256
+}
+
+// Writes a type that has no types below it.
+pub(crate) fn put_leaf(
+    text: &[u8],
+    rows: &[u32],
+    kind: u32,
+    i: usize,
+    out: &mut [u8],
+    at: usize,
+) -> usize
+    requires { ⌜ Leaf (now rows) kind i × Fits (now out) at (typeText (labelAt (now text) [] (now rows) i) []) ⌝ }
+    ensures { λ r. ⌜ Wrote (now (out .entry)) at (typeText (labelAt (now (text .entry)) [] (now (rows .entry)) i) []) r (now (out .exit)) ⌝ }
+{
+    let next = put_kind(out, at, kind);
+    match kind {
+        kind::TIMESTAMP => put_timestamp(text, rows, i, out, next),
+        kind::TIME32 | kind::TIME64 | kind::DURATION => put_time(rows, i, out, next),
+        kind::INTERVAL => put_interval(rows, i, out, next),
+        kind::FIXED_SIZE_BINARY => put_fixed_size_binary(rows, i, out, next),
+        kind::DECIMAL32 | kind::DECIMAL64 | kind::DECIMAL128 | kind::DECIMAL256 => put_decimal(
+            rows,
+            i,
+            out,
+            next,
+        ),
+        _ => next,
+    }
+}
+
 // Writes a field's nullability: nullable is the default.
 pub(crate) fn put_nullability(out: &mut [u8], at: usize, role: u32) -> usize
     requires { ⌜ Fits (now out) at (nullability role) ⌝ }
@@ -102,6 +146,16 @@ pub(crate) fn put_nullability(out: &mut [u8], at: usize, role: u32) -> usize
         return put(out, at, b"non-null ");
     }
     at
+}
+
+// "name": [non-null ]
+pub(crate) fn put_name(out: &mut [u8], at: usize, name: &[u8], role: u32) -> usize
+    requires { ⌜ Fits (now out) at (nameText (now name) role) ⌝ }
+    ensures { λ r. ⌜ Wrote (now (out .entry)) at (nameText (now (name .entry)) role) r (now (out .exit)) ⌝ }
+{
+    let named = put_quoted(out, at, name);
+    let next = put(out, named, b": ");
+    put_nullability(out, next, role)
 }
 
 // Writes a list's name, but for the default one.

@@ -34,10 +34,6 @@ value-at : (but : ℕ → Bool) (f : ℕ → ℕ) (v bound : ℕ) → T (allBelo
 value-at but f v bound t k h n = sym (eqb→eq (f k) v (rw n at (below-at bound (λ i. but i || eqb (f i) v) t k h)))
 
 module _ (k : ℕ) where
-  pub first-leaf : k < 13 → shapeOf k ≡ leaf
-  unfolding shapeOf
-  first-leaf h = each-at (λ i. shapeOf i ≡ leaf) 0 13 k (refl, (refl, (refl, (refl, (refl, (refl, (refl, (refl, (refl, (refl, (refl, (refl, (refl, tt))))))))))))) (omega arith) (omega arith)
-
   pub time-shape : 16 ≤ k → k < 19 → shapeOf k ≡ time
   unfolding shapeOf
   time-shape h l = each-at (λ i. shapeOf i ≡ time) 16 3 k (refl, (refl, (refl, tt))) h (omega arith)

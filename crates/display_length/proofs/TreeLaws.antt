@@ -1,13 +1,15 @@
 -- The walk of `tree.rt`: what is counted, and what is left to count.
 use mathlib.Core.Path.{_≡_, refl, sym, ap, _∙_}
-use mathlib.Core.Bool.{Bool, true, false}
+use mathlib.Core.Bool.{Bool, true, false, _&&_}
 use mathlib.Core.List.{List}
 use Prim.Native.Nat.{ℕ, suc, _+_, _-_, _*_, _≤_, _<_, max}
 use native.Mathlib.Omega.{arith}
 use lib.ListN.{length, getD}
-use lib.Dec.{T, eqb}
+use lib.Dec.{T, leb, eqb, leb→le}
 use borrow.Author.Tests.{eq-eqb, ne-eqb}
-use Rattle.datatype.specs.Kind.{Shape, shapeOf}
+use Rattle.tokenizer.proofs.Basics.{and-l, and-r}
+use Rattle.datatype.specs.Kind.{Shape, shapeOf, isWord}
+use Rattle.datatype.proofs.ShapeLaws.{word-leaf}
 use Rattle.datatype.specs.Tree.{Forest, ∅, node, count, roots, depth, Label, zoneOf, labelOf, labels}
 use Rattle.datatype.specs.Table.{rowWords, treeOf, rowsAt}
 use Rattle.subtrees.specs.Internal.Run.{rowAt, forestAt, Nests}
@@ -19,7 +21,6 @@ use Rattle.display_length.specs.Display.{displayLength}
 use Rattle.display_length.specs.PrintedLength.{quotesNames}
 use Rattle.display_length.specs.Internal.Steps.{Subtree, Clean, ownAt, labelAt, kidsAt, wordLength, behindLength, rowLength, aroundLength, childrenLength, typeLength, lengthAt}
 use Rattle.display_length.proofs.WordLaws.{word-few}
-use Rattle.display_length.proofs.KindRanges.{first-leaf}
 use Rattle.display_length.proofs.CleanLaws.{clean-as, clean-zone, clean-name, behind-few, around-few}
 use Rattle.display_length.proofs.LengthLaws.{type-length}
 
@@ -165,6 +166,23 @@ module _ (table : List ℕ) (i size : ℕ) (is : size ≡ rowsAt table i) (one :
   pub single-most : r ≤ 100000 → r + 100000 ≤ 200000 * rowsAt table i
   single-most h = omega arith
 
+-- a row that is written by its word alone, and any other
+module _ (text names table : List ℕ) (j size kind below : ℕ) (is : size ≡ rowsAt table j) (so : kind ≡ getD table (rowWords * j + 0) 0) where
+  alone : T (isWord kind) → size ≡ 1 → below ≡ wordLength kind → below ≡ ownAt text table j
+  unfolding rowLength ownAt behindLength
+  alone w one e = e ∙ rw (← so, word-leaf kind w) (omega arith)
+
+  pub word-below : 1 ≤ rowsAt table j → (b : Bool) → b ≡ (leb size 1 && isWord kind) → b ≡ true → (w : ℕ) → w ≡ wordLength kind → below ≡ w
+      → (below ≡ lengthAt text names table j) × (below + 100000 ≤ 200000 * rowsAt table j)
+  word-below some b e t w l h =
+      let both : (leb size 1 && isWord kind) ≡ true = sym e ∙ t in
+      let one : size ≡ 1 = (let m = leb→le size 1 (and-l (leb size 1) (isWord kind) (rw both tt)) in omega arith) in
+      let f = word-few kind in
+      (single-length table j size is one below text names (alone (and-r (leb size 1) (isWord kind) (rw both tt)) one (h ∙ l)), omega arith)
+
+  pub type-below : (w : ℕ) → w ≡ lengthAt text names table j → w + 100000 ≤ 200000 * rowsAt table j → below ≡ w → (below ≡ lengthAt text names table j) × (below + 100000 ≤ 200000 * rowsAt table j)
+  type-below w l m h = (h ∙ l, omega arith)
+
 -- ---- one row
 
 -- the word, and what stands behind it
@@ -179,15 +197,6 @@ module _ (text table : List ℕ) (i kind number scale start size : ℕ) (w b : �
       let f = word-few kind in
       let g = behind-few (shapeOf kind) number scale (zoneOf text start size) n s (clean-zone clean text start size c .short) in
       omega arith
-
--- a type that is a word alone
-module _ (text table : List ℕ) (i kind w : ℕ) (is : w ≡ wordLength kind) where
-  pub word-counted : kind ≡ getD table (rowWords * i + 0) 0 → kind < 13 → w ≡ ownAt text table i
-  unfolding rowLength ownAt behindLength
-  word-counted k h = rw (is, ← k, first-leaf kind h) (omega arith)
-
-  pub word-sum : w ≤ 100000
-  word-sum = let f = word-few kind in omega arith
 
 pub around-counted : (text names table : List ℕ) (j : ℕ) (s : Shape) (q f : Bool) (role id : ℕ) (name : List ℕ) → role ≡ getD table (rowWords * j + 2) 0 → id ≡ getD table (rowWords * j + 3) 0
     → name ≡ (labelAt text names table j) .name → (r : ℕ) → r ≡ aroundLength s q f role id name → r ≡ aroundAt text names table s q f j

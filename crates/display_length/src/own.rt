@@ -59,10 +59,6 @@ pub(crate) fn row_length(text: &[u8], rows: &[u32], clean: bool, i: usize) -> us
     ensures few { λ r. ⌜ r ≤ 100000 ⌝ }
 {
     let kind = word(rows, i, KIND);
-    // Of most types only the word is written.
-    if kind < kind::TIMESTAMP {
-        return word_length(kind);
-    }
     let number = word(rows, i, NUMBER);
     let scale = word(rows, i, SCALE);
     let start = word(rows, i, ZONE_START);

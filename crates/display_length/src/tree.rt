@@ -1,6 +1,9 @@
 // The walk: a row's type is its own bytes and its children's types.
 ghost use mathlib.Core.Path.{_≡_};
+ghost use mathlib.Core.Bool.{_&&_};
 ghost use Prim.Native.Nat.{_+_, _*_, _≤_};
+ghost use lib.Dec.{leb};
+ghost use Rattle.datatype.specs.Kind.{isWord};
 ghost use Rattle.datatype.specs.Limits.{maxLevels};
 ghost use Rattle.datatype.specs.Table.{rowsAt};
 ghost use Rattle.display_length.specs.Internal.Steps.{Clean, Subtree, lengthAt};
@@ -9,8 +12,20 @@ use crate::names::quotes_names;
 use crate::own::row_length;
 use crate::rows::subtree;
 use crate::rows::word;
+use crate::words::word_length;
+use datatype::kind::is_word;
 use datatype::rows::KIND;
 use datatype::rows::MAX_LEVELS;
+
+// Whether a row of a kind, with so many rows in its subtree, is written by its word alone: most rows are.
+fn single_word(size: usize, kind: u32) -> bool
+    ensures { λ r. ⌜ r ≡ (leb size 1 && isWord kind) ⌝ }
+{
+    if 1 < size {
+        return false;
+    }
+    is_word(kind)
+}
 
 // How many bytes the type of row i has, with all that stands below it. No sum overflows: a row has at most 100,000 bytes
 // of its own, and as many around its type.
@@ -33,9 +48,15 @@ fn nested_length<'a>(
     let mut j = i + 1;
     while j < end {
         let around = around_length(text, names, rows, clean, kind, quotes, j == i + 1, j);
-        let below = type_length(text, names, rows, clean, level - 1, j);
+        let size = subtree(rows, j);
+        let own = word(rows, j, KIND);
+        let below = if single_word(size, own) {
+            word_length(own)
+        } else {
+            type_length(text, names, rows, clean, level - 1, j)
+        };
         total = total + around + below;
-        j = j + subtree(rows, j);
+        j = j + size;
     }
     total
 }

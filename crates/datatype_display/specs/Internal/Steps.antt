@@ -1,21 +1,21 @@
 -- What the printer's private functions promise; nothing here has to be believed, since no public function's contract
 -- cites it.
 use mathlib.Core.Path.{_≡_}
-use mathlib.Core.Bool.{Bool, true, false, not, _&&_}
+use mathlib.Core.Bool.{Bool, true, false, not, _&&_, _||_}
 use mathlib.Core.List.{List, [], _∷_, _++_}
-use Prim.Native.Nat.{ℕ, _+_, _-_, _*_, _/_, _%_, _≤_}
-use lib.ListN.{length, take, drop}
+use Prim.Native.Nat.{ℕ, _+_, _-_, _*_, _/_, _%_, _≤_, _<_}
+use lib.ListN.{length, getD, take, drop}
 use lib.Seq.{sets}
 use lib.Dec.{T, leb, ltb, eqb}
 use Rattle.tokenizer.specs.Text.{bytes, if_then_else_}
 use Rattle.datatype.specs.Limits.{maxRows}
-use Rattle.datatype.specs.Kind.{Shape, shapeOf}
+use Rattle.datatype.specs.Kind.{Shape, kinds, shapeOf}
 use Rattle.datatype.specs.Tree.{Forest, depth, Label, labelOf, labels}
-use Rattle.datatype.specs.Table.{rowsAt}
+use Rattle.datatype.specs.Table.{rowWords, rowsAt}
 use Rattle.subtrees.specs.Internal.Run.{rowAt, forestAt, Nests}
 use Rattle.row_table.specs.Sound.{Standing, rulesOf, rowFits, rowsFit}
 use Rattle.output.specs.Digits.{digits}
-use Rattle.display_length.specs.Display.{kindWord, hex, Shown, nullityText, fieldText, typeText, shown}
+use Rattle.display_length.specs.Display.{kindWord, hex, escaped, quoted, Shown, nullityText, fieldText, typeText, shown}
 use Rattle.datatype_display.specs.declared.kind_words.Word.{Word}
 
 -- ---- the output buffer
@@ -60,9 +60,21 @@ wordOf k =
 unfoldable pub isItself : ℕ → Bool
 isItself c = leb 32 c && not (eqb c 34) && not (eqb c 92) && not (eqb c 127)
 
+-- The first n bytes of s are written as they are at a place, and nothing else has changed.
+pub record Ran (before : List ℕ) (at : ℕ) (s : List ℕ) (n : ℕ) (after : List ℕ) : Type 0 where
+  pub few : n ≤ length s
+  pub stored : after ≡ sets before at (take n s)
+  pub same : take n s ++ escaped (drop n s) ≡ escaped s
+
 -- A control character, by its number in hex digits.
 unfoldable pub unicodeText : ℕ → List ℕ
 unicodeText c = bytes "\\u{" ++ (hex c ++ bytes "}")
+
+-- ---- kinds
+
+-- No types stand below one of a kind.
+unfoldable pub isAlone : ℕ → Bool
+isAlone k = ltb k 27 || (leb 35 k && leb k 38)
 
 -- ---- parts of fields
 
@@ -73,6 +85,10 @@ nullability role = if eqb role 2 then bytes "non-null " else []
 unfoldable pub comma : Bool → List ℕ
 comma true = bytes ", "
 comma false = []
+
+-- "name": [non-null ]
+unfoldable pub nameText : List ℕ → ℕ → List ℕ
+nameText name role = quoted name ++ (bytes ": " ++ nullability role)
 
 unfoldable pub nullableText : Shown → List ℕ
 nullableText k = nullityText (k .label) ++ k .text
@@ -113,6 +129,13 @@ pub record Subtree (text names table : List ℕ) (level i : ℕ) : Type 0 where
   pub some-rows : 1 ≤ rowsAt table i
   pub row : T (rowFits place (labelAt text names table i) (kidsAt text names table i))
   pub below : Trees text names table (placeBelow (labelAt text names table i)) level (i + 1) (i + rowsAt table i)
+
+-- Row i is there, and has a kind that has no types below it.
+pub record Leaf (table : List ℕ) (kind i : ℕ) : Type 0 where
+  pub room : rowWords * (i + 1) ≤ length table
+  pub is : kind ≡ getD table (rowWords * i + 0) 0
+  pub some : kind < kinds
+  pub alone : T (isAlone kind)
 
 -- The same of a row whose kind has a shape.
 pub record Shaped (s : Shape) (text names table : List ℕ) (level i : ℕ) : Type 0 where

@@ -1,8 +1,9 @@
 use Prim.Native.Nat.{ℕ, _+_, _-_, _*_, _<_}
 use mathlib.Core.Path.{refl}
+use mathlib.Core.Logic.{⊎-elim}
 use native.Mathlib.Omega.{arith}
 use Rattle.datatype.specs.Kind.{shapeOf}
-use Rattle.display_length.proofs.TreeLaws.{Counting, counting-start, counting-end, counting-most, counting-turn, counting-room, counting-size, counting-call, counting-sum, counting-sum-2, counting-again, subtree-room, subtree-end, quotes-call, single-length, single-most}
+use Rattle.display_length.proofs.TreeLaws.{Counting, counting-start, counting-end, counting-most, counting-turn, counting-room, counting-size, counting-call, counting-sum, counting-sum-2, counting-again, subtree-room, subtree-end, quotes-call, single-length, single-most, word-below, type-below}
 use borrow.Author.Needs.{needs}
 use borrow.Fn.Kinds.{In}
 use borrow.Fn.PlainCycle.{Measures, is, falls, and}
@@ -11,6 +12,8 @@ use Rattle.display_length.proofs.names.quotes_names.Reads as quotes-nam
 use Rattle.display_length.proofs.own.row_length.Reads as row-length-reads
 use Rattle.display_length.proofs.rows.subtree.Reads as subtree-reads
 use Rattle.display_length.proofs.rows.word.Reads as word-reads
+use Rattle.display_length.proofs.tree.single_word.Reads as single-word-reads
+use Rattle.display_length.proofs.words.word_length.Reads as word-length-reads
 use Rattle.display_length.proofs.tree.nested_length.Reads as nested-length
 use Rattle.display_length.proofs.tree.nested_length.Kinds as nested-length-kinds
 use Rattle.display_length.proofs.tree.+nested_length+type_length.Lts-nested_length as nested-length-lts
@@ -49,7 +52,7 @@ abbrev μ-loop : nested-length-lts.MeasureT-loop
 
 -- what is known of the callees, of type_length at levels below
 abbrev calls : ℕ → nested-length-lts.Claims
-calls t = (word-reads.Asked, word-reads.Learnt, subtree-reads.Asked, subtree-reads.Learnt, quotes-names-reads.Asked, quotes-names-reads.Learnt, row-length-reads.Asked, row-length-reads.Learnt, around-length-reads.Asked, around-length-reads.Learnt, type-length-below t, type-length.Post)
+calls t = (word-reads.Asked, word-reads.Learnt, subtree-reads.Asked, subtree-reads.Learnt, quotes-names-reads.Asked, quotes-names-reads.Learnt, row-length-reads.Asked, row-length-reads.Learnt, around-length-reads.Asked, around-length-reads.Learnt, single-word-reads.Asked, single-word-reads.Learnt, word-length-reads.Asked, word-length-reads.Learnt, type-length-below t, type-length.Post)
 
 module _ (t : ℕ) where
   word-requires : nested-length-lts.Need-word-requires (calls t) (nested-length-at t) nested-length.Post Inv-loop μ-loop
@@ -82,29 +85,38 @@ module _ (t : ℕ) where
   around-length-requires : nested-length-lts.Need-around-length-requires (calls t) (nested-length-at t) nested-length.Post Inv-loop μ-loop
   around-length-requires c κs = (c .before .before .before .before .before .before .before .before .before .pre .1 .1, c .before .before .before .before .before .before .before .before .before .pre .1 .2, counting-room _ _ _ _ _ _ _ _ _ _ (c .before .loop .inv) (c .loop-test .taken))
 
+  subtree-requires-2 : nested-length-lts.Need-subtree-requires-2 (calls t) (nested-length-at t) nested-length.Post Inv-loop μ-loop
+  subtree-requires-2 c κs = counting-room _ _ _ _ _ _ _ _ _ _ (c .before .before .loop .inv) (c .before .loop-test .taken)
+
+  word-requires-2 : nested-length-lts.Need-word-requires-2 (calls t) (nested-length-at t) nested-length.Post Inv-loop μ-loop
+  word-requires-2 c κs = (counting-room _ _ _ _ _ _ _ _ _ _ (c .before .before .before .loop .inv) (c .before .before .loop-test .taken), omega arith)
+
+  single-word-requires : nested-length-lts.Need-single-word-requires (calls t) (nested-length-at t) nested-length.Post Inv-loop μ-loop
+  single-word-requires c κs = search needs
+
+  word-length-requires : nested-length-lts.Need-word-length-requires (calls t) (nested-length-at t) nested-length.Post Inv-loop μ-loop
+  word-length-requires c κs = search needs
+
   sub-type-length : nested-length-lts.Need-sub-type-length (calls t) (nested-length-at t) nested-length.Post Inv-loop μ-loop
-  sub-type-length c = omega (arith, counting-call _ _ _ _ _ _ _ _ _ _ (c .before .before .loop .inv) (c .before .loop-test .taken) .0)
+  sub-type-length c = omega (arith, counting-call _ _ _ _ _ _ _ _ _ _ (c .before .before .before .before .before .before .loop .inv) (c .before .before .before .before .before .loop-test .taken) .0)
 
   type-length-requires : nested-length-lts.Need-type-length-requires (calls t) (nested-length-at t) nested-length.Post Inv-loop μ-loop
-  type-length-requires c κs = (omega (arith, counting-call _ _ _ _ _ _ _ _ _ _ (c .before .before .loop .inv) (c .before .loop-test .taken) .0), (counting-call _ _ _ _ _ _ _ _ _ _ (c .before .before .loop .inv) (c .before .loop-test .taken) .1, c .before .before .before .before .before .before .before .before .before .before .pre .1 .1, c .before .before .before .before .before .before .before .before .before .before .pre .1 .2))
+  type-length-requires c κs = (omega (arith, counting-call _ _ _ _ _ _ _ _ _ _ (c .before .before .before .before .before .before .loop .inv) (c .before .before .before .before .before .loop-test .taken) .0), (counting-call _ _ _ _ _ _ _ _ _ _ (c .before .before .before .before .before .before .loop .inv) (c .before .before .before .before .before .loop-test .taken) .1, c .before .before .before .before .before .before .before .before .before .before .before .before .before .before .pre .1 .1, c .before .before .before .before .before .before .before .before .before .before .before .before .before .before .pre .1 .2))
 
   add-total : nested-length-lts.Need-add-total (calls t) (nested-length-at t) nested-length.Post Inv-loop μ-loop
-  add-total c = (let e = counting-sum _ _ _ _ _ _ _ _ _ _ (c .before .before .before .loop .inv) (c .before .before .loop-test .taken) _ refl _ (c .before .around-length .ensures .1) in search needs)
+  add-total c = (let e = counting-sum _ _ _ _ _ _ _ _ _ _ (c .before .before .before .before .before .before .loop .inv) (c .before .before .before .before .before .loop-test .taken) _ refl _ (c .before .before .before .before .around-length .ensures .1) in search needs)
 
   add-total-2 : nested-length-lts.Need-add-total-2 (calls t) (nested-length-at t) nested-length.Post Inv-loop μ-loop
-  add-total-2 c = (let e = counting-sum-2 _ _ _ _ _ _ _ _ _ _ (c .before .before .before .loop .inv) (c .before .before .loop-test .taken) _ refl _ (c .before .around-length .ensures .1) _ (c .type-length .ensures .1) in search needs)
-
-  subtree-requires-2 : nested-length-lts.Need-subtree-requires-2 (calls t) (nested-length-at t) nested-length.Post Inv-loop μ-loop
-  subtree-requires-2 c κs = counting-room _ _ _ _ _ _ _ _ _ _ (c .before .before .before .loop .inv) (c .before .before .loop-test .taken)
+  add-total-2 c = (let e = counting-sum-2 _ _ _ _ _ _ _ _ _ _ (c .before .before .before .before .before .before .before .loop .inv) (c .before .before .before .before .before .before .loop-test .taken) _ refl _ (c .before .before .before .before .before .around-length .ensures .1) _ ((⊎-elim (λ w. word-below (c .before .before .before .before .before .before .before .before .before .before .before .before .before .before .before .args .text .now) (c .before .before .before .before .before .before .before .before .before .before .before .before .before .before .before .args .names .now) (c .before .before .before .before .before .before .before .before .before .before .before .before .before .before .before .args .rows .now) (c .before .before .before .before .before .before .before .loop .j) _ _ (c .before .if1 .below) (c .before .before .before .before .subtree2 .ensures) (c .before .before .before .word2 .ensures) (counting-turn _ _ _ _ _ _ _ _ _ _ (c .before .before .before .before .before .before .before .loop .inv) (c .before .before .before .before .before .before .loop-test .taken) .some-rows) _ (c .before .before .single-word .ensures) (w .0 .taken) _ (w .1 .ensures) (w .2)) (λ w. type-below (c .before .before .before .before .before .before .before .before .before .before .before .before .before .before .before .args .text .now) (c .before .before .before .before .before .before .before .before .before .before .before .before .before .before .before .args .names .now) (c .before .before .before .before .before .before .before .before .before .before .before .before .before .before .before .args .rows .now) (c .before .before .before .before .before .before .before .loop .j) _ _ (c .before .if1 .below) (c .before .before .before .before .subtree2 .ensures) (c .before .before .before .word2 .ensures) _ (w .1 .ensures .0) (w .1 .ensures .1) (w .2)) (c .before .if1 .came)) .1) in search needs)
 
   add-j-2 : nested-length-lts.Need-add-j-2 (calls t) (nested-length-at t) nested-length.Post Inv-loop μ-loop
-  add-j-2 c = omega (arith, counting-size _ _ _ _ _ _ _ _ _ _ (c .before .before .before .before .loop .inv) (c .before .before .before .loop-test .taken) _ (c .subtree2 .ensures))
+  add-j-2 c = omega (arith, counting-size _ _ _ _ _ _ _ _ _ _ (c .before .before .before .before .before .before .before .loop .inv) (c .before .before .before .before .before .before .loop-test .taken) _ (c .before .before .before .before .subtree2 .ensures))
 
   loop-less : nested-length-lts.Need-loop-less (calls t) (nested-length-at t) nested-length.Post Inv-loop μ-loop
-  loop-less c = omega (arith, counting-turn _ _ _ _ _ _ _ _ _ _ (c .before .before .before .before .loop .inv) (c .before .before .before .loop-test .taken) .some-rows, counting-turn _ _ _ _ _ _ _ _ _ _ (c .before .before .before .before .loop .inv) (c .before .before .before .loop-test .taken) .within, c .subtree2 .ensures)
+  loop-less c = omega (arith, counting-turn _ _ _ _ _ _ _ _ _ _ (c .before .before .before .before .before .before .before .loop .inv) (c .before .before .before .before .before .before .loop-test .taken) .some-rows, counting-turn _ _ _ _ _ _ _ _ _ _ (c .before .before .before .before .before .before .before .loop .inv) (c .before .before .before .before .before .before .loop-test .taken) .within, c .before .before .before .before .subtree2 .ensures)
 
   loop-again : nested-length-lts.Need-loop-again (calls t) (nested-length-at t) nested-length.Post Inv-loop μ-loop
-  loop-again c = counting-again _ _ _ _ _ _ _ _ _ _ (c .before .before .before .before .loop .inv) (c .before .before .before .loop-test .taken) _ refl _ (c .before .before .around-length .ensures .1) _ (c .before .type-length .ensures .1) _ (c .subtree2 .ensures) (c .before .before .around-length .ensures .0) (c .before .type-length .ensures .0)
+  loop-again c = counting-again _ _ _ _ _ _ _ _ _ _ (c .before .before .before .before .before .before .before .loop .inv) (c .before .before .before .before .before .before .loop-test .taken) _ refl _ (c .before .before .before .before .before .around-length .ensures .1) _ ((⊎-elim (λ w. word-below (c .before .before .before .before .before .before .before .before .before .before .before .before .before .before .before .args .text .now) (c .before .before .before .before .before .before .before .before .before .before .before .before .before .before .before .args .names .now) (c .before .before .before .before .before .before .before .before .before .before .before .before .before .before .before .args .rows .now) (c .before .before .before .before .before .before .before .loop .j) _ _ (c .before .if1 .below) (c .before .before .before .before .subtree2 .ensures) (c .before .before .before .word2 .ensures) (counting-turn _ _ _ _ _ _ _ _ _ _ (c .before .before .before .before .before .before .before .loop .inv) (c .before .before .before .before .before .before .loop-test .taken) .some-rows) _ (c .before .before .single-word .ensures) (w .0 .taken) _ (w .1 .ensures) (w .2)) (λ w. type-below (c .before .before .before .before .before .before .before .before .before .before .before .before .before .before .before .args .text .now) (c .before .before .before .before .before .before .before .before .before .before .before .before .before .before .before .args .names .now) (c .before .before .before .before .before .before .before .before .before .before .before .before .before .before .before .args .rows .now) (c .before .before .before .before .before .before .before .loop .j) _ _ (c .before .if1 .below) (c .before .before .before .before .subtree2 .ensures) (c .before .before .before .word2 .ensures) _ (w .1 .ensures .0) (w .1 .ensures .1) (w .2)) (c .before .if1 .came)) .1) _ (c .before .before .before .before .subtree2 .ensures) (c .before .before .before .before .before .around-length .ensures .0) ((⊎-elim (λ w. word-below (c .before .before .before .before .before .before .before .before .before .before .before .before .before .before .before .args .text .now) (c .before .before .before .before .before .before .before .before .before .before .before .before .before .before .before .args .names .now) (c .before .before .before .before .before .before .before .before .before .before .before .before .before .before .before .args .rows .now) (c .before .before .before .before .before .before .before .loop .j) _ _ (c .before .if1 .below) (c .before .before .before .before .subtree2 .ensures) (c .before .before .before .word2 .ensures) (counting-turn _ _ _ _ _ _ _ _ _ _ (c .before .before .before .before .before .before .before .loop .inv) (c .before .before .before .before .before .before .loop-test .taken) .some-rows) _ (c .before .before .single-word .ensures) (w .0 .taken) _ (w .1 .ensures) (w .2)) (λ w. type-below (c .before .before .before .before .before .before .before .before .before .before .before .before .before .before .before .args .text .now) (c .before .before .before .before .before .before .before .before .before .before .before .before .before .before .before .args .names .now) (c .before .before .before .before .before .before .before .before .before .before .before .before .before .before .before .args .rows .now) (c .before .before .before .before .before .before .before .loop .j) _ _ (c .before .if1 .below) (c .before .before .before .before .subtree2 .ensures) (c .before .before .before .word2 .ensures) _ (w .1 .ensures .0) (w .1 .ensures .1) (w .2)) (c .before .if1 .came)) .0)
 
   returns : nested-length-lts.Need-returns (calls t) (nested-length-at t) nested-length.Post Inv-loop μ-loop
   returns c = (counting-end _ _ _ _ _ _ _ _ _ _ (c .before .loop .inv) (c .loop-test .left), counting-most _ _ _ _ _ _ _ _ _ _ (c .before .loop .inv) _ (c .before .before .before .before .subtree .ensures) refl)
@@ -151,11 +163,14 @@ pub +nested-length+type-length-spec : {M : Type 1} → statement M
     (loop-holds t)
     (add-around-length t)
     (around-length-requires t)
+    (subtree-requires-2 t)
+    (word-requires-2 t)
+    (single-word-requires t)
+    (word-length-requires t)
     (sub-type-length t)
     (type-length-requires t)
     (add-total t)
     (add-total-2 t)
-    (subtree-requires-2 t)
     (add-j-2 t)
     (loop-less t)
     (loop-again t)

@@ -6,8 +6,8 @@ use Rattle.datatype_display.proofs.Texts.{short-parts, long-parts}
 use borrow.Author.Needs.{needs}
 use Prim.Native.Nat.{ℕ}
 use Rattle.datatype_display.proofs.display.put_run_end_encoded.Reads as put-run-end-encoded
-use Rattle.datatype_display.proofs.display.+put_dictionary+put_field+put_fixed_size_list+put_list+put_list_field+put_map+put_nullable+put_run_end_encoded+put_struct+put_type+put_union+put_union_field.Lts-put_run_end_encoded as lts
-use Rattle.datatype_display.proofs.display.+put_dictionary+put_field+put_fixed_size_list+put_list+put_list_field+put_map+put_nullable+put_run_end_encoded+put_struct+put_type+put_union+put_union_field.Proof.Frame.{put-run-end-encoded-at as at, calls-put-run-end-encoded as calls}
+use Rattle.datatype_display.proofs.display.+put_dictionary+put_field+put_fixed_size_list+put_list+put_list_field+put_map+put_nested+put_nullable+put_run_end_encoded+put_struct+put_type+put_union+put_union_field.Lts-put_run_end_encoded as lts
+use Rattle.datatype_display.proofs.display.+put_dictionary+put_field+put_fixed_size_list+put_list+put_list_field+put_map+put_nested+put_nullable+put_run_end_encoded+put_struct+put_type+put_union+put_union_field.Proof.Frame.{put-run-end-encoded-at as at, calls-put-run-end-encoded as calls}
 
 module _ (t : ℕ) where
   add-values : lts.Need-add-values (calls t) (at t) put-run-end-encoded.Post

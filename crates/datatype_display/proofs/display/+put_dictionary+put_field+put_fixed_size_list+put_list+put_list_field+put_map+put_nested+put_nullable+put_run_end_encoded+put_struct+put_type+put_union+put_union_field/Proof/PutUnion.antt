@@ -9,8 +9,8 @@ use Rattle.datatype_display.specs.Internal.Steps.{placeBelow, labelAt, k
 use Rattle.datatype_display.proofs.Texts.{Fields, fields-start, union-parts, union-field, union-again, union-end}
 use Prim.Native.Nat.{ℕ}
 use Rattle.datatype_display.proofs.display.put_union.Reads as put-union
-use Rattle.datatype_display.proofs.display.+put_dictionary+put_field+put_fixed_size_list+put_list+put_list_field+put_map+put_nullable+put_run_end_encoded+put_struct+put_type+put_union+put_union_field.Lts-put_union as lts
-use Rattle.datatype_display.proofs.display.+put_dictionary+put_field+put_fixed_size_list+put_list+put_list_field+put_map+put_nullable+put_run_end_encoded+put_struct+put_type+put_union+put_union_field.Proof.Frame.{put-union-at as at, calls-put-union as calls}
+use Rattle.datatype_display.proofs.display.+put_dictionary+put_field+put_fixed_size_list+put_list+put_list_field+put_map+put_nested+put_nullable+put_run_end_encoded+put_struct+put_type+put_union+put_union_field.Lts-put_union as lts
+use Rattle.datatype_display.proofs.display.+put_dictionary+put_field+put_fixed_size_list+put_list+put_list_field+put_map+put_nested+put_nullable+put_run_end_encoded+put_struct+put_type+put_union+put_union_field.Proof.Frame.{put-union-at as at, calls-put-union as calls}
 
 abbrev pub Inv-loop : lts.InvT-loop
 Inv-loop text names rows level i out₀ at mode end opened next₀ j₀ out next j = Fields text names rows (placeBelow (labelAt text names rows i)) level end out₀ next₀ (unionText (shown (kidsAt text names rows i)) ++ bytes ")") unionText j next out

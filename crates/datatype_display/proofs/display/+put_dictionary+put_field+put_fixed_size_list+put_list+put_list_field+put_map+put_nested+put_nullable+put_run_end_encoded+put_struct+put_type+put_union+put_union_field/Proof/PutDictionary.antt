@@ -6,8 +6,8 @@ use Rattle.datatype_display.proofs.Texts.{dictionary-parts}
 use borrow.Author.Needs.{needs}
 use Prim.Native.Nat.{ℕ}
 use Rattle.datatype_display.proofs.display.put_dictionary.Reads as put-dictionary
-use Rattle.datatype_display.proofs.display.+put_dictionary+put_field+put_fixed_size_list+put_list+put_list_field+put_map+put_nullable+put_run_end_encoded+put_struct+put_type+put_union+put_union_field.Lts-put_dictionary as lts
-use Rattle.datatype_display.proofs.display.+put_dictionary+put_field+put_fixed_size_list+put_list+put_list_field+put_map+put_nullable+put_run_end_encoded+put_struct+put_type+put_union+put_union_field.Proof.Frame.{put-dictionary-at as at, calls-put-dictionary as calls}
+use Rattle.datatype_display.proofs.display.+put_dictionary+put_field+put_fixed_size_list+put_list+put_list_field+put_map+put_nested+put_nullable+put_run_end_encoded+put_struct+put_type+put_union+put_union_field.Lts-put_dictionary as lts
+use Rattle.datatype_display.proofs.display.+put_dictionary+put_field+put_fixed_size_list+put_list+put_list_field+put_map+put_nested+put_nullable+put_run_end_encoded+put_struct+put_type+put_union+put_union_field.Proof.Frame.{put-dictionary-at as at, calls-put-dictionary as calls}
 
 module _ (t : ℕ) where
   add-value : lts.Need-add-value (calls t) (at t) put-dictionary.Post

@@ -5,8 +5,8 @@ use Rattle.datatype_display.proofs.Texts.{union-field-parts}
 use borrow.Author.Needs.{needs}
 use Prim.Native.Nat.{ℕ}
 use Rattle.datatype_display.proofs.display.put_union_field.Reads as put-union-field
-use Rattle.datatype_display.proofs.display.+put_dictionary+put_field+put_fixed_size_list+put_list+put_list_field+put_map+put_nullable+put_run_end_encoded+put_struct+put_type+put_union+put_union_field.Lts-put_union_field as lts
-use Rattle.datatype_display.proofs.display.+put_dictionary+put_field+put_fixed_size_list+put_list+put_list_field+put_map+put_nullable+put_run_end_encoded+put_struct+put_type+put_union+put_union_field.Proof.Frame.{put-union-field-at as at, calls-put-union-field as calls}
+use Rattle.datatype_display.proofs.display.+put_dictionary+put_field+put_fixed_size_list+put_list+put_list_field+put_map+put_nested+put_nullable+put_run_end_encoded+put_struct+put_type+put_union+put_union_field.Lts-put_union_field as lts
+use Rattle.datatype_display.proofs.display.+put_dictionary+put_field+put_fixed_size_list+put_list+put_list_field+put_map+put_nested+put_nullable+put_run_end_encoded+put_struct+put_type+put_union+put_union_field.Proof.Frame.{put-union-field-at as at, calls-put-union-field as calls}
 
 module _ (t : ℕ) where
   word-requires : lts.Need-word-requires (calls t) (at t) put-union-field.Post
