@@ -1,7 +1,7 @@
 #!/usr/bin/env python3
 """Checks that need no proof: public functions state what they answer and ask nothing, by definitions that a reader must
 believe; functions are small; no import is idle; the documents name definitions that exist; no crate is left off the list;
-and the layout is that of `rt fmt`.
+the table of the listed words is what its script writes; and the layout is that of `rt fmt`.
 
     python3 tests/source/check.py
     python3 tests/source/check.py --believe     # the definitions that each demand rests on, with their lines
@@ -18,6 +18,7 @@ sys.path[:0] = [str(ROOT / folder) for folder in ("tests", "tests/source", "tool
 import functions  # noqa: E402
 import needs  # noqa: E402
 import unused_imports  # noqa: E402
+import word_table  # noqa: E402
 
 # Worked examples: they compute with definitions of specs/Internal, and nothing rests on them.
 EXAMPLES = {"Examples", "EveryKind"}
@@ -265,6 +266,12 @@ def print_believed():
         print(f"{lines_in_all(rests_on(cited)):>6}  in all\n")
 
 
+def check_word_table():
+    """The files of the table are what tools/word_table.py writes."""
+    for path in word_table.stale():
+        faults.append(f"{path.relative_to(ROOT)}: not what tools/word_table.py writes")
+
+
 def check_layout():
     run = subprocess.run(["rt", "fmt", "--check"], cwd=ROOT, capture_output=True, text=True)
     if run.returncode != 0:
@@ -286,6 +293,7 @@ def main():
         check_links,
         check_citations,
         check_believed,
+        check_word_table,
         check_layout,
     ]
     failed = 0

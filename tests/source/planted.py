@@ -1,6 +1,7 @@
 #!/usr/bin/env python3
 """Planted cases for the checks on sources. Imports: those that are used in some way must stay, others must go. Functions:
-those that are too long, nest too deep or have two loops are found, others not.
+those that are too long, nest too deep or have two loops are found, others not. The table of words: a file that is missing
+or has another number is found, and a walk through the numbers tells the words apart.
 
     python3 tests/source/planted.py
 """
@@ -13,6 +14,7 @@ import unittest
 sys.path[:0] = [str(pathlib.Path(__file__).resolve().parents[2] / folder) for folder in ("tools", "tests/source")]
 import functions  # noqa: E402
 import unused_imports  # noqa: E402
+import word_table  # noqa: E402
 
 
 class Planted(unittest.TestCase):
@@ -137,6 +139,45 @@ class Functions(unittest.TestCase):
         value = ["                return A {", "                    b: 1,", "                };"]
         other = ["                put(out, b'{', b\"\\\\u{\"); // {"]
         self.assertEqual(self.faults(self.nest(["if a", "match b", "C::D(e) =>"], value + other)), [])
+
+
+class WordTable(unittest.TestCase):
+    WORDS = {b"List": 28, b"ListView": 29, b"s": 42, b"sorted": 52, b"x": 58, "µs".encode(): 44}
+    TEXT = '"List" is DataType 27 "ListView" is DataType 28 "s" is TimeUnit 0 "sorted" is MapSorted 1 "x" is X "µs" is TimeUnit 2'
+
+    def test_words(self):
+        self.assertEqual(dict(word_table.listed_words(self.TEXT)), self.WORDS)
+
+    def walked(self, table, word):
+        state = 0
+        for byte in word:
+            edge = table[state + byte] if state + byte < len(table) else 32
+            if byte == 32 or edge % 256 != byte:
+                return 0
+            state = edge // 256 + byte
+        edge = table[state + 32] if state + 32 < len(table) else 32
+        return edge // 256 if edge % 256 == 32 else 0
+
+    def test_walk(self):
+        table = word_table.table_of(self.WORDS.items())
+        for word in self.WORDS:
+            for beginning in (word[:length] for length in range(len(word) + 1)):
+                for tail in [b"", *(bytes([byte]) for byte in range(256))]:
+                    self.assertEqual(self.walked(table, beginning + tail), self.WORDS.get(beginning + tail, 0))
+
+    def test_stale(self):
+        with tempfile.TemporaryDirectory() as folder:
+            crate = pathlib.Path(folder) / "crates/tokenizer"
+            for name in ("src", "specs"):
+                (crate / name).mkdir(parents=True)
+            (crate / "specs/Words.antt").write_text(self.TEXT, encoding="utf8")
+            code, spec = word_table.files(pathlib.Path(folder))
+            self.assertEqual(word_table.stale(pathlib.Path(folder)), [code, spec])
+            for path, text in word_table.files(pathlib.Path(folder)).items():
+                path.write_text(text, encoding="utf8")
+            self.assertEqual(word_table.stale(pathlib.Path(folder)), [])
+            spec.write_text(spec.read_text(encoding="utf8").replace("32", "288", 1), encoding="utf8")
+            self.assertEqual(word_table.stale(pathlib.Path(folder)), [spec])
 
 
 if __name__ == "__main__":

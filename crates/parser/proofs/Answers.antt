@@ -11,7 +11,7 @@ use Rattle.tokenizer.specs.declared.TokenKind.{TokenKind}
 use Rattle.datatype.specs.Tree.{Forest, ∅, node, count, Row}
 use Rattle.parser.specs.Parse.{Tree, Fields, Zone}
 use Rattle.parser.specs.Internal.Steps.{word, number, span, stepOf, lookOf, valuedOf, numberOf, quotedOf, zoneStep, Stored, Meets, MeetsFields}
-use Rattle.parser.specs.declared.quick.Word.{Word}
+use Rattle.parser.specs.declared.Word.{Word}
 use Rattle.parser.specs.declared.Signed.{Signed}
 use Rattle.parser.specs.declared.Span.{Span}
 use Rattle.parser.specs.declared.Step.the-variants as S

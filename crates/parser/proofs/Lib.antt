@@ -2,7 +2,6 @@ pub mod Holds
 pub mod Stores
 pub mod Answers
 pub mod Looks
-pub mod WordLaws
 pub mod TokenLaws
 pub mod ZoneLaws
 pub mod Values

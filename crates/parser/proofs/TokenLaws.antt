@@ -5,8 +5,8 @@ use mathlib.Core.List.{List, [], _∷_}
 use Prim.Native.Nat.{ℕ, _+_, _%_, _≤_, _<_}
 use native.Mathlib.Omega.{arith}
 use lib.ListN.{length, getD, List·getD-eq-default}
-use lib.Dec.{T, eqb, leb}
-use borrow.Author.Tests.{eq-eqb, ne-eqb, leb-true, le-leb, lt-leb}
+use lib.Dec.{T, eqb}
+use borrow.Author.Tests.{eq-eqb, ne-eqb, le-leb, lt-leb}
 use types.Run.{OneOf, miss}
 use mir.Val.{hasKey}
 use denote.Enum.Declared.{tagOf}
@@ -21,9 +21,8 @@ use Rattle.tokenizer.specs.declared.TokenKind.the-variants.{LParen, RParen, Com
 use Rattle.tokenizer.proofs.Marks as Marks
 use Rattle.tokenizer.proofs.Basics.{of-true}
 use Rattle.tokenizer.proofs.Tokens.{token-spaces, token-end}
-use Rattle.tokenizer.proofs.Runs.{spaces-stop, spaces-go}
+use Rattle.tokenizer.proofs.Runs.{spaces-stop}
 use Rattle.parser.specs.Parse.{refusalOf, need, stands, roleAt, afterRole, numberIn}
-use Rattle.parser.specs.Internal.Sought.{Found}
 use Rattle.parser.specs.Internal.Steps.{word, number, span, markSort, isMark, stepOf, lookOf, valuedOf, numberOf, quotedOf}
 use Rattle.parser.specs.declared.Step.the-variants as S
 use Rattle.parser.specs.declared.Look.the-variants as L
@@ -156,18 +155,11 @@ module _ (text : List ℕ) (sort at : ℕ) (t : Token) (e : t ≡ tokenAt text a
     unfolding stands
     stands-lost = sym (sym (ap (λ (x : Token). eqb (sortOf (x .kind)) sort) e) ∙ other-sort sort others (t .kind) h o)
 
--- ---- behind the spaces, where a word was found or a string begins
+-- ---- behind the spaces, where a string begins
 
 module _ (text : List ℕ) (at from : ℕ) (f : from ≡ afterSpaces text at) where
   behind-spaces : tokenAt text from ≡ tokenAt text at
   behind-spaces = ap (tokenAt text) f ∙ sym (token-spaces text at)
-
-  pub valued-found : (sort : ℕ) (k : TokenKind) (v next : ℕ) → Found k text from next → 0 < next → sortOf k ≡ sort → valueOf k ≡ v → W.Value (word v next) ≡ valuedOf (need text sort at)
-  unfolding Found
-  valued-found sort k v next w h s u =
-      let p = w h in
-      ap (λ (i : ℕ). W.Value (word v i)) (sym (p .1))
-      ∙ valued-here text sort at (tokenAt text from) behind-spaces v (ap sortOf (p .0) ∙ s) (ap valueOf (p .0) ∙ u)
 
 -- behind the text's end no byte stands
 pub no-byte : (text : List ℕ) (at byte : ℕ) → length text ≤ at → 0 < byte → getD text at 0 ≡ byte → ⊥
@@ -189,14 +181,6 @@ module _ (text : List ℕ) (least most at : ℕ) (t : Token) (e : t ≡ tokenAt 
     pub number-in : magnitude ≤ limit → N.Value (number negative magnitude (t .next)) ≡ numberOf (numberIn text least most at)
     unfolding numberOf numberIn
     number-in h = rw (here text integer at t e (ap sortOf k), k, ← l, le-leb magnitude limit h)
-
-pub number-found : (text : List ℕ) (at from : ℕ) → from ≡ afterSpaces text at → (least most m next : ℕ) → Found (Integer false m) text from next → 0 < next → m ≤ most
-    → N.Value (number false m next) ≡ numberOf (numberIn text least most at)
-unfolding Found
-number-found text at from f least most m next w h l =
-    let p = w h in
-    ap (λ (i : ℕ). N.Value (number false m i)) (sym (p .1))
-    ∙ number-in text least most at (tokenAt text from) (behind-spaces text at from f) false m most (p .0) refl l
 
 -- ---- marks, by the first byte that is no space
 
@@ -288,31 +272,3 @@ module _ (text : List ℕ) (at : ℕ) where
       pub null-here : (r : ℕ) → t .kind ≡ Nullability r → (r ≡ roleAt text at) × (t .next ≡ afterRole text at)
       unfolding roleAt afterRole stands
       null-here r k = rw (← same-token, k) (refl, refl)
-
-    pub null-found : (r next : ℕ) → Found (Nullability r) text from next → 0 < next → (r ≡ roleAt text at) × (next ≡ afterRole text at)
-    unfolding Found
-    null-found r next w h =
-        let p = w h in
-        let q = null-here (tokenAt text from) refl r (p .0) in
-        (q .0, sym (p .1) ∙ q .1)
-
--- a byte up to Z
-pub up-to-z : (b : ℕ) → leb b 90 ≡ true → b < 91
-up-to-z b e = let t = leb-true b 90 e in omega arith
-
--- behind one space
-module _ (text : List ℕ) (at : ℕ) (h : at < length text) (e : getD text at 0 ≡ 32) where
-  pub space-past : tokenAt text (at + 1) ≡ tokenAt text at
-  space-past = token-spaces text (at + 1) ∙ ap (tokenAt text) (sym (spaces-go text at h e)) ∙ sym (token-spaces text at)
-
-  -- no word for nullability begins with a capital letter
-  pub null-type : at + 1 < length text → 64 < getD text (at + 1) 0 → getD text (at + 1) 0 < 91 → (1 ≡ roleAt text at) × (at ≡ afterRole text at)
-  null-type l a b = null-other text at (at + 1) (sym (spaces-go text at h e ∙ spaces-stop text (at + 1) l (λ z. omega arith))) (λ z. omega arith)
-
-  pub null-word : (r next : ℕ) → Found (Nullability r) text (at + 1) next → 0 < next → (r ≡ roleAt text at) × (next ≡ afterRole text at)
-  unfolding Found roleAt afterRole stands
-  null-word r next w l =
-      let p = w l in
-      let k : (tokenAt text at) .kind ≡ Nullability r = ap (λ (t : Token). t .kind) (sym space-past) ∙ p .0 in
-      let n : (tokenAt text at) .next ≡ next = ap (λ (t : Token). t .next) (sym space-past) ∙ p .1 in
-      rw (k, n) (refl, refl)

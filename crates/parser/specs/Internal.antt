@@ -1,3 +1,2 @@
 pub mod Steps
 pub mod Computed
-pub mod Sought

@@ -5,6 +5,7 @@
 ghost use mathlib.Core.Path.{_≡_};
 ghost use Prim.Native.Nat.{_+_, _-_, _%_, _≤_};
 ghost use lib.ListN.{length};
+ghost use Rattle.tokenizer.specs.Edges.{edges};
 ghost use Rattle.tokenizer.specs.Text.{if_then_else_};
 ghost use Rattle.datatype.specs.Table.{rowsLent};
 ghost use Rattle.parser.specs.Parse.{fieldAt, listField, listNameAt, namedRunEnds, defaultRunEnds, listAt, fixedSizeListAt, structAt, unionAt, unionField, dictionaryAt, mapAt, runEndEncodedAt, typeAt, firstType, readOf, readMeans, rowsOf};
@@ -14,7 +15,6 @@ use crate::leaves::parse_fixed_size_binary;
 use crate::leaves::parse_interval;
 use crate::leaves::parse_time;
 use crate::leaves::parse_timestamp;
-use crate::quick::Word;
 use crate::rows::close;
 use crate::rows::put_field;
 use crate::rows::put_list_field;
@@ -63,10 +63,11 @@ use datatype::rows::MAX_TEXT;
 use datatype::rows::NON_NULL;
 use datatype::rows::NULLABLE;
 use datatype::rows::rows_lent;
+use tokenizer::EDGES;
+use tokenizer::WordTable;
 use tokenizer::refusal;
 
 mod leaves;
-mod quick;
 mod rows;
 mod tokens;
 mod zones;
@@ -86,6 +87,11 @@ pub(crate) enum Look {
 }
 
 // A listed word or a number without a sign: its value, and the place behind it.
+pub(crate) struct Word {
+    pub value: u32,
+    pub next: usize,
+}
+
 pub(crate) enum Valued {
     Value(Word),
     Refused(u32),
@@ -131,6 +137,7 @@ pub(crate) struct Nullability {
 
 // A type at a place: a level (3) and a row (4) must be left, then its word is judged.
 fn parse_next_type(
+    words: &WordTable,
     text: &[u8],
     rows: &mut [u32],
     at: usize,
@@ -139,6 +146,7 @@ fn parse_next_type(
     level: usize,
 ) -> Read
     requires { ⌜ Room (now text) (now rows) row left ⌝ }
+    requires { ⌜ now words ≡ edges ⌝ }
     ensures { λ r. ⌜ Meets (typeAt (now (text .entry)) level at left) row left (now (rows .entry)) r (now (rows .exit)) ⌝ }
 {
     if level == 0 {
@@ -147,7 +155,7 @@ fn parse_next_type(
     if left == 0 {
         return Read::Refused(refusal::TOO_MANY_ROWS);
     }
-    let word = match parse_type_word(text, at) {
+    let word = match parse_type_word(words, text, at) {
         Valued::Value(word) => word,
         Valued::Refused(n) => return Read::Refused(n),
     };
@@ -156,28 +164,29 @@ fn parse_next_type(
     let left = left - 1;
     let level = level - 1;
     match kind {
-        TIMESTAMP => parse_timestamp(text, rows, kind, next, row),
-        TIME32 | TIME64 | DURATION => parse_time(text, rows, kind, next, row),
-        INTERVAL => parse_interval(text, rows, kind, next, row),
-        FIXED_SIZE_BINARY => parse_fixed_size_binary(text, rows, kind, next, row),
+        TIMESTAMP => parse_timestamp(words, text, rows, kind, next, row),
+        TIME32 | TIME64 | DURATION => parse_time(words, text, rows, kind, next, row),
+        INTERVAL => parse_interval(words, text, rows, kind, next, row),
+        FIXED_SIZE_BINARY => parse_fixed_size_binary(words, text, rows, kind, next, row),
         LIST | LIST_VIEW | LARGE_LIST | LARGE_LIST_VIEW => {
-            parse_list(text, rows, kind, next, row, left, level)
+            parse_list(words, text, rows, kind, next, row, left, level)
         }
-        FIXED_SIZE_LIST => parse_fixed_size_list(text, rows, kind, next, row, left, level),
-        STRUCT => parse_struct(text, rows, kind, next, row, left, level),
-        UNION => parse_union(text, rows, kind, next, row, left, level),
-        DICTIONARY => parse_dictionary(text, rows, kind, next, row, left, level),
+        FIXED_SIZE_LIST => parse_fixed_size_list(words, text, rows, kind, next, row, left, level),
+        STRUCT => parse_struct(words, text, rows, kind, next, row, left, level),
+        UNION => parse_union(words, text, rows, kind, next, row, left, level),
+        DICTIONARY => parse_dictionary(words, text, rows, kind, next, row, left, level),
         DECIMAL32 | DECIMAL64 | DECIMAL128 | DECIMAL256 => {
-            parse_decimal(text, rows, kind, next, row)
+            parse_decimal(words, text, rows, kind, next, row)
         }
-        MAP => parse_map(text, rows, kind, next, row, left, level),
-        RUN_END_ENCODED => parse_run_end_encoded(text, rows, kind, next, row, left, level),
+        MAP => parse_map(words, text, rows, kind, next, row, left, level),
+        RUN_END_ENCODED => parse_run_end_encoded(words, text, rows, kind, next, row, left, level),
         _ => put_parent(rows, row, 0, kind, 0, 0, next),
     }
 }
 
 // "name": [nullability] type, with a union id.
 fn parse_field(
+    words: &WordTable,
     text: &[u8],
     rows: &mut [u32],
     id: u32,
@@ -187,18 +196,19 @@ fn parse_field(
     level: usize,
 ) -> Read
     requires { ⌜ Room (now text) (now rows) row left ⌝ }
+    requires { ⌜ now words ≡ edges ⌝ }
     ensures { λ r. ⌜ Meets (fieldAt (now (text .entry)) (typeAt (now (text .entry)) level) id at left) row left (now (rows .entry)) r (now (rows .exit)) ⌝ }
 {
-    let name = match parse_double_quoted_string(text, at) {
+    let name = match parse_double_quoted_string(words, text, at) {
         Quoted::String(name) => name,
         Quoted::Refused(n) => return Read::Refused(n),
     };
-    let colon = match expect_token(text, name.next, b':') {
+    let colon = match expect_token(words, text, name.next, b':') {
         Step::Next(next) => next,
         Step::Refused(n) => return Read::Refused(n),
     };
-    let null = parse_opt_nullable(text, colon);
-    let tree = parse_next_type(text, rows, null.next, row, left, level);
+    let null = parse_opt_nullable(words, text, colon);
+    let tree = parse_next_type(words, text, rows, null.next, row, left, level);
     let Read::Tree(next, _) = tree else {
         return tree;
     };
@@ -217,6 +227,7 @@ fn parse_field(
 
 // [nullability] type [, field: 'name'].
 fn parse_list_field(
+    words: &WordTable,
     text: &[u8],
     rows: &mut [u32],
     at: usize,
@@ -225,10 +236,11 @@ fn parse_list_field(
     level: usize,
 ) -> Read
     requires { ⌜ Room (now text) (now rows) row left ⌝ }
+    requires { ⌜ now words ≡ edges ⌝ }
     ensures { λ r. ⌜ Meets (listField (now (text .entry)) (typeAt (now (text .entry)) level) at left) row left (now (rows .entry)) r (now (rows .exit)) ⌝ }
 {
-    let null = parse_opt_nullable(text, at);
-    let item = parse_next_type(text, rows, null.next, row, left, level);
+    let null = parse_opt_nullable(words, text, at);
+    let item = parse_next_type(words, text, rows, null.next, row, left, level);
     let Read::Tree(next, used) = item else {
         return item;
     };
@@ -236,7 +248,7 @@ fn parse_list_field(
         put_list_field(rows, row, null.role);
         return Read::Tree(next, used);
     };
-    let name = match parse_list_name(text, comma) {
+    let name = match parse_list_name(words, text, comma) {
         Quoted::String(name) => name,
         Quoted::Refused(n) => return Read::Refused(n),
     };
@@ -253,24 +265,26 @@ fn parse_list_field(
 }
 
 // A list's name behind the comma: field: 'name'.
-fn parse_list_name(text: &[u8], at: usize) -> Quoted
+fn parse_list_name(words: &WordTable, text: &[u8], at: usize) -> Quoted
+    requires { ⌜ now words ≡ edges ⌝ }
     ensures { λ r. ⌜ r ≡ quotedOf (listNameAt (now (text .entry)) at) ⌝ }
 {
-    let word = match expect_field(text, at) {
+    let word = match expect_field(words, text, at) {
         Step::Next(next) => next,
         Step::Refused(n) => return Quoted::Refused(n),
     };
-    let colon = match expect_token(text, word, b':') {
+    let colon = match expect_token(words, text, word, b':') {
         Step::Next(next) => next,
         Step::Refused(n) => return Quoted::Refused(n),
     };
-    parse_single_quoted_string(text, colon)
+    parse_single_quoted_string(words, text, colon)
 }
 
 // ---- types with children
 
 // List, ListView, LargeList and LargeListView.
 fn parse_list(
+    words: &WordTable,
     text: &[u8],
     rows: &mut [u32],
     kind: u32,
@@ -280,21 +294,23 @@ fn parse_list(
     level: usize,
 ) -> Read
     requires { ⌜ Room (now text) (now rows) row (left + 1) ⌝ }
+    requires { ⌜ now words ≡ edges ⌝ }
     ensures { λ r. ⌜ Meets (listAt (now (text .entry)) (typeAt (now (text .entry)) level) kind at left) row (left + 1) (now (rows .entry)) r (now (rows .exit)) ⌝ }
 {
-    let open = match expect_token(text, at, b'(') {
+    let open = match expect_token(words, text, at, b'(') {
         Step::Next(next) => next,
         Step::Refused(n) => return Read::Refused(n),
     };
-    let field = parse_list_field(text, rows, open, row + 1, left, level);
+    let field = parse_list_field(words, text, rows, open, row + 1, left, level);
     let Read::Tree(next, used) = field else {
         return field;
     };
-    close(text, rows, next, row, used, kind, 0, 0)
+    close(words, text, rows, next, row, used, kind, 0, 0)
 }
 
 // FixedSizeList(length x list field), or FixedSizeList(length, type).
 fn parse_fixed_size_list(
+    words: &WordTable,
     text: &[u8],
     rows: &mut [u32],
     kind: u32,
@@ -304,36 +320,38 @@ fn parse_fixed_size_list(
     level: usize,
 ) -> Read
     requires { ⌜ Room (now text) (now rows) row (left + 1) ⌝ }
+    requires { ⌜ now words ≡ edges ⌝ }
     ensures { λ r. ⌜ Meets (fixedSizeListAt (now (text .entry)) (typeAt (now (text .entry)) level) kind at left) row (left + 1) (now (rows .entry)) r (now (rows .exit)) ⌝ }
 {
-    let open = match expect_token(text, at, b'(') {
+    let open = match expect_token(words, text, at, b'(') {
         Step::Next(next) => next,
         Step::Refused(n) => return Read::Refused(n),
     };
-    let length = match parse_length(text, open) {
+    let length = match parse_length(words, text, open) {
         Valued::Value(length) => length,
         Valued::Refused(n) => return Read::Refused(n),
     };
-    if let Look::Next(x) = next_if_x(text, length.next) {
-        let field = parse_list_field(text, rows, x, row + 1, left, level);
+    if let Look::Next(x) = next_if_x(words, text, length.next) {
+        let field = parse_list_field(words, text, rows, x, row + 1, left, level);
         let Read::Tree(next, used) = field else {
             return field;
         };
-        return close(text, rows, next, row, used, kind, length.value, 0);
+        return close(words, text, rows, next, row, used, kind, length.value, 0);
     }
-    let comma = match expect_token(text, length.next, b',') {
+    let comma = match expect_token(words, text, length.next, b',') {
         Step::Next(next) => next,
         Step::Refused(n) => return Read::Refused(n),
     };
-    let item = parse_next_type(text, rows, comma, row + 1, left, level);
+    let item = parse_next_type(words, text, rows, comma, row + 1, left, level);
     let Read::Tree(next, used) = item else {
         return item;
     };
     put_list_field(rows, row + 1, NULLABLE);
-    close(text, rows, next, row, used, kind, length.value, 0)
+    close(words, text, rows, next, row, used, kind, length.value, 0)
 }
 
 fn parse_dictionary(
+    words: &WordTable,
     text: &[u8],
     rows: &mut [u32],
     kind: u32,
@@ -343,28 +361,30 @@ fn parse_dictionary(
     level: usize,
 ) -> Read
     requires { ⌜ Room (now text) (now rows) row (left + 1) ⌝ }
+    requires { ⌜ now words ≡ edges ⌝ }
     ensures { λ r. ⌜ Meets (dictionaryAt (now (text .entry)) (typeAt (now (text .entry)) level) kind at left) row (left + 1) (now (rows .entry)) r (now (rows .exit)) ⌝ }
 {
-    let open = match expect_token(text, at, b'(') {
+    let open = match expect_token(words, text, at, b'(') {
         Step::Next(next) => next,
         Step::Refused(n) => return Read::Refused(n),
     };
-    let key = parse_next_type(text, rows, open, row + 1, left, level);
+    let key = parse_next_type(words, text, rows, open, row + 1, left, level);
     let Read::Tree(behind, used) = key else {
         return key;
     };
-    let comma = match expect_token(text, behind, b',') {
+    let comma = match expect_token(words, text, behind, b',') {
         Step::Next(next) => next,
         Step::Refused(n) => return Read::Refused(n),
     };
-    let value = parse_next_type(text, rows, comma, row + 1 + used, left - used, level);
+    let value = parse_next_type(words, text, rows, comma, row + 1 + used, left - used, level);
     let Read::Tree(next, more) = value else {
         return value;
     };
-    close(text, rows, next, row, used + more, kind, 0, 0)
+    close(words, text, rows, next, row, used + more, kind, 0, 0)
 }
 
 fn parse_struct(
+    words: &WordTable,
     text: &[u8],
     rows: &mut [u32],
     kind: u32,
@@ -374,9 +394,10 @@ fn parse_struct(
     level: usize,
 ) -> Read
     requires { ⌜ Room (now text) (now rows) row (left + 1) ⌝ }
+    requires { ⌜ now words ≡ edges ⌝ }
     ensures { λ r. ⌜ Meets (structAt (now (text .entry)) (typeAt (now (text .entry)) level) kind at left) row (left + 1) (now (rows .entry)) r (now (rows .exit)) ⌝ }
 {
-    let open = match expect_token(text, at, b'(') {
+    let open = match expect_token(words, text, at, b'(') {
         Step::Next(next) => next,
         Step::Refused(n) => return Read::Refused(n),
     };
@@ -386,20 +407,30 @@ fn parse_struct(
         if let Look::Next(end) = next_if(text, next, b')') {
             return put_parent(rows, row, used, kind, 0, 0, end);
         }
-        let field = parse_field(text, rows, 0, next, row + 1 + used, left - used, level);
+        let field = parse_field(
+            words,
+            text,
+            rows,
+            0,
+            next,
+            row + 1 + used,
+            left - used,
+            level,
+        );
         let Read::Tree(behind, more) = field else {
             return field;
         };
         used += more;
         match next_if(text, behind, b',') {
             Look::Next(comma) => next = comma,
-            Look::Other => return close(text, rows, behind, row, used, kind, 0, 0),
+            Look::Other => return close(words, text, rows, behind, row, used, kind, 0, 0),
         }
     }
 }
 
 // Union ids are judged behind the mark that closes the type.
 fn parse_union(
+    words: &WordTable,
     text: &[u8],
     rows: &mut [u32],
     kind: u32,
@@ -409,13 +440,14 @@ fn parse_union(
     level: usize,
 ) -> Read
     requires { ⌜ Room (now text) (now rows) row (left + 1) ⌝ }
+    requires { ⌜ now words ≡ edges ⌝ }
     ensures { λ r. ⌜ Meets (unionAt (now (text .entry)) (typeAt (now (text .entry)) level) kind at left) row (left + 1) (now (rows .entry)) r (now (rows .exit)) ⌝ }
 {
-    let open = match expect_token(text, at, b'(') {
+    let open = match expect_token(words, text, at, b'(') {
         Step::Next(next) => next,
         Step::Refused(n) => return Read::Refused(n),
     };
-    let mode = match parse_union_mode(text, open) {
+    let mode = match parse_union_mode(words, text, open) {
         Valued::Value(mode) => mode,
         Valued::Refused(n) => return Read::Refused(n),
     };
@@ -428,11 +460,11 @@ fn parse_union(
             }
             return put_parent(rows, row, used, kind, mode.value, 0, end);
         }
-        let comma = match expect_token(text, next, b',') {
+        let comma = match expect_token(words, text, next, b',') {
             Step::Next(comma) => comma,
             Step::Refused(n) => return Read::Refused(n),
         };
-        let field = parse_union_field(text, rows, comma, row + 1 + used, left - used, level);
+        let field = parse_union_field(words, text, rows, comma, row + 1 + used, left - used, level);
         let Read::Tree(behind, more) = field else {
             return field;
         };
@@ -443,6 +475,7 @@ fn parse_union(
 
 // id: ("name": [nullability] type).
 fn parse_union_field(
+    words: &WordTable,
     text: &[u8],
     rows: &mut [u32],
     at: usize,
@@ -451,26 +484,27 @@ fn parse_union_field(
     level: usize,
 ) -> Read
     requires { ⌜ Room (now text) (now rows) row left ⌝ }
+    requires { ⌜ now words ≡ edges ⌝ }
     ensures { λ r. ⌜ Meets (unionField (now (text .entry)) (typeAt (now (text .entry)) level) at left) row left (now (rows .entry)) r (now (rows .exit)) ⌝ }
 {
-    let id = match parse_i8(text, at) {
+    let id = match parse_i8(words, text, at) {
         Number::Value(id) => id,
         Number::Refused(n) => return Read::Refused(n),
     };
-    let colon = match expect_token(text, id.next, b':') {
+    let colon = match expect_token(words, text, id.next, b':') {
         Step::Next(next) => next,
         Step::Refused(n) => return Read::Refused(n),
     };
-    let open = match expect_token(text, colon, b'(') {
+    let open = match expect_token(words, text, colon, b'(') {
         Step::Next(next) => next,
         Step::Refused(n) => return Read::Refused(n),
     };
     let type_id = wrapped(id.negative, id.magnitude);
-    let field = parse_field(text, rows, type_id, open, row, left, level);
+    let field = parse_field(words, text, rows, type_id, open, row, left, level);
     let Read::Tree(next, used) = field else {
         return field;
     };
-    match expect_token(text, next, b')') {
+    match expect_token(words, text, next, b')') {
         Step::Next(end) => Read::Tree(end, used),
         Step::Refused(n) => Read::Refused(n),
     }
@@ -491,6 +525,7 @@ fn wrapped(negative: bool, magnitude: u64) -> u32
 }
 
 fn parse_map(
+    words: &WordTable,
     text: &[u8],
     rows: &mut [u32],
     kind: u32,
@@ -500,13 +535,14 @@ fn parse_map(
     level: usize,
 ) -> Read
     requires { ⌜ Room (now text) (now rows) row (left + 1) ⌝ }
+    requires { ⌜ now words ≡ edges ⌝ }
     ensures { λ r. ⌜ Meets (mapAt (now (text .entry)) (typeAt (now (text .entry)) level) kind at left) row (left + 1) (now (rows .entry)) r (now (rows .exit)) ⌝ }
 {
-    let open = match expect_token(text, at, b'(') {
+    let open = match expect_token(words, text, at, b'(') {
         Step::Next(next) => next,
         Step::Refused(n) => return Read::Refused(n),
     };
-    let entries = parse_field(text, rows, 0, open, row + 1, left, level);
+    let entries = parse_field(words, text, rows, 0, open, row + 1, left, level);
     let Read::Tree(behind, used) = entries else {
         return entries;
     };
@@ -514,19 +550,30 @@ fn parse_map(
     if number != 0 {
         return Read::Refused(number);
     }
-    let comma = match expect_token(text, behind, b',') {
+    let comma = match expect_token(words, text, behind, b',') {
         Step::Next(next) => next,
         Step::Refused(n) => return Read::Refused(n),
     };
-    let sorted = match parse_map_sorted(text, comma) {
+    let sorted = match parse_map_sorted(words, text, comma) {
         Valued::Value(sorted) => sorted,
         Valued::Refused(n) => return Read::Refused(n),
     };
-    close(text, rows, sorted.next, row, used, kind, sorted.value, 0)
+    close(
+        words,
+        text,
+        rows,
+        sorted.next,
+        row,
+        used,
+        kind,
+        sorted.value,
+        0,
+    )
 }
 
 // RunEndEncoded of two fields if a whole double-quoted string is next, else of two types.
 fn parse_run_end_encoded(
+    words: &WordTable,
     text: &[u8],
     rows: &mut [u32],
     kind: u32,
@@ -536,28 +583,30 @@ fn parse_run_end_encoded(
     level: usize,
 ) -> Read
     requires { ⌜ Room (now text) (now rows) row (left + 1) ⌝ }
+    requires { ⌜ now words ≡ edges ⌝ }
     ensures { λ r. ⌜ Meets (runEndEncodedAt (now (text .entry)) (typeAt (now (text .entry)) level) kind at left) row (left + 1) (now (rows .entry)) r (now (rows .exit)) ⌝ }
 {
-    let open = match expect_token(text, at, b'(') {
+    let open = match expect_token(words, text, at, b'(') {
         Step::Next(next) => next,
         Step::Refused(n) => return Read::Refused(n),
     };
-    if peek_double_quoted(text, open) {
-        let fields = ree_fields(text, rows, open, row + 1, left, level);
+    if peek_double_quoted(words, text, open) {
+        let fields = ree_fields(words, text, rows, open, row + 1, left, level);
         let Read::Tree(next, used) = fields else {
             return fields;
         };
-        return close(text, rows, next, row, used, kind, 0, 0);
+        return close(words, text, rows, next, row, used, kind, 0, 0);
     }
-    let fields = ree_types(text, rows, open, row + 1, left, level);
+    let fields = ree_types(words, text, rows, open, row + 1, left, level);
     let Read::Tree(next, used) = fields else {
         return fields;
     };
-    close(text, rows, next, row, used, kind, 0, 0)
+    close(words, text, rows, next, row, used, kind, 0, 0)
 }
 
 // RunEndEncoded's two fields, in the long form.
 fn ree_fields(
+    words: &WordTable,
     text: &[u8],
     rows: &mut [u32],
     at: usize,
@@ -566,20 +615,21 @@ fn ree_fields(
     level: usize,
 ) -> Read
     requires { ⌜ Room (now text) (now rows) row left ⌝ }
+    requires { ⌜ now words ≡ edges ⌝ }
     ensures { λ r. ⌜ MeetsFields (namedRunEnds (now (text .entry)) (typeAt (now (text .entry)) level) at left) row left (now (rows .entry)) r (now (rows .exit)) ⌝ }
 {
-    let run_ends = parse_field(text, rows, 0, at, row, left, level);
+    let run_ends = parse_field(words, text, rows, 0, at, row, left, level);
     let Read::Tree(behind, used) = run_ends else {
         return run_ends;
     };
     if role_of(rows, row, row + used) != NON_NULL as usize {
         return Read::Refused(refusal::MUST_BE_NON_NULL);
     }
-    let comma = match expect_token(text, behind, b',') {
+    let comma = match expect_token(words, text, behind, b',') {
         Step::Next(next) => next,
         Step::Refused(n) => return Read::Refused(n),
     };
-    let values = parse_field(text, rows, 0, comma, row + used, left - used, level);
+    let values = parse_field(words, text, rows, 0, comma, row + used, left - used, level);
     let Read::Tree(next, more) = values else {
         return values;
     };
@@ -588,6 +638,7 @@ fn ree_fields(
 
 // RunEndEncoded's fields in the short form: two types, named by the name list.
 fn ree_types(
+    words: &WordTable,
     text: &[u8],
     rows: &mut [u32],
     at: usize,
@@ -596,23 +647,24 @@ fn ree_types(
     level: usize,
 ) -> Read
     requires { ⌜ Room (now text) (now rows) row left ⌝ }
+    requires { ⌜ now words ≡ edges ⌝ }
     ensures { λ r. ⌜ MeetsFields (defaultRunEnds (now (text .entry)) (typeAt (now (text .entry)) level) at left) row left (now (rows .entry)) r (now (rows .exit)) ⌝ }
 {
-    let sure = parse_opt_nullable(text, at);
+    let sure = parse_opt_nullable(words, text, at);
     if sure.role != NON_NULL {
         return Read::Refused(refusal::MUST_BE_NON_NULL);
     }
-    let run_ends = parse_next_type(text, rows, sure.next, row, left, level);
+    let run_ends = parse_next_type(words, text, rows, sure.next, row, left, level);
     let Read::Tree(behind, used) = run_ends else {
         return run_ends;
     };
     put_run_ends_field(rows, row);
-    let comma = match expect_token(text, behind, b',') {
+    let comma = match expect_token(words, text, behind, b',') {
         Step::Next(next) => next,
         Step::Refused(n) => return Read::Refused(n),
     };
-    let null = parse_opt_nullable(text, comma);
-    let values = parse_next_type(text, rows, null.next, row + used, left - used, level);
+    let null = parse_opt_nullable(words, text, comma);
+    let values = parse_next_type(words, text, rows, null.next, row + used, left - used, level);
     let Read::Tree(next, more) = values else {
         return values;
     };
@@ -637,7 +689,7 @@ pub fn parse_first_type(text: &[u8], rows: &mut [u32]) -> Read
         return Read::Refused(refusal::NOT_UTF8);
     }
     let left = rows_lent(rows.len());
-    match parse_next_type(text, rows, 0, 0, left, MAX_LEVELS) {
+    match parse_next_type(&EDGES, text, rows, 0, 0, left, MAX_LEVELS) {
         Read::Tree(next, used) => Read::Tree(next, used),
         Read::Refused(n) => {
             clear_words(rows);

@@ -3,6 +3,7 @@ ghost use mathlib.Core.Path.{_≡_};
 ghost use Prim.Native.Nat.{_+_, _*_, _-_, _≤_, _<_};
 ghost use lib.ListN.{length, getD};
 ghost use lib.Seq.{sets};
+ghost use Rattle.tokenizer.specs.Edges.{edges};
 ghost use Rattle.tokenizer.specs.Token.{rparen};
 ghost use Rattle.datatype.specs.Limits.{maxRows};
 ghost use Rattle.datatype.specs.Table.{rowWords, wordsOf};
@@ -26,6 +27,7 @@ use datatype::rows::SCALE;
 use datatype::rows::UNION_ID;
 use datatype::rows::ZONE_LENGTH;
 use datatype::rows::ZONE_START;
+use tokenizer::WordTable;
 
 // Writes the row of a type that is no field.
 pub(crate) fn put_row(
@@ -75,6 +77,7 @@ pub(crate) fn put_parent(
 
 // The mark that closes a type; its row is then written in front of the rows of its children.
 pub(crate) fn close(
+    words: &WordTable,
     text: &[u8],
     rows: &mut [u32],
     at: usize,
@@ -85,9 +88,10 @@ pub(crate) fn close(
     scale: u32,
 ) -> Read
     requires { ⌜ Room (now text) (now rows) row (used + 1) ⌝ }
+    requires { ⌜ now words ≡ edges ⌝ }
     ensures { λ r. ⌜ Closed (need (now (text .entry)) rparen at) row used (bareRow kind param scale 0 0) (now (rows .entry)) r (now (rows .exit)) ⌝ }
 {
-    match expect_token(text, at, b')') {
+    match expect_token(words, text, at, b')') {
         Step::Next(next) => put_parent(rows, row, used, kind, param, scale, next),
         Step::Refused(n) => Read::Refused(n),
     }

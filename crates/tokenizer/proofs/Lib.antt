@@ -6,4 +6,6 @@ pub mod Listed
 pub mod Tokens
 pub mod StringLaws
 pub mod Marks
+pub mod Walks
+pub mod WordTokens
 pub mod Utf8Laws

@@ -35,7 +35,7 @@ markKind m = if eqb m 40 then LParen else if eqb m 41 then RParen else if eqb m 
 -- ---- cases
 
 -- two numbers are equal or not
-case : {A : Type 0} (a b : ℕ) → (a ≡ b → A) → ((a ≡ b → ⊥) → A) → A
+pub case : {A : Type 0} (a b : ℕ) → (a ≡ b → A) → ((a ≡ b → ⊥) → A) → A
 case {A} a b f g = go (eqb a b) refl where
   go : (t : Bool) → eqb a b ≡ t → A
   go true e = f (eqb-true a b e)

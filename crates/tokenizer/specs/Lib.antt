@@ -4,4 +4,7 @@ pub mod Utf8
 pub mod Words
 pub mod Token
 pub mod Places
+pub mod Edges
+pub mod WordTable
 pub mod Internal
+pub mod Examples

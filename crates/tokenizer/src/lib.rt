@@ -1,12 +1,16 @@
 // Tokens of a type text: the work of the Rust's `Tokenizer`.
+mod edges;
 mod number;
 pub mod refusal;
 mod tokenizer;
 mod utf8;
 mod words;
 
+pub use edges::EDGES;
+pub use edges::WordTable;
 pub use tokenizer::is_separator;
 pub use tokenizer::next_token;
+pub use tokenizer::next_token_by;
 pub use tokenizer::skip_spaces;
 pub use utf8::is_utf8;
 

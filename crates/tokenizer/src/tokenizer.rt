@@ -1,13 +1,16 @@
 // The token at a place of a text.
 use crate::Token;
 use crate::TokenKind;
-use crate::words::word_kind;
+use crate::edges::EDGES;
+use crate::edges::WordTable;
+use crate::words::word_token;
 ghost use mathlib.Core.Path.{_≡_};
 ghost use mathlib.Core.Bool.{true, false};
 ghost use Prim.Native.Nat.{_+_, _<_, _≤_};
 ghost use lib.ListN.{length, drop};
-ghost use Rattle.tokenizer.specs.Token.{token, isSeparator, wordOf, wordKind, escapedAfter, untilQuote, stringToken, tokenAt};
+ghost use Rattle.tokenizer.specs.Token.{token, isSeparator, escapedAfter, untilQuote, stringToken, tokenAt};
 ghost use Rattle.tokenizer.specs.Places.{afterSpaces};
+ghost use Rattle.tokenizer.specs.WordTable.{tokenBy};
 ghost use Rattle.tokenizer.specs.Internal.Ends.{wordEnd, closes, quoteEnd};
 use crate::refusal;
 
@@ -45,7 +48,7 @@ pub fn is_separator(b: u8) -> bool
 }
 
 // The place behind the word that starts at `from`.
-fn word_end(text: &[u8], from: usize) -> usize
+pub(crate) fn word_end(text: &[u8], from: usize) -> usize
     ensures { λ r. ⌜ r ≡ wordEnd (now (text .entry)) from ⌝ }
 {
     let mut i = from;
@@ -157,7 +160,7 @@ fn past_letters(text: &[u8], from: usize, quote: u8) -> usize
 }
 
 // The token of a kind that starts at a place and has a length.
-fn token_of(kind: TokenKind, at: usize, size: usize) -> Token
+pub(crate) fn token_of(kind: TokenKind, at: usize, size: usize) -> Token
     requires { ⌜ at + size < 18446744073709551616 ⌝ }
     ensures { λ r. ⌜ r ≡ token kind at size ⌝ }
 {
@@ -191,19 +194,9 @@ fn quoted_string(text: &[u8], at: usize, quote: u8, kind: TokenKind) -> Token
     }
 }
 
-// The word that starts at a place.
-fn word_token(text: &[u8], at: usize) -> Token
-    requires { ⌜ at < length (now text) ⌝ }
-    ensures { λ r. ⌜ r ≡ token (wordKind (wordOf (drop at (now (text .entry))))) at (length (wordOf (drop at (now (text .entry))))) ⌝ }
-{
-    let end = word_end(text, at);
-    let kind = word_kind(&text[at..end]);
-    token_of(kind, at, end - at)
-}
-
-// The token at or behind a place. Only the space is skipped.
-pub fn next_token(text: &[u8], from: usize) -> Token
-    ensures { λ r. ⌜ r ≡ tokenAt (now (text .entry)) from ⌝ }
+// The token at or behind a place, a word by a walk through the table that is lent. Only the space is skipped.
+pub fn next_token_by(table: &WordTable, text: &[u8], from: usize) -> Token
+    ensures { λ r. ⌜ r ≡ tokenBy (now (table .entry)) (now (text .entry)) from ⌝ }
 {
     let at = skip_spaces(text, from);
     if at >= text.len() {
@@ -216,6 +209,13 @@ pub fn next_token(text: &[u8], from: usize) -> Token
         b':' => token_of(TokenKind::Colon, at, 1),
         b'"' => quoted_string(text, at, b'"', TokenKind::DoubleQuotedString),
         b'\'' => quoted_string(text, at, b'\'', TokenKind::SingleQuotedString),
-        _ => word_token(text, at),
+        _ => word_token(table, text, at),
     }
+}
+
+// The token at or behind a place.
+pub fn next_token(text: &[u8], from: usize) -> Token
+    ensures { λ r. ⌜ r ≡ tokenAt (now (text .entry)) from ⌝ }
+{
+    next_token_by(&EDGES, text, from)
 }

@@ -41,7 +41,10 @@ const TEXTS: &[(&str, Result<usize, u32>)] = &[
     ("Struct(\"\\a\": Int8)", Err(6)), ("Struct(\"\\a\" b\": Int8)", Ok(2)),
     ("List(Int8, field: '\\\\')", Err(6)),
     ("FixedSizeList(4, non-null Int8)", Err(9)), ("FixedSizeList(4, Int8, field: 'a')", Err(9)),
-    ("Timestamp(µs)", Ok(1)), ("Timestamp(μs)", Err(8)),
+    ("Timestamp(µs)", Ok(1)), ("Timestamp(μs)", Err(8)), ("Timestamp(µ)", Err(8)),
+    ("Int", Err(8)), ("Utf8Vie", Err(8)), ("Decimal1", Err(8)), ("int8", Err(8)), ("Int8x", Err(8)),
+    ("Int9", Err(8)), ("List\t", Err(8)), ("Int8\0", Err(8)), ("Int16", Ok(1)),
+    ("List(Int8)", Ok(2)), ("ListView(Int8)", Ok(2)), ("s", Err(9)), ("sorted", Err(9)),
     ("Struct(\"a\": Int8, \"a\": Int8)", Ok(3)),
     ("Dictionary(Int8, Dictionary(Utf8, Int8))", Ok(5)),
 ];
@@ -90,6 +93,7 @@ pub fn known() -> Vec<Known> {
             Err(4),
         ),
         (format!("FixedSizeBinary({}7)", "0".repeat(16_000)), Ok(1)),
+        ("x".repeat(16_384), Err(8)),
         (" ".repeat(16_384), Err(5)),
         (" ".repeat(16_385), Err(1)),
     ]);

@@ -27,7 +27,7 @@ use Rattle.parser.specs.declared.Quoted.{Quoted}
 use Rattle.parser.specs.declared.Quoted.the-variants as Q
 use Rattle.parser.specs.declared.Read.{Read}
 use Rattle.parser.specs.declared.Read.the-variants as R
-use Rattle.parser.specs.declared.quick.Word.{Word}
+use Rattle.parser.specs.declared.Word.{Word}
 use Rattle.parser.specs.declared.Signed.{Signed}
 use Rattle.parser.specs.declared.Span.{Span}
 

@@ -70,122 +70,122 @@ use Rattle.subtrees.proofs.try_new.Reads as try-new-reads
 use Rattle.parser.proofs.wrapped.Reads as wrapped-reads
 
 -- the level falls with each type; within one, a reader calls only those of a lower number
-abbrev pub μ-parse-dictionary : Measures 2 parse-dictionary-kinds.ps ℕ
-μ-parse-dictionary κs a = 4 * a .1 .1 .1 .1 .1 .1 .0 + 1
+abbrev pub μ-parse-dictionary : Measures 3 parse-dictionary-kinds.ps ℕ
+μ-parse-dictionary κs a = 4 * a .1 .1 .1 .1 .1 .1 .1 .0 + 1
 
-abbrev pub μ-parse-field : Measures 2 parse-field-kinds.ps ℕ
-μ-parse-field κs a = 4 * a .1 .1 .1 .1 .1 .1 .0 + 1
+abbrev pub μ-parse-field : Measures 3 parse-field-kinds.ps ℕ
+μ-parse-field κs a = 4 * a .1 .1 .1 .1 .1 .1 .1 .0 + 1
 
-abbrev pub μ-parse-fixed-size-list : Measures 2 parse-fixed-size-list-kinds.ps ℕ
-μ-parse-fixed-size-list κs a = 4 * a .1 .1 .1 .1 .1 .1 .0 + 2
+abbrev pub μ-parse-fixed-size-list : Measures 3 parse-fixed-size-list-kinds.ps ℕ
+μ-parse-fixed-size-list κs a = 4 * a .1 .1 .1 .1 .1 .1 .1 .0 + 2
 
-abbrev pub μ-parse-list : Measures 2 parse-list-kinds.ps ℕ
-μ-parse-list κs a = 4 * a .1 .1 .1 .1 .1 .1 .0 + 2
+abbrev pub μ-parse-list : Measures 3 parse-list-kinds.ps ℕ
+μ-parse-list κs a = 4 * a .1 .1 .1 .1 .1 .1 .1 .0 + 2
 
-abbrev pub μ-parse-list-field : Measures 2 parse-list-field-kinds.ps ℕ
-μ-parse-list-field κs a = 4 * a .1 .1 .1 .1 .1 .0 + 1
+abbrev pub μ-parse-list-field : Measures 3 parse-list-field-kinds.ps ℕ
+μ-parse-list-field κs a = 4 * a .1 .1 .1 .1 .1 .1 .0 + 1
 
-abbrev pub μ-parse-map : Measures 2 parse-map-kinds.ps ℕ
-μ-parse-map κs a = 4 * a .1 .1 .1 .1 .1 .1 .0 + 2
+abbrev pub μ-parse-map : Measures 3 parse-map-kinds.ps ℕ
+μ-parse-map κs a = 4 * a .1 .1 .1 .1 .1 .1 .1 .0 + 2
 
-abbrev pub μ-parse-next-type : Measures 2 parse-next-type-kinds.ps ℕ
-μ-parse-next-type κs a = 4 * a .1 .1 .1 .1 .1 .0 + 0
+abbrev pub μ-parse-next-type : Measures 3 parse-next-type-kinds.ps ℕ
+μ-parse-next-type κs a = 4 * a .1 .1 .1 .1 .1 .1 .0 + 0
 
-abbrev pub μ-parse-run-end-encoded : Measures 2 parse-run-end-encoded-kinds.ps ℕ
-μ-parse-run-end-encoded κs a = 4 * a .1 .1 .1 .1 .1 .1 .0 + 3
+abbrev pub μ-parse-run-end-encoded : Measures 3 parse-run-end-encoded-kinds.ps ℕ
+μ-parse-run-end-encoded κs a = 4 * a .1 .1 .1 .1 .1 .1 .1 .0 + 3
 
-abbrev pub μ-parse-struct : Measures 2 parse-struct-kinds.ps ℕ
-μ-parse-struct κs a = 4 * a .1 .1 .1 .1 .1 .1 .0 + 2
+abbrev pub μ-parse-struct : Measures 3 parse-struct-kinds.ps ℕ
+μ-parse-struct κs a = 4 * a .1 .1 .1 .1 .1 .1 .1 .0 + 2
 
-abbrev pub μ-parse-union : Measures 2 parse-union-kinds.ps ℕ
-μ-parse-union κs a = 4 * a .1 .1 .1 .1 .1 .1 .0 + 3
+abbrev pub μ-parse-union : Measures 3 parse-union-kinds.ps ℕ
+μ-parse-union κs a = 4 * a .1 .1 .1 .1 .1 .1 .1 .0 + 3
 
-abbrev pub μ-parse-union-field : Measures 2 parse-union-field-kinds.ps ℕ
-μ-parse-union-field κs a = 4 * a .1 .1 .1 .1 .1 .0 + 2
+abbrev pub μ-parse-union-field : Measures 3 parse-union-field-kinds.ps ℕ
+μ-parse-union-field κs a = 4 * a .1 .1 .1 .1 .1 .1 .0 + 2
 
-abbrev pub μ-ree-fields : Measures 2 ree-fields-kinds.ps ℕ
-μ-ree-fields κs a = 4 * a .1 .1 .1 .1 .1 .0 + 2
+abbrev pub μ-ree-fields : Measures 3 ree-fields-kinds.ps ℕ
+μ-ree-fields κs a = 4 * a .1 .1 .1 .1 .1 .1 .0 + 2
 
-abbrev pub μ-ree-types : Measures 2 ree-types-kinds.ps ℕ
-μ-ree-types κs a = 4 * a .1 .1 .1 .1 .1 .0 + 1
+abbrev pub μ-ree-types : Measures 3 ree-types-kinds.ps ℕ
+μ-ree-types κs a = 4 * a .1 .1 .1 .1 .1 .1 .0 + 1
 
-abbrev pub parse-dictionary-at : ℕ → In 2 parse-dictionary-kinds.ps
-parse-dictionary-at t = and 2 parse-dictionary-kinds.ps (is 2 parse-dictionary-kinds.ps μ-parse-dictionary t) parse-dictionary.Pre
+abbrev pub parse-dictionary-at : ℕ → In 3 parse-dictionary-kinds.ps
+parse-dictionary-at t = and 3 parse-dictionary-kinds.ps (is 3 parse-dictionary-kinds.ps μ-parse-dictionary t) parse-dictionary.Pre
 
-abbrev parse-dictionary-below : ℕ → In 2 parse-dictionary-kinds.ps
-parse-dictionary-below t = and 2 parse-dictionary-kinds.ps (falls 2 parse-dictionary-kinds.ps _<_ μ-parse-dictionary t) parse-dictionary.Pre
+abbrev parse-dictionary-below : ℕ → In 3 parse-dictionary-kinds.ps
+parse-dictionary-below t = and 3 parse-dictionary-kinds.ps (falls 3 parse-dictionary-kinds.ps _<_ μ-parse-dictionary t) parse-dictionary.Pre
 
-abbrev pub parse-field-at : ℕ → In 2 parse-field-kinds.ps
-parse-field-at t = and 2 parse-field-kinds.ps (is 2 parse-field-kinds.ps μ-parse-field t) parse-field.Pre
+abbrev pub parse-field-at : ℕ → In 3 parse-field-kinds.ps
+parse-field-at t = and 3 parse-field-kinds.ps (is 3 parse-field-kinds.ps μ-parse-field t) parse-field.Pre
 
-abbrev parse-field-below : ℕ → In 2 parse-field-kinds.ps
-parse-field-below t = and 2 parse-field-kinds.ps (falls 2 parse-field-kinds.ps _<_ μ-parse-field t) parse-field.Pre
+abbrev parse-field-below : ℕ → In 3 parse-field-kinds.ps
+parse-field-below t = and 3 parse-field-kinds.ps (falls 3 parse-field-kinds.ps _<_ μ-parse-field t) parse-field.Pre
 
-abbrev pub parse-fixed-size-list-at : ℕ → In 2 parse-fixed-size-list-kinds.ps
-parse-fixed-size-list-at t = and 2 parse-fixed-size-list-kinds.ps (is 2 parse-fixed-size-list-kinds.ps μ-parse-fixed-size-list t) parse-fixed-size-list.Pre
+abbrev pub parse-fixed-size-list-at : ℕ → In 3 parse-fixed-size-list-kinds.ps
+parse-fixed-size-list-at t = and 3 parse-fixed-size-list-kinds.ps (is 3 parse-fixed-size-list-kinds.ps μ-parse-fixed-size-list t) parse-fixed-size-list.Pre
 
-abbrev parse-fixed-size-list-below : ℕ → In 2 parse-fixed-size-list-kinds.ps
-parse-fixed-size-list-below t = and 2 parse-fixed-size-list-kinds.ps (falls 2 parse-fixed-size-list-kinds.ps _<_ μ-parse-fixed-size-list t) parse-fixed-size-list.Pre
+abbrev parse-fixed-size-list-below : ℕ → In 3 parse-fixed-size-list-kinds.ps
+parse-fixed-size-list-below t = and 3 parse-fixed-size-list-kinds.ps (falls 3 parse-fixed-size-list-kinds.ps _<_ μ-parse-fixed-size-list t) parse-fixed-size-list.Pre
 
-abbrev pub parse-list-at : ℕ → In 2 parse-list-kinds.ps
-parse-list-at t = and 2 parse-list-kinds.ps (is 2 parse-list-kinds.ps μ-parse-list t) parse-list.Pre
+abbrev pub parse-list-at : ℕ → In 3 parse-list-kinds.ps
+parse-list-at t = and 3 parse-list-kinds.ps (is 3 parse-list-kinds.ps μ-parse-list t) parse-list.Pre
 
-abbrev parse-list-below : ℕ → In 2 parse-list-kinds.ps
-parse-list-below t = and 2 parse-list-kinds.ps (falls 2 parse-list-kinds.ps _<_ μ-parse-list t) parse-list.Pre
+abbrev parse-list-below : ℕ → In 3 parse-list-kinds.ps
+parse-list-below t = and 3 parse-list-kinds.ps (falls 3 parse-list-kinds.ps _<_ μ-parse-list t) parse-list.Pre
 
-abbrev pub parse-list-field-at : ℕ → In 2 parse-list-field-kinds.ps
-parse-list-field-at t = and 2 parse-list-field-kinds.ps (is 2 parse-list-field-kinds.ps μ-parse-list-field t) parse-list-field.Pre
+abbrev pub parse-list-field-at : ℕ → In 3 parse-list-field-kinds.ps
+parse-list-field-at t = and 3 parse-list-field-kinds.ps (is 3 parse-list-field-kinds.ps μ-parse-list-field t) parse-list-field.Pre
 
-abbrev parse-list-field-below : ℕ → In 2 parse-list-field-kinds.ps
-parse-list-field-below t = and 2 parse-list-field-kinds.ps (falls 2 parse-list-field-kinds.ps _<_ μ-parse-list-field t) parse-list-field.Pre
+abbrev parse-list-field-below : ℕ → In 3 parse-list-field-kinds.ps
+parse-list-field-below t = and 3 parse-list-field-kinds.ps (falls 3 parse-list-field-kinds.ps _<_ μ-parse-list-field t) parse-list-field.Pre
 
-abbrev pub parse-map-at : ℕ → In 2 parse-map-kinds.ps
-parse-map-at t = and 2 parse-map-kinds.ps (is 2 parse-map-kinds.ps μ-parse-map t) parse-map.Pre
+abbrev pub parse-map-at : ℕ → In 3 parse-map-kinds.ps
+parse-map-at t = and 3 parse-map-kinds.ps (is 3 parse-map-kinds.ps μ-parse-map t) parse-map.Pre
 
-abbrev parse-map-below : ℕ → In 2 parse-map-kinds.ps
-parse-map-below t = and 2 parse-map-kinds.ps (falls 2 parse-map-kinds.ps _<_ μ-parse-map t) parse-map.Pre
+abbrev parse-map-below : ℕ → In 3 parse-map-kinds.ps
+parse-map-below t = and 3 parse-map-kinds.ps (falls 3 parse-map-kinds.ps _<_ μ-parse-map t) parse-map.Pre
 
-abbrev pub parse-next-type-at : ℕ → In 2 parse-next-type-kinds.ps
-parse-next-type-at t = and 2 parse-next-type-kinds.ps (is 2 parse-next-type-kinds.ps μ-parse-next-type t) parse-next-type.Pre
+abbrev pub parse-next-type-at : ℕ → In 3 parse-next-type-kinds.ps
+parse-next-type-at t = and 3 parse-next-type-kinds.ps (is 3 parse-next-type-kinds.ps μ-parse-next-type t) parse-next-type.Pre
 
-abbrev parse-next-type-below : ℕ → In 2 parse-next-type-kinds.ps
-parse-next-type-below t = and 2 parse-next-type-kinds.ps (falls 2 parse-next-type-kinds.ps _<_ μ-parse-next-type t) parse-next-type.Pre
+abbrev parse-next-type-below : ℕ → In 3 parse-next-type-kinds.ps
+parse-next-type-below t = and 3 parse-next-type-kinds.ps (falls 3 parse-next-type-kinds.ps _<_ μ-parse-next-type t) parse-next-type.Pre
 
-abbrev pub parse-run-end-encoded-at : ℕ → In 2 parse-run-end-encoded-kinds.ps
-parse-run-end-encoded-at t = and 2 parse-run-end-encoded-kinds.ps (is 2 parse-run-end-encoded-kinds.ps μ-parse-run-end-encoded t) parse-run-end-encoded.Pre
+abbrev pub parse-run-end-encoded-at : ℕ → In 3 parse-run-end-encoded-kinds.ps
+parse-run-end-encoded-at t = and 3 parse-run-end-encoded-kinds.ps (is 3 parse-run-end-encoded-kinds.ps μ-parse-run-end-encoded t) parse-run-end-encoded.Pre
 
-abbrev parse-run-end-encoded-below : ℕ → In 2 parse-run-end-encoded-kinds.ps
-parse-run-end-encoded-below t = and 2 parse-run-end-encoded-kinds.ps (falls 2 parse-run-end-encoded-kinds.ps _<_ μ-parse-run-end-encoded t) parse-run-end-encoded.Pre
+abbrev parse-run-end-encoded-below : ℕ → In 3 parse-run-end-encoded-kinds.ps
+parse-run-end-encoded-below t = and 3 parse-run-end-encoded-kinds.ps (falls 3 parse-run-end-encoded-kinds.ps _<_ μ-parse-run-end-encoded t) parse-run-end-encoded.Pre
 
-abbrev pub parse-struct-at : ℕ → In 2 parse-struct-kinds.ps
-parse-struct-at t = and 2 parse-struct-kinds.ps (is 2 parse-struct-kinds.ps μ-parse-struct t) parse-struct.Pre
+abbrev pub parse-struct-at : ℕ → In 3 parse-struct-kinds.ps
+parse-struct-at t = and 3 parse-struct-kinds.ps (is 3 parse-struct-kinds.ps μ-parse-struct t) parse-struct.Pre
 
-abbrev parse-struct-below : ℕ → In 2 parse-struct-kinds.ps
-parse-struct-below t = and 2 parse-struct-kinds.ps (falls 2 parse-struct-kinds.ps _<_ μ-parse-struct t) parse-struct.Pre
+abbrev parse-struct-below : ℕ → In 3 parse-struct-kinds.ps
+parse-struct-below t = and 3 parse-struct-kinds.ps (falls 3 parse-struct-kinds.ps _<_ μ-parse-struct t) parse-struct.Pre
 
-abbrev pub parse-union-at : ℕ → In 2 parse-union-kinds.ps
-parse-union-at t = and 2 parse-union-kinds.ps (is 2 parse-union-kinds.ps μ-parse-union t) parse-union.Pre
+abbrev pub parse-union-at : ℕ → In 3 parse-union-kinds.ps
+parse-union-at t = and 3 parse-union-kinds.ps (is 3 parse-union-kinds.ps μ-parse-union t) parse-union.Pre
 
-abbrev parse-union-below : ℕ → In 2 parse-union-kinds.ps
-parse-union-below t = and 2 parse-union-kinds.ps (falls 2 parse-union-kinds.ps _<_ μ-parse-union t) parse-union.Pre
+abbrev parse-union-below : ℕ → In 3 parse-union-kinds.ps
+parse-union-below t = and 3 parse-union-kinds.ps (falls 3 parse-union-kinds.ps _<_ μ-parse-union t) parse-union.Pre
 
-abbrev pub parse-union-field-at : ℕ → In 2 parse-union-field-kinds.ps
-parse-union-field-at t = and 2 parse-union-field-kinds.ps (is 2 parse-union-field-kinds.ps μ-parse-union-field t) parse-union-field.Pre
+abbrev pub parse-union-field-at : ℕ → In 3 parse-union-field-kinds.ps
+parse-union-field-at t = and 3 parse-union-field-kinds.ps (is 3 parse-union-field-kinds.ps μ-parse-union-field t) parse-union-field.Pre
 
-abbrev parse-union-field-below : ℕ → In 2 parse-union-field-kinds.ps
-parse-union-field-below t = and 2 parse-union-field-kinds.ps (falls 2 parse-union-field-kinds.ps _<_ μ-parse-union-field t) parse-union-field.Pre
+abbrev parse-union-field-below : ℕ → In 3 parse-union-field-kinds.ps
+parse-union-field-below t = and 3 parse-union-field-kinds.ps (falls 3 parse-union-field-kinds.ps _<_ μ-parse-union-field t) parse-union-field.Pre
 
-abbrev pub ree-fields-at : ℕ → In 2 ree-fields-kinds.ps
-ree-fields-at t = and 2 ree-fields-kinds.ps (is 2 ree-fields-kinds.ps μ-ree-fields t) ree-fields.Pre
+abbrev pub ree-fields-at : ℕ → In 3 ree-fields-kinds.ps
+ree-fields-at t = and 3 ree-fields-kinds.ps (is 3 ree-fields-kinds.ps μ-ree-fields t) ree-fields.Pre
 
-abbrev ree-fields-below : ℕ → In 2 ree-fields-kinds.ps
-ree-fields-below t = and 2 ree-fields-kinds.ps (falls 2 ree-fields-kinds.ps _<_ μ-ree-fields t) ree-fields.Pre
+abbrev ree-fields-below : ℕ → In 3 ree-fields-kinds.ps
+ree-fields-below t = and 3 ree-fields-kinds.ps (falls 3 ree-fields-kinds.ps _<_ μ-ree-fields t) ree-fields.Pre
 
-abbrev pub ree-types-at : ℕ → In 2 ree-types-kinds.ps
-ree-types-at t = and 2 ree-types-kinds.ps (is 2 ree-types-kinds.ps μ-ree-types t) ree-types.Pre
+abbrev pub ree-types-at : ℕ → In 3 ree-types-kinds.ps
+ree-types-at t = and 3 ree-types-kinds.ps (is 3 ree-types-kinds.ps μ-ree-types t) ree-types.Pre
 
-abbrev ree-types-below : ℕ → In 2 ree-types-kinds.ps
-ree-types-below t = and 2 ree-types-kinds.ps (falls 2 ree-types-kinds.ps _<_ μ-ree-types t) ree-types.Pre
+abbrev ree-types-below : ℕ → In 3 ree-types-kinds.ps
+ree-types-below t = and 3 ree-types-kinds.ps (falls 3 ree-types-kinds.ps _<_ μ-ree-types t) ree-types.Pre
 
 abbrev pub calls-parse-dictionary : ℕ → parse-dictionary-lts.Claims
 calls-parse-dictionary t = (expect-token-reads.Asked, expect-token-reads.Learnt, parse-next-type-below t, parse-next-type.Post, close-reads.Asked, close-reads.Learnt)

@@ -1,3 +1,4 @@
+use Rattle.parser.proofs.Readers.{room-below}
 use Prim.Native.Nat.{ℕ}
 use Rattle.parser.proofs.Answers.{got-step, got-tree, lost-step, lost-tree}
 use Rattle.parser.proofs.Parents.{dictionary-1, dictionary-2, dictionary-3, dictionary-4, dictionary-5}
@@ -26,7 +27,7 @@ module _ (t : ℕ) where
   add-parse-next-type c = search needs
 
   parse-next-type-requires : lts.Need-parse-next-type-requires (calls t) (at t) parse-dictionary.Post
-  parse-next-type-requires c κs = search needs
+  parse-next-type-requires c κs = (search needs, (room-below _ _ _ _ (c .before .before .before .before .before .before .before .pre .1 .0), c .before .before .before .before .before .before .before .pre .1 .1))
 
   enum-known-key : lts.Need-enum-known-key (calls t) (at t) parse-dictionary.Post
   enum-known-key c = search needs
@@ -59,13 +60,13 @@ module _ (t : ℕ) where
   add-parse-next-type-2 c = search needs
 
   add-parse-next-type-3 : lts.Need-add-parse-next-type-3 (calls t) (at t) parse-dictionary.Post
-  add-parse-next-type-3 c = omega (arith, tree-most _ _ _ _ _ _ _ (got-tree _ _ _ _ _ _ _ _ (c .before .before .before .before .before .before .before .before .before .before .parse-next-type .ensures) (c .before .before .before .before .before .before .key .given .1)), c .before .before .before .before .before .before .before .before .before .before .before .before .before .before .before .before .before .before .pre .1 .small)
+  add-parse-next-type-3 c = omega (arith, tree-most _ _ _ _ _ _ _ (got-tree _ _ _ _ _ _ _ _ (c .before .before .before .before .before .before .before .before .before .before .parse-next-type .ensures) (c .before .before .before .before .before .before .key .given .1)), c .before .before .before .before .before .before .before .before .before .before .before .before .before .before .before .before .before .before .pre .1 .0 .small)
 
   sub-parse-next-type : lts.Need-sub-parse-next-type (calls t) (at t) parse-dictionary.Post
   sub-parse-next-type c = tree-most _ _ _ _ _ _ _ (got-tree _ _ _ _ _ _ _ _ (c .before .before .before .before .before .before .before .before .before .before .parse-next-type .ensures) (c .before .before .before .before .before .before .key .given .1))
 
   parse-next-type-requires-2 : lts.Need-parse-next-type-requires-2 (calls t) (at t) parse-dictionary.Post
-  parse-next-type-requires-2 c κs = (omega arith, room-more _ _ _ _ _ (c .before .before .before .before .before .before .before .before .before .before .before .before .before .before .before .before .before .before .pre .1) (c .before .before .before .before .before .before .before .before .before .before .parse-next-type .kept .1 .0) _ (tree-most _ _ _ _ _ _ _ (got-tree _ _ _ _ _ _ _ _ (c .before .before .before .before .before .before .before .before .before .before .parse-next-type .ensures) (c .before .before .before .before .before .before .key .given .1))))
+  parse-next-type-requires-2 c κs = (omega arith, (room-more _ _ _ _ _ (c .before .before .before .before .before .before .before .before .before .before .before .before .before .before .before .before .before .before .pre .1 .0) (c .before .before .before .before .before .before .before .before .before .before .parse-next-type .kept .1 .1 .0) _ (tree-most _ _ _ _ _ _ _ (got-tree _ _ _ _ _ _ _ _ (c .before .before .before .before .before .before .before .before .before .before .parse-next-type .ensures) (c .before .before .before .before .before .before .key .given .1))), c .before .before .before .before .before .before .before .before .before .before .before .before .before .before .before .before .before .before .pre .1 .1))
 
   enum-known-value : lts.Need-enum-known-value (calls t) (at t) parse-dictionary.Post
   enum-known-value c = search needs
@@ -80,10 +81,10 @@ module _ (t : ℕ) where
   returns-4 c = let o = got-step _ _ (sym (c .before .before .before .before .before .before .before .before .before .before .before .before .before .before .before .before .before .before .next .given .1) ∙ c .before .before .before .before .before .before .before .before .before .before .before .before .before .before .before .before .before .before .before .before .expect-token .ensures) in let d = got-step _ _ (sym (c .before .before .before .before .before .before .before .next2 .given .1) ∙ c .before .before .before .before .before .before .before .before .before .expect-token2 .ensures) in meets-lost _ _ _ _ _ _ _ (c .enum-told2 .given .1) (dictionary-4 _ _ _ _ _ (o .0) _ (o .1) _ _ _ _ _ (got-tree _ _ _ _ _ _ _ _ (c .before .before .before .before .before .before .before .before .before .before .before .before .before .before .before .parse-next-type .ensures) (c .before .before .before .before .before .before .before .before .before .before .before .key .given .1)) (d .0) _ (d .1) _ (lost-tree _ _ _ _ _ _ _ (c .before .before .before .before .parse-next-type2 .ensures) (c .enum-told2 .given .1)))
 
   add-close : lts.Need-add-close (calls t) (at t) parse-dictionary.Post
-  add-close c = omega (arith, tree-most _ _ _ _ _ _ _ (got-tree _ _ _ _ _ _ _ _ (c .before .before .before .before .before .before .before .before .before .before .before .before .before .before .before .before .before .parse-next-type .ensures) (c .before .before .before .before .before .before .before .before .before .before .before .before .before .key .given .1)), tree-most _ _ _ _ _ _ _ (got-tree _ _ _ _ _ _ _ _ (c .before .before .before .before .before .before .parse-next-type2 .ensures) (c .before .before .value .given .1)), c .before .before .before .before .before .before .before .before .before .before .before .before .before .before .before .before .before .before .before .before .before .before .before .before .before .pre .1 .small)
+  add-close c = omega (arith, tree-most _ _ _ _ _ _ _ (got-tree _ _ _ _ _ _ _ _ (c .before .before .before .before .before .before .before .before .before .before .before .before .before .before .before .before .before .parse-next-type .ensures) (c .before .before .before .before .before .before .before .before .before .before .before .before .before .key .given .1)), tree-most _ _ _ _ _ _ _ (got-tree _ _ _ _ _ _ _ _ (c .before .before .before .before .before .before .parse-next-type2 .ensures) (c .before .before .value .given .1)), c .before .before .before .before .before .before .before .before .before .before .before .before .before .before .before .before .before .before .before .before .before .before .before .before .before .pre .1 .0 .small)
 
   close-requires : lts.Need-close-requires (calls t) (at t) parse-dictionary.Post
-  close-requires c κs = room-front _ _ _ _ _ (c .before .before .before .before .before .before .before .before .before .before .before .before .before .before .before .before .before .before .before .before .before .before .before .before .before .pre .1) (c .before .before .before .before .before .before .parse-next-type2 .kept .1 .0 ∙ c .before .before .before .before .before .before .before .before .before .before .before .before .before .before .before .before .before .parse-next-type .kept .1 .0) _ (omega (arith, tree-most _ _ _ _ _ _ _ (got-tree _ _ _ _ _ _ _ _ (c .before .before .before .before .before .before .before .before .before .before .before .before .before .before .before .before .before .parse-next-type .ensures) (c .before .before .before .before .before .before .before .before .before .before .before .before .before .key .given .1)), tree-most _ _ _ _ _ _ _ (got-tree _ _ _ _ _ _ _ _ (c .before .before .before .before .before .before .parse-next-type2 .ensures) (c .before .before .value .given .1))))
+  close-requires c κs = (room-front _ _ _ _ _ (c .before .before .before .before .before .before .before .before .before .before .before .before .before .before .before .before .before .before .before .before .before .before .before .before .before .pre .1 .0) (c .before .before .before .before .before .before .parse-next-type2 .kept .1 .1 .0 ∙ c .before .before .before .before .before .before .before .before .before .before .before .before .before .before .before .before .before .parse-next-type .kept .1 .1 .0) _ (omega (arith, tree-most _ _ _ _ _ _ _ (got-tree _ _ _ _ _ _ _ _ (c .before .before .before .before .before .before .before .before .before .before .before .before .before .before .before .before .before .parse-next-type .ensures) (c .before .before .before .before .before .before .before .before .before .before .before .before .before .key .given .1)), tree-most _ _ _ _ _ _ _ (got-tree _ _ _ _ _ _ _ _ (c .before .before .before .before .before .before .parse-next-type2 .ensures) (c .before .before .value .given .1)))), c .before .before .before .before .before .before .before .before .before .before .before .before .before .before .before .before .before .before .before .before .before .before .before .before .before .pre .1 .1)
 
   same-length-4 : lts.Need-same-length-4 (calls t) (at t) parse-dictionary.Post
   same-length-4 c = search needs

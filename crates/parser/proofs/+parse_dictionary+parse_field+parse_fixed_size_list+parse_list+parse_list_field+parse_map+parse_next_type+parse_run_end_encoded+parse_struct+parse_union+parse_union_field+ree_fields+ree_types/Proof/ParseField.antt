@@ -53,22 +53,22 @@ module _ (t : ℕ) where
   returns-3 c = let q = got-quoted _ _ (sym (c .before .before .before .before .before .before .before .before .before .before .before .before .name .given .1) ∙ c .before .before .before .before .before .before .before .before .before .before .before .before .before .before .parse-double-quoted-string .ensures) in let c0 = got-step _ _ (sym (c .before .before .before .before .before .before .before .before .next .given .1) ∙ c .before .before .before .before .before .before .before .before .before .before .expect-token .ensures) in meets-lost _ _ _ _ _ _ _ (c .enum-told .given .1) (field-3 _ _ _ _ _ (q .0) _ _ _ (q .1) (c0 .0) _ _ _ (c0 .1) (c .before .before .before .before .before .before .parse-opt-nullable .ensures .0) (c .before .before .before .before .before .before .parse-opt-nullable .ensures .1) _ (lost-tree _ _ _ _ _ _ _ (c .before .before .before .before .parse-next-type .ensures) (c .enum-told .given .1)))
 
   cast-put-field : lts.Need-cast-put-field (calls t) (at t) parse-field.Post
-  cast-put-field c = let q = got-quoted _ _ (sym (c .before .before .before .before .before .before .before .before .before .before .before .before .before .before .before .name .given .1) ∙ c .before .before .before .before .before .before .before .before .before .before .before .before .before .before .before .before .before .parse-double-quoted-string .ensures) in name-fits _ _ _ _ _ (c .before .before .before .before .before .before .before .before .before .before .before .before .before .before .before .before .before .before .before .before .pre .1 .short) (q .0) (q .1) .0
+  cast-put-field c = let q = got-quoted _ _ (sym (c .before .before .before .before .before .before .before .before .before .before .before .before .before .before .before .name .given .1) ∙ c .before .before .before .before .before .before .before .before .before .before .before .before .before .before .before .before .before .parse-double-quoted-string .ensures) in name-fits _ _ _ _ _ (c .before .before .before .before .before .before .before .before .before .before .before .before .before .before .before .before .before .before .before .before .pre .1 .0 .short) (q .0) (q .1) .0
 
   cast-put-field-2 : lts.Need-cast-put-field-2 (calls t) (at t) parse-field.Post
-  cast-put-field-2 c = let q = got-quoted _ _ (sym (c .before .before .before .before .before .before .before .before .before .before .before .before .before .before .before .before .name .given .1) ∙ c .before .before .before .before .before .before .before .before .before .before .before .before .before .before .before .before .before .before .parse-double-quoted-string .ensures) in name-fits _ _ _ _ _ (c .before .before .before .before .before .before .before .before .before .before .before .before .before .before .before .before .before .before .before .before .before .pre .1 .short) (q .0) (q .1) .1
+  cast-put-field-2 c = let q = got-quoted _ _ (sym (c .before .before .before .before .before .before .before .before .before .before .before .before .before .before .before .before .name .given .1) ∙ c .before .before .before .before .before .before .before .before .before .before .before .before .before .before .before .before .before .before .parse-double-quoted-string .ensures) in name-fits _ _ _ _ _ (c .before .before .before .before .before .before .before .before .before .before .before .before .before .before .before .before .before .before .before .before .before .pre .1 .0 .short) (q .0) (q .1) .1
 
   put-field-requires : lts.Need-put-field-requires (calls t) (at t) parse-field.Post
-  put-field-requires c κs = row-inside _ _ (c .before .before .before .before .before .before .before .before .parse-next-type .last .1 .0) _ _ (c .before .before .before .before .before .before .before .before .before .before .before .before .before .before .before .before .before .before .before .before .before .pre .1) (c .before .before .before .before .before .before .before .before .parse-next-type .kept .1 .0) _ (tree-some _ _ _ _ _ _ _ (got-tree _ _ _ _ _ _ _ _ (c .before .before .before .before .before .before .before .before .parse-next-type .ensures) (c .before .before .before .before .tree .given .1))) (tree-most _ _ _ _ _ _ _ (got-tree _ _ _ _ _ _ _ _ (c .before .before .before .before .before .before .before .before .parse-next-type .ensures) (c .before .before .before .before .tree .given .1)))
+  put-field-requires c κs = row-inside _ _ (c .before .before .before .before .before .before .before .before .parse-next-type .last .1 .1 .0) _ _ (c .before .before .before .before .before .before .before .before .before .before .before .before .before .before .before .before .before .before .before .before .before .pre .1 .0) (c .before .before .before .before .before .before .before .before .parse-next-type .kept .1 .1 .0) _ (tree-some _ _ _ _ _ _ _ (got-tree _ _ _ _ _ _ _ _ (c .before .before .before .before .before .before .before .before .parse-next-type .ensures) (c .before .before .before .before .tree .given .1))) (tree-most _ _ _ _ _ _ _ (got-tree _ _ _ _ _ _ _ _ (c .before .before .before .before .before .before .before .before .parse-next-type .ensures) (c .before .before .before .before .tree .given .1)))
 
   rows-of-requires : lts.Need-rows-of-requires (calls t) (at t) parse-field.Post
-  rows-of-requires c κs = let h = row-inside _ _ (c .before .before .before .before .before .before .before .before .before .before .before .before .parse-next-type .last .1 .0) _ _ (c .before .before .before .before .before .before .before .before .before .before .before .before .before .before .before .before .before .before .before .before .before .before .before .before .before .pre .1) (c .before .before .before .before .before .before .before .before .before .before .before .before .parse-next-type .kept .1 .0) _ (tree-some _ _ _ _ _ _ _ (got-tree _ _ _ _ _ _ _ _ (c .before .before .before .before .before .before .before .before .before .before .before .before .parse-next-type .ensures) (c .before .before .before .before .before .before .before .before .tree .given .1))) (tree-most _ _ _ _ _ _ _ (got-tree _ _ _ _ _ _ _ _ (c .before .before .before .before .before .before .before .before .before .before .before .before .parse-next-type .ensures) (c .before .before .before .before .before .before .before .before .tree .given .1))) in let l = c .before .before .before .put-field .kept .0 in omega arith
+  rows-of-requires c κs = let h = row-inside _ _ (c .before .before .before .before .before .before .before .before .before .before .before .before .parse-next-type .last .1 .1 .0) _ _ (c .before .before .before .before .before .before .before .before .before .before .before .before .before .before .before .before .before .before .before .before .before .before .before .before .before .pre .1 .0) (c .before .before .before .before .before .before .before .before .before .before .before .before .parse-next-type .kept .1 .1 .0) _ (tree-some _ _ _ _ _ _ _ (got-tree _ _ _ _ _ _ _ _ (c .before .before .before .before .before .before .before .before .before .before .before .before .parse-next-type .ensures) (c .before .before .before .before .before .before .before .before .tree .given .1))) (tree-most _ _ _ _ _ _ _ (got-tree _ _ _ _ _ _ _ _ (c .before .before .before .before .before .before .before .before .before .before .before .before .parse-next-type .ensures) (c .before .before .before .before .before .before .before .before .tree .given .1))) in let l = c .before .before .before .put-field .kept .0 in omega arith
 
   same-length-2 : lts.Need-same-length-2 (calls t) (at t) parse-field.Post
   same-length-2 c = search needs
 
   returns-4 : lts.Need-returns-4 (calls t) (at t) parse-field.Post
-  returns-4 c = let q = got-quoted _ _ (sym (c .before .before .before .before .before .before .before .before .before .before .before .before .before .before .before .before .before .before .before .before .before .name .given .1) ∙ c .before .before .before .before .before .before .before .before .before .before .before .before .before .before .before .before .before .before .before .before .before .before .before .parse-double-quoted-string .ensures) in let c0 = got-step _ _ (sym (c .before .before .before .before .before .before .before .before .before .before .before .before .before .before .before .before .before .next .given .1) ∙ c .before .before .before .before .before .before .before .before .before .before .before .before .before .before .before .before .before .before .before .expect-token .ensures) in field-5 _ _ _ _ _ (q .0) _ _ _ (q .1) (c0 .0) _ _ _ (c0 .1) (c .before .before .before .before .before .before .before .before .before .before .before .before .before .before .before .parse-opt-nullable .ensures .0) (c .before .before .before .before .before .before .before .before .before .before .before .before .before .before .before .parse-opt-nullable .ensures .1) _ _ _ _ _ _ _ (c .before .before .before .before .before .before .before .before .before .before .before .before .before .before .before .before .before .before .before .before .before .before .before .before .before .before .pre .1) (got-tree _ _ _ _ _ _ _ _ (c .before .before .before .before .before .before .before .before .before .before .before .before .before .parse-next-type .ensures) (c .before .before .before .before .before .before .before .before .before .tree .given .1)) (c .before .before .before .before .put-field .ensures) (c .rows-of .ensures)
+  returns-4 c = let q = got-quoted _ _ (sym (c .before .before .before .before .before .before .before .before .before .before .before .before .before .before .before .before .before .before .before .before .before .name .given .1) ∙ c .before .before .before .before .before .before .before .before .before .before .before .before .before .before .before .before .before .before .before .before .before .before .before .parse-double-quoted-string .ensures) in let c0 = got-step _ _ (sym (c .before .before .before .before .before .before .before .before .before .before .before .before .before .before .before .before .before .next .given .1) ∙ c .before .before .before .before .before .before .before .before .before .before .before .before .before .before .before .before .before .before .before .expect-token .ensures) in field-5 _ _ _ _ _ (q .0) _ _ _ (q .1) (c0 .0) _ _ _ (c0 .1) (c .before .before .before .before .before .before .before .before .before .before .before .before .before .before .before .parse-opt-nullable .ensures .0) (c .before .before .before .before .before .before .before .before .before .before .before .before .before .before .before .parse-opt-nullable .ensures .1) _ _ _ _ _ _ _ (c .before .before .before .before .before .before .before .before .before .before .before .before .before .before .before .before .before .before .before .before .before .before .before .before .before .before .pre .1 .0) (got-tree _ _ _ _ _ _ _ _ (c .before .before .before .before .before .before .before .before .before .before .before .before .before .parse-next-type .ensures) (c .before .before .before .before .before .before .before .before .before .tree .given .1)) (c .before .before .before .before .put-field .ensures) (c .rows-of .ensures)
 
   pub closed : {M : Type 1} → lts.Closed (calls t) (at t) parse-field.Post M
   closed = lts.spec (calls t) (at t) parse-field.Post parse-double-quoted-string-requires enum-known-name enum-known-n returns expect-token-requires enum-known-next enum-known-n-2 returns-2 parse-opt-nullable-requires parse-next-type-requires enum-known-tree enum-told same-length returns-3 cast-put-field cast-put-field-2 put-field-requires rows-of-requires same-length-2 returns-4

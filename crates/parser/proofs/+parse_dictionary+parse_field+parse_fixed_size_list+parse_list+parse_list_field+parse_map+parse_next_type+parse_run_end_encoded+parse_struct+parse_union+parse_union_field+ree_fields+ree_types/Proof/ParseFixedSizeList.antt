@@ -1,9 +1,10 @@
+use Rattle.parser.proofs.Readers.{room-below}
 use Prim.Native.Nat.{ℕ}
 use Rattle.parser.proofs.Answers.{got-look, got-step, got-tree, got-value, lost-look, lost-step, lost-tree, lost-value}
 use Rattle.parser.proofs.FieldLaws.{fixed-comma, fixed-other, fixed-plain, fixed-x}
 use Rattle.parser.proofs.Looks.{refused-stands}
 use Rattle.parser.proofs.Parents.{fixed-list-1, fixed-list-2, fixed-list-3, fixed-list-4}
-use Rattle.parser.proofs.Readers.{meets-lost, meets-refused, room-below, room-front, row-inside, tree-most, tree-some}
+use Rattle.parser.proofs.Readers.{meets-lost, meets-refused, room-front, row-inside, tree-most, tree-some}
 use borrow.Author.Needs.{needs}
 use mathlib.Core.Path.{_∙_, refl, sym}
 use native.Mathlib.Omega.{arith}
@@ -46,7 +47,7 @@ module _ (t : ℕ) where
   add-parse-list-field c = search needs
 
   parse-list-field-requires : lts.Need-parse-list-field-requires (calls t) (at t) parse-fixed-size-list.Post
-  parse-list-field-requires c κs = search needs
+  parse-list-field-requires c κs = (search needs, (room-below _ _ _ _ (c .before .before .before .before .before .before .before .before .before .before .before .before .before .before .before .pre .1 .0), c .before .before .before .before .before .before .before .before .before .before .before .before .before .before .before .pre .1 .1))
 
   enum-known-field : lts.Need-enum-known-field (calls t) (at t) parse-fixed-size-list.Post
   enum-known-field c = search needs
@@ -61,7 +62,7 @@ module _ (t : ℕ) where
   returns-3 c = let o = got-step _ _ (sym (c .before .before .before .before .before .before .before .before .before .before .before .before .before .before .before .next .given .1) ∙ c .before .before .before .before .before .before .before .before .before .before .before .before .before .before .before .before .before .expect-token .ensures) in let x0 = got-look _ _ (sym (c .before .before .before .before .before .before .before .x .given .1) ∙ c .before .before .before .before .before .before .before .before .before .next-if-x .ensures) in meets-lost _ _ _ _ _ _ _ (c .enum-told .given .1) (fixed-list-3 _ _ _ _ _ (o .0) _ (o .1) _ _ (got-value _ _ (sym (c .before .before .before .before .before .before .before .before .before .before .before .length .given .1) ∙ c .before .before .before .before .before .before .before .before .before .before .before .before .before .parse-length .ensures)) _ (lost-tree _ _ _ _ _ _ _ (fixed-x _ _ _ _ (x0 .0) _ _ _ _ _ (x0 .1) (c .before .before .before .before .parse-list-field .ensures)) (c .enum-told .given .1)))
 
   close-requires : lts.Need-close-requires (calls t) (at t) parse-fixed-size-list.Post
-  close-requires c κs = room-front _ _ _ _ _ (c .before .before .before .before .before .before .before .before .before .before .before .before .before .before .before .before .before .before .before .before .before .before .pre .1) (c .before .before .before .before .before .before .parse-list-field .kept .1 .0) _ (tree-most _ _ _ _ _ _ _ (got-tree _ _ _ _ _ _ _ _ (c .before .before .before .before .before .before .parse-list-field .ensures) (c .before .before .field .given .1)))
+  close-requires c κs = (room-front _ _ _ _ _ (c .before .before .before .before .before .before .before .before .before .before .before .before .before .before .before .before .before .before .before .before .before .before .pre .1 .0) (c .before .before .before .before .before .before .parse-list-field .kept .1 .1 .0) _ (tree-most _ _ _ _ _ _ _ (got-tree _ _ _ _ _ _ _ _ (c .before .before .before .before .before .before .parse-list-field .ensures) (c .before .before .field .given .1))), c .before .before .before .before .before .before .before .before .before .before .before .before .before .before .before .before .before .before .before .before .before .before .pre .1 .1)
 
   same-length-2 : lts.Need-same-length-2 (calls t) (at t) parse-fixed-size-list.Post
   same-length-2 c = search needs
@@ -88,7 +89,7 @@ module _ (t : ℕ) where
   add-parse-next-type c = search needs
 
   parse-next-type-requires : lts.Need-parse-next-type-requires (calls t) (at t) parse-fixed-size-list.Post
-  parse-next-type-requires c κs = search needs
+  parse-next-type-requires c κs = (search needs, (room-below _ _ _ _ (c .before .before .before .before .before .before .before .before .before .before .before .before .before .before .before .before .before .before .pre .1 .0), c .before .before .before .before .before .before .before .before .before .before .before .before .before .before .before .before .before .before .pre .1 .1))
 
   enum-known-item : lts.Need-enum-known-item (calls t) (at t) parse-fixed-size-list.Post
   enum-known-item c = search needs
@@ -103,13 +104,13 @@ module _ (t : ℕ) where
   returns-6 c = let o = got-step _ _ (sym (c .before .before .before .before .before .before .before .before .before .before .before .before .before .before .before .before .before .before .next .given .1) ∙ c .before .before .before .before .before .before .before .before .before .before .before .before .before .before .before .before .before .before .before .before .expect-token .ensures) in let l = lost-look _ (sym (c .before .before .before .before .before .before .before .before .before .before .enum-told2 .given .1) ∙ c .before .before .before .before .before .before .before .before .before .before .before .before .next-if-x .ensures) in let k = got-step _ _ (sym (c .before .before .before .before .before .before .before .next2 .given .1) ∙ c .before .before .before .before .before .before .before .before .before .expect-token2 .ensures) in meets-lost _ _ _ _ _ _ _ (c .enum-told3 .given .1) (fixed-list-3 _ _ _ _ _ (o .0) _ (o .1) _ _ (got-value _ _ (sym (c .before .before .before .before .before .before .before .before .before .before .before .before .before .before .length .given .1) ∙ c .before .before .before .before .before .before .before .before .before .before .before .before .before .before .before .before .parse-length .ensures)) _ (fixed-comma _ _ _ _ (refused-stands _ _ _ (l .0) (l .1)) (k .0) _ (k .1) _ (lost-tree _ _ _ _ _ _ _ (c .before .before .before .before .parse-next-type .ensures) (c .enum-told3 .given .1))))
 
   add-put-list-field : lts.Need-add-put-list-field (calls t) (at t) parse-fixed-size-list.Post
-  add-put-list-field c = omega (arith, c .before .before .before .before .before .before .before .before .before .before .before .before .before .before .before .before .before .before .before .before .before .before .before .before .before .pre .1 .small)
+  add-put-list-field c = omega (arith, c .before .before .before .before .before .before .before .before .before .before .before .before .before .before .before .before .before .before .before .before .before .before .before .before .before .pre .1 .0 .small)
 
   put-list-field-requires : lts.Need-put-list-field-requires (calls t) (at t) parse-fixed-size-list.Post
-  put-list-field-requires c κs = row-inside _ _ (c .before .before .before .before .before .before .parse-next-type .last .1 .0) _ _ (room-below _ _ _ _ (c .before .before .before .before .before .before .before .before .before .before .before .before .before .before .before .before .before .before .before .before .before .before .before .before .before .pre .1)) (c .before .before .before .before .before .before .parse-next-type .kept .1 .0) _ (tree-some _ _ _ _ _ _ _ (got-tree _ _ _ _ _ _ _ _ (c .before .before .before .before .before .before .parse-next-type .ensures) (c .before .before .item .given .1))) (tree-most _ _ _ _ _ _ _ (got-tree _ _ _ _ _ _ _ _ (c .before .before .before .before .before .before .parse-next-type .ensures) (c .before .before .item .given .1)))
+  put-list-field-requires c κs = row-inside _ _ (c .before .before .before .before .before .before .parse-next-type .last .1 .1 .0) _ _ (room-below _ _ _ _ (c .before .before .before .before .before .before .before .before .before .before .before .before .before .before .before .before .before .before .before .before .before .before .before .before .before .pre .1 .0)) (c .before .before .before .before .before .before .parse-next-type .kept .1 .1 .0) _ (tree-some _ _ _ _ _ _ _ (got-tree _ _ _ _ _ _ _ _ (c .before .before .before .before .before .before .parse-next-type .ensures) (c .before .before .item .given .1))) (tree-most _ _ _ _ _ _ _ (got-tree _ _ _ _ _ _ _ _ (c .before .before .before .before .before .before .parse-next-type .ensures) (c .before .before .item .given .1)))
 
   close-requires-2 : lts.Need-close-requires-2 (calls t) (at t) parse-fixed-size-list.Post
-  close-requires-2 c κs = room-front _ _ _ _ _ (c .before .before .before .before .before .before .before .before .before .before .before .before .before .before .before .before .before .before .before .before .before .before .before .before .before .before .before .before .before .pre .1) (c .before .before .before .put-list-field .kept .0 ∙ c .before .before .before .before .before .before .before .before .before .before .parse-next-type .kept .1 .0) _ (tree-most _ _ _ _ _ _ _ (got-tree _ _ _ _ _ _ _ _ (c .before .before .before .before .before .before .before .before .before .before .parse-next-type .ensures) (c .before .before .before .before .before .before .item .given .1)))
+  close-requires-2 c κs = (room-front _ _ _ _ _ (c .before .before .before .before .before .before .before .before .before .before .before .before .before .before .before .before .before .before .before .before .before .before .before .before .before .before .before .before .before .pre .1 .0) (c .before .before .before .put-list-field .kept .0 ∙ c .before .before .before .before .before .before .before .before .before .before .parse-next-type .kept .1 .1 .0) _ (tree-most _ _ _ _ _ _ _ (got-tree _ _ _ _ _ _ _ _ (c .before .before .before .before .before .before .before .before .before .before .parse-next-type .ensures) (c .before .before .before .before .before .before .item .given .1))), c .before .before .before .before .before .before .before .before .before .before .before .before .before .before .before .before .before .before .before .before .before .before .before .before .before .before .before .before .before .pre .1 .1)
 
   same-length-4 : lts.Need-same-length-4 (calls t) (at t) parse-fixed-size-list.Post
   same-length-4 c = search needs

@@ -1,3 +1,4 @@
+use Rattle.parser.proofs.Readers.{room-below}
 use Prim.Native.Nat.{ℕ}
 use Rattle.parser.proofs.Answers.{got-step, got-tree, lost-step, lost-tree}
 use Rattle.parser.proofs.Parents.{list-1, list-2, list-3}
@@ -25,7 +26,7 @@ module _ (t : ℕ) where
   add-parse-list-field c = search needs
 
   parse-list-field-requires : lts.Need-parse-list-field-requires (calls t) (at t) parse-list.Post
-  parse-list-field-requires c κs = search needs
+  parse-list-field-requires c κs = (search needs, (room-below _ _ _ _ (c .before .before .before .before .before .before .before .pre .1 .0), c .before .before .before .before .before .before .before .pre .1 .1))
 
   enum-known-field : lts.Need-enum-known-field (calls t) (at t) parse-list.Post
   enum-known-field c = search needs
@@ -40,7 +41,7 @@ module _ (t : ℕ) where
   returns-2 c = let o = got-step _ _ (sym (c .before .before .before .before .before .before .before .next .given .1) ∙ c .before .before .before .before .before .before .before .before .before .expect-token .ensures) in meets-lost _ _ _ _ _ _ _ (c .enum-told .given .1) (list-2 _ _ _ _ _ (o .0) _ (o .1) _ (lost-tree _ _ _ _ _ _ _ (c .before .before .before .before .parse-list-field .ensures) (c .enum-told .given .1)))
 
   close-requires : lts.Need-close-requires (calls t) (at t) parse-list.Post
-  close-requires c κs = room-front _ _ _ _ _ (c .before .before .before .before .before .before .before .before .before .before .before .before .before .before .pre .1) (c .before .before .before .before .before .before .parse-list-field .kept .1 .0) _ (tree-most _ _ _ _ _ _ _ (got-tree _ _ _ _ _ _ _ _ (c .before .before .before .before .before .before .parse-list-field .ensures) (c .before .before .field .given .1)))
+  close-requires c κs = (room-front _ _ _ _ _ (c .before .before .before .before .before .before .before .before .before .before .before .before .before .before .pre .1 .0) (c .before .before .before .before .before .before .parse-list-field .kept .1 .1 .0) _ (tree-most _ _ _ _ _ _ _ (got-tree _ _ _ _ _ _ _ _ (c .before .before .before .before .before .before .parse-list-field .ensures) (c .before .before .field .given .1))), c .before .before .before .before .before .before .before .before .before .before .before .before .before .before .pre .1 .1)
 
   same-length-2 : lts.Need-same-length-2 (calls t) (at t) parse-list.Post
   same-length-2 c = search needs

@@ -38,7 +38,7 @@ module _ (t : ℕ) where
   enum-told-2 c = search needs
 
   put-list-field-requires : lts.Need-put-list-field-requires (calls t) (at t) parse-list-field.Post
-  put-list-field-requires c κs = row-inside _ _ (c .before .before .before .before .before .before .before .before .before .parse-next-type .last .1 .0) _ _ (c .before .before .before .before .before .before .before .before .before .before .before .before .before .before .pre .1) (c .before .before .before .before .before .before .before .before .before .parse-next-type .kept .1 .0) _ (tree-some _ _ _ _ _ _ _ (got-tree _ _ _ _ _ _ _ _ (c .before .before .before .before .before .before .before .before .before .parse-next-type .ensures) (c .before .before .before .before .before .item .given .1))) (tree-most _ _ _ _ _ _ _ (got-tree _ _ _ _ _ _ _ _ (c .before .before .before .before .before .before .before .before .before .parse-next-type .ensures) (c .before .before .before .before .before .item .given .1)))
+  put-list-field-requires c κs = row-inside _ _ (c .before .before .before .before .before .before .before .before .before .parse-next-type .last .1 .1 .0) _ _ (c .before .before .before .before .before .before .before .before .before .before .before .before .before .before .pre .1 .0) (c .before .before .before .before .before .before .before .before .before .parse-next-type .kept .1 .1 .0) _ (tree-some _ _ _ _ _ _ _ (got-tree _ _ _ _ _ _ _ _ (c .before .before .before .before .before .before .before .before .before .parse-next-type .ensures) (c .before .before .before .before .before .item .given .1))) (tree-most _ _ _ _ _ _ _ (got-tree _ _ _ _ _ _ _ _ (c .before .before .before .before .before .before .before .before .before .parse-next-type .ensures) (c .before .before .before .before .before .item .given .1)))
 
   same-length-2 : lts.Need-same-length-2 (calls t) (at t) parse-list-field.Post
   same-length-2 c = search needs
@@ -62,13 +62,13 @@ module _ (t : ℕ) where
   returns-3 c = let l = got-look _ _ (sym (c .before .before .before .before .before .comma .given .1) ∙ c .before .before .before .before .before .before .before .next-if .ensures) in meets-refused _ _ _ _ _ _ (list-field-3 _ _ _ _ _ _ (c .before .before .before .before .before .before .before .before .before .before .before .before .before .before .before .parse-opt-nullable .ensures .0) (c .before .before .before .before .before .before .before .before .before .before .before .before .before .before .before .parse-opt-nullable .ensures .1) _ _ _ _ _ (got-tree _ _ _ _ _ _ _ _ (c .before .before .before .before .before .before .before .before .before .before .before .before .before .parse-next-type .ensures) (c .before .before .before .before .before .before .before .before .before .item .given .1)) (l .0) _ (needed-stands _ _ _ _ (l .1)) (l .1) _ (lost-quoted _ _ (sym (c .before .n .given .1) ∙ c .before .before .before .parse-list-name .ensures)))
 
   cast-put-field : lts.Need-cast-put-field (calls t) (at t) parse-list-field.Post
-  cast-put-field c = let m = got-quoted _ _ (sym (c .before .before .before .name .given .1) ∙ c .before .before .before .before .before .parse-list-name .ensures) in list-name-fits _ _ _ _ _ (c .before .before .before .before .before .before .before .before .before .before .before .before .before .before .before .before .before .before .before .before .pre .1 .short) (m .0) (m .1) .0
+  cast-put-field c = let m = got-quoted _ _ (sym (c .before .before .before .name .given .1) ∙ c .before .before .before .before .before .parse-list-name .ensures) in list-name-fits _ _ _ _ _ (c .before .before .before .before .before .before .before .before .before .before .before .before .before .before .before .before .before .before .before .before .pre .1 .0 .short) (m .0) (m .1) .0
 
   cast-put-field-2 : lts.Need-cast-put-field-2 (calls t) (at t) parse-list-field.Post
-  cast-put-field-2 c = let m = got-quoted _ _ (sym (c .before .before .before .before .name .given .1) ∙ c .before .before .before .before .before .before .parse-list-name .ensures) in list-name-fits _ _ _ _ _ (c .before .before .before .before .before .before .before .before .before .before .before .before .before .before .before .before .before .before .before .before .before .pre .1 .short) (m .0) (m .1) .1
+  cast-put-field-2 c = let m = got-quoted _ _ (sym (c .before .before .before .before .name .given .1) ∙ c .before .before .before .before .before .before .parse-list-name .ensures) in list-name-fits _ _ _ _ _ (c .before .before .before .before .before .before .before .before .before .before .before .before .before .before .before .before .before .before .before .before .before .pre .1 .0 .short) (m .0) (m .1) .1
 
   put-field-requires : lts.Need-put-field-requires (calls t) (at t) parse-list-field.Post
-  put-field-requires c κs = row-inside _ _ (c .before .before .before .before .before .before .before .before .before .before .before .before .before .before .before .before .parse-next-type .last .1 .0) _ _ (c .before .before .before .before .before .before .before .before .before .before .before .before .before .before .before .before .before .before .before .before .before .pre .1) (c .before .before .before .before .before .before .before .before .before .before .before .before .before .before .before .before .parse-next-type .kept .1 .0) _ (tree-some _ _ _ _ _ _ _ (got-tree _ _ _ _ _ _ _ _ (c .before .before .before .before .before .before .before .before .before .before .before .before .before .before .before .before .parse-next-type .ensures) (c .before .before .before .before .before .before .before .before .before .before .before .before .item .given .1))) (tree-most _ _ _ _ _ _ _ (got-tree _ _ _ _ _ _ _ _ (c .before .before .before .before .before .before .before .before .before .before .before .before .before .before .before .before .parse-next-type .ensures) (c .before .before .before .before .before .before .before .before .before .before .before .before .item .given .1)))
+  put-field-requires c κs = row-inside _ _ (c .before .before .before .before .before .before .before .before .before .before .before .before .before .before .before .before .parse-next-type .last .1 .1 .0) _ _ (c .before .before .before .before .before .before .before .before .before .before .before .before .before .before .before .before .before .before .before .before .before .pre .1 .0) (c .before .before .before .before .before .before .before .before .before .before .before .before .before .before .before .before .parse-next-type .kept .1 .1 .0) _ (tree-some _ _ _ _ _ _ _ (got-tree _ _ _ _ _ _ _ _ (c .before .before .before .before .before .before .before .before .before .before .before .before .before .before .before .before .parse-next-type .ensures) (c .before .before .before .before .before .before .before .before .before .before .before .before .item .given .1))) (tree-most _ _ _ _ _ _ _ (got-tree _ _ _ _ _ _ _ _ (c .before .before .before .before .before .before .before .before .before .before .before .before .before .before .before .before .parse-next-type .ensures) (c .before .before .before .before .before .before .before .before .before .before .before .before .item .given .1)))
 
   same-length-4 : lts.Need-same-length-4 (calls t) (at t) parse-list-field.Post
   same-length-4 c = search needs

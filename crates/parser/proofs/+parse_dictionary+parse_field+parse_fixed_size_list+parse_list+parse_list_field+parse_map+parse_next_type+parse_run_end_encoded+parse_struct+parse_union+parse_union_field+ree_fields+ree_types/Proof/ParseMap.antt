@@ -1,3 +1,4 @@
+use Rattle.parser.proofs.Readers.{room-below}
 use Prim.Native.Nat.{ℕ}
 use Rattle.parser.proofs.Answers.{got-step, got-tree, got-value, lost-step, lost-tree, lost-value}
 use Rattle.parser.proofs.Entries.{below-fits, entries-are}
@@ -26,7 +27,7 @@ module _ (t : ℕ) where
   add-parse-field c = search needs
 
   parse-field-requires : lts.Need-parse-field-requires (calls t) (at t) parse-map.Post
-  parse-field-requires c κs = search needs
+  parse-field-requires c κs = (search needs, (room-below _ _ _ _ (c .before .before .before .before .before .before .before .pre .1 .0), c .before .before .before .before .before .before .before .pre .1 .1))
 
   enum-known-entries : lts.Need-enum-known-entries (calls t) (at t) parse-map.Post
   enum-known-entries c = search needs
@@ -50,7 +51,7 @@ module _ (t : ℕ) where
   same-length-2 c = search needs
 
   returns-3 : lts.Need-returns-3 (calls t) (at t) parse-map.Post
-  returns-3 c = let o = got-step _ _ (sym (c .before .before .before .before .before .before .before .before .before .before .before .next .given .1) ∙ c .before .before .before .before .before .before .before .before .before .before .before .before .before .expect-token .ensures) in meets-refused _ _ _ _ _ _ (map-3 _ _ _ _ _ (o .0) _ (o .1) _ _ _ _ _ (got-tree _ _ _ _ _ _ _ _ (c .before .before .before .before .before .before .before .before .parse-field .ensures) (c .before .before .before .before .entries .given .1)) _ (c .before .entries-refusal .ensures ∙ entries-are _ _ _ _ _ _ _ (got-tree _ _ _ _ _ _ _ _ (c .before .before .before .before .before .before .before .before .parse-field .ensures) (c .before .before .before .before .entries .given .1)) (below-fits _ _ _ _ (c .before .before .before .before .before .before .before .before .before .before .before .before .before .before .before .before .pre .1))) (c .if1 .taken))
+  returns-3 c = let o = got-step _ _ (sym (c .before .before .before .before .before .before .before .before .before .before .before .next .given .1) ∙ c .before .before .before .before .before .before .before .before .before .before .before .before .before .expect-token .ensures) in meets-refused _ _ _ _ _ _ (map-3 _ _ _ _ _ (o .0) _ (o .1) _ _ _ _ _ (got-tree _ _ _ _ _ _ _ _ (c .before .before .before .before .before .before .before .before .parse-field .ensures) (c .before .before .before .before .entries .given .1)) _ (c .before .entries-refusal .ensures ∙ entries-are _ _ _ _ _ _ _ (got-tree _ _ _ _ _ _ _ _ (c .before .before .before .before .before .before .before .before .parse-field .ensures) (c .before .before .before .before .entries .given .1)) (below-fits _ _ _ _ (c .before .before .before .before .before .before .before .before .before .before .before .before .before .before .before .before .pre .1 .0))) (c .if1 .taken))
 
   expect-token-requires-2 : lts.Need-expect-token-requires-2 (calls t) (at t) parse-map.Post
   expect-token-requires-2 c κs = search needs
@@ -65,7 +66,7 @@ module _ (t : ℕ) where
   same-length-3 c = search needs
 
   returns-4 : lts.Need-returns-4 (calls t) (at t) parse-map.Post
-  returns-4 c = let o = got-step _ _ (sym (c .before .before .before .before .before .before .before .before .before .before .before .before .before .before .before .next .given .1) ∙ c .before .before .before .before .before .before .before .before .before .before .before .before .before .before .before .before .before .expect-token .ensures) in meets-refused _ _ _ _ _ _ (map-4 _ _ _ _ _ (o .0) _ (o .1) _ _ _ _ _ (got-tree _ _ _ _ _ _ _ _ (c .before .before .before .before .before .before .before .before .before .before .before .before .parse-field .ensures) (c .before .before .before .before .before .before .before .before .entries .given .1)) _ (c .before .before .before .before .before .entries-refusal .ensures ∙ entries-are _ _ _ _ _ _ _ (got-tree _ _ _ _ _ _ _ _ (c .before .before .before .before .before .before .before .before .before .before .before .before .parse-field .ensures) (c .before .before .before .before .before .before .before .before .entries .given .1)) (below-fits _ _ _ _ (c .before .before .before .before .before .before .before .before .before .before .before .before .before .before .before .before .before .before .before .before .pre .1))) (c .before .before .before .before .if1 .left) _ (lost-step _ _ (sym (c .before .n2 .given .1) ∙ c .before .before .before .expect-token2 .ensures)))
+  returns-4 c = let o = got-step _ _ (sym (c .before .before .before .before .before .before .before .before .before .before .before .before .before .before .before .next .given .1) ∙ c .before .before .before .before .before .before .before .before .before .before .before .before .before .before .before .before .before .expect-token .ensures) in meets-refused _ _ _ _ _ _ (map-4 _ _ _ _ _ (o .0) _ (o .1) _ _ _ _ _ (got-tree _ _ _ _ _ _ _ _ (c .before .before .before .before .before .before .before .before .before .before .before .before .parse-field .ensures) (c .before .before .before .before .before .before .before .before .entries .given .1)) _ (c .before .before .before .before .before .entries-refusal .ensures ∙ entries-are _ _ _ _ _ _ _ (got-tree _ _ _ _ _ _ _ _ (c .before .before .before .before .before .before .before .before .before .before .before .before .parse-field .ensures) (c .before .before .before .before .before .before .before .before .entries .given .1)) (below-fits _ _ _ _ (c .before .before .before .before .before .before .before .before .before .before .before .before .before .before .before .before .before .before .before .before .pre .1 .0))) (c .before .before .before .before .if1 .left) _ (lost-step _ _ (sym (c .before .n2 .given .1) ∙ c .before .before .before .expect-token2 .ensures)))
 
   parse-map-sorted-requires : lts.Need-parse-map-sorted-requires (calls t) (at t) parse-map.Post
   parse-map-sorted-requires c κs = search needs
@@ -80,16 +81,16 @@ module _ (t : ℕ) where
   same-length-4 c = search needs
 
   returns-5 : lts.Need-returns-5 (calls t) (at t) parse-map.Post
-  returns-5 c = let o = got-step _ _ (sym (c .before .before .before .before .before .before .before .before .before .before .before .before .before .before .before .before .before .before .before .next .given .1) ∙ c .before .before .before .before .before .before .before .before .before .before .before .before .before .before .before .before .before .before .before .before .before .expect-token .ensures) in let d = got-step _ _ (sym (c .before .before .before .before .before .next2 .given .1) ∙ c .before .before .before .before .before .before .before .expect-token2 .ensures) in meets-refused _ _ _ _ _ _ (map-5 _ _ _ _ _ (o .0) _ (o .1) _ _ _ _ _ (got-tree _ _ _ _ _ _ _ _ (c .before .before .before .before .before .before .before .before .before .before .before .before .before .before .before .before .parse-field .ensures) (c .before .before .before .before .before .before .before .before .before .before .before .before .entries .given .1)) _ (c .before .before .before .before .before .before .before .before .before .entries-refusal .ensures ∙ entries-are _ _ _ _ _ _ _ (got-tree _ _ _ _ _ _ _ _ (c .before .before .before .before .before .before .before .before .before .before .before .before .before .before .before .before .parse-field .ensures) (c .before .before .before .before .before .before .before .before .before .before .before .before .entries .given .1)) (below-fits _ _ _ _ (c .before .before .before .before .before .before .before .before .before .before .before .before .before .before .before .before .before .before .before .before .before .before .before .before .pre .1))) (c .before .before .before .before .before .before .before .before .if1 .left) (d .0) _ (d .1) _ (lost-value _ _ (sym (c .before .n3 .given .1) ∙ c .before .before .before .parse-map-sorted .ensures)))
+  returns-5 c = let o = got-step _ _ (sym (c .before .before .before .before .before .before .before .before .before .before .before .before .before .before .before .before .before .before .before .next .given .1) ∙ c .before .before .before .before .before .before .before .before .before .before .before .before .before .before .before .before .before .before .before .before .before .expect-token .ensures) in let d = got-step _ _ (sym (c .before .before .before .before .before .next2 .given .1) ∙ c .before .before .before .before .before .before .before .expect-token2 .ensures) in meets-refused _ _ _ _ _ _ (map-5 _ _ _ _ _ (o .0) _ (o .1) _ _ _ _ _ (got-tree _ _ _ _ _ _ _ _ (c .before .before .before .before .before .before .before .before .before .before .before .before .before .before .before .before .parse-field .ensures) (c .before .before .before .before .before .before .before .before .before .before .before .before .entries .given .1)) _ (c .before .before .before .before .before .before .before .before .before .entries-refusal .ensures ∙ entries-are _ _ _ _ _ _ _ (got-tree _ _ _ _ _ _ _ _ (c .before .before .before .before .before .before .before .before .before .before .before .before .before .before .before .before .parse-field .ensures) (c .before .before .before .before .before .before .before .before .before .before .before .before .entries .given .1)) (below-fits _ _ _ _ (c .before .before .before .before .before .before .before .before .before .before .before .before .before .before .before .before .before .before .before .before .before .before .before .before .pre .1 .0))) (c .before .before .before .before .before .before .before .before .if1 .left) (d .0) _ (d .1) _ (lost-value _ _ (sym (c .before .n3 .given .1) ∙ c .before .before .before .parse-map-sorted .ensures)))
 
   close-requires : lts.Need-close-requires (calls t) (at t) parse-map.Post
-  close-requires c κs = room-front _ _ _ _ _ (c .before .before .before .before .before .before .before .before .before .before .before .before .before .before .before .before .before .before .before .before .before .before .before .before .before .pre .1) (c .before .before .before .before .before .before .before .before .before .before .before .before .before .before .before .before .before .parse-field .kept .1 .0) _ (tree-most _ _ _ _ _ _ _ (got-tree _ _ _ _ _ _ _ _ (c .before .before .before .before .before .before .before .before .before .before .before .before .before .before .before .before .before .parse-field .ensures) (c .before .before .before .before .before .before .before .before .before .before .before .before .before .entries .given .1)))
+  close-requires c κs = (room-front _ _ _ _ _ (c .before .before .before .before .before .before .before .before .before .before .before .before .before .before .before .before .before .before .before .before .before .before .before .before .before .pre .1 .0) (c .before .before .before .before .before .before .before .before .before .before .before .before .before .before .before .before .before .parse-field .kept .1 .1 .0) _ (tree-most _ _ _ _ _ _ _ (got-tree _ _ _ _ _ _ _ _ (c .before .before .before .before .before .before .before .before .before .before .before .before .before .before .before .before .before .parse-field .ensures) (c .before .before .before .before .before .before .before .before .before .before .before .before .before .entries .given .1))), c .before .before .before .before .before .before .before .before .before .before .before .before .before .before .before .before .before .before .before .before .before .before .before .before .before .pre .1 .1)
 
   same-length-5 : lts.Need-same-length-5 (calls t) (at t) parse-map.Post
   same-length-5 c = search needs
 
   returns-6 : lts.Need-returns-6 (calls t) (at t) parse-map.Post
-  returns-6 c = let o = got-step _ _ (sym (c .before .before .before .before .before .before .before .before .before .before .before .before .before .before .before .before .before .before .before .before .before .before .before .next .given .1) ∙ c .before .before .before .before .before .before .before .before .before .before .before .before .before .before .before .before .before .before .before .before .before .before .before .before .before .expect-token .ensures) in let d = got-step _ _ (sym (c .before .before .before .before .before .before .before .before .before .next2 .given .1) ∙ c .before .before .before .before .before .before .before .before .before .before .before .expect-token2 .ensures) in map-6 _ _ _ _ _ (o .0) _ (o .1) _ _ _ _ _ (got-tree _ _ _ _ _ _ _ _ (c .before .before .before .before .before .before .before .before .before .before .before .before .before .before .before .before .before .before .before .before .parse-field .ensures) (c .before .before .before .before .before .before .before .before .before .before .before .before .before .before .before .before .entries .given .1)) _ (c .before .before .before .before .before .before .before .before .before .before .before .before .before .entries-refusal .ensures ∙ entries-are _ _ _ _ _ _ _ (got-tree _ _ _ _ _ _ _ _ (c .before .before .before .before .before .before .before .before .before .before .before .before .before .before .before .before .before .before .before .before .parse-field .ensures) (c .before .before .before .before .before .before .before .before .before .before .before .before .before .before .before .before .entries .given .1)) (below-fits _ _ _ _ (c .before .before .before .before .before .before .before .before .before .before .before .before .before .before .before .before .before .before .before .before .before .before .before .before .before .before .before .before .pre .1))) (c .before .before .before .before .before .before .before .before .before .before .before .before .if1 .left) (d .0) _ (d .1) _ _ _ _ (got-value _ _ (sym (c .before .before .before .before .before .sorted .given .1) ∙ c .before .before .before .before .before .before .before .parse-map-sorted .ensures)) (c .before .before .close .ensures)
+  returns-6 c = let o = got-step _ _ (sym (c .before .before .before .before .before .before .before .before .before .before .before .before .before .before .before .before .before .before .before .before .before .before .before .next .given .1) ∙ c .before .before .before .before .before .before .before .before .before .before .before .before .before .before .before .before .before .before .before .before .before .before .before .before .before .expect-token .ensures) in let d = got-step _ _ (sym (c .before .before .before .before .before .before .before .before .before .next2 .given .1) ∙ c .before .before .before .before .before .before .before .before .before .before .before .expect-token2 .ensures) in map-6 _ _ _ _ _ (o .0) _ (o .1) _ _ _ _ _ (got-tree _ _ _ _ _ _ _ _ (c .before .before .before .before .before .before .before .before .before .before .before .before .before .before .before .before .before .before .before .before .parse-field .ensures) (c .before .before .before .before .before .before .before .before .before .before .before .before .before .before .before .before .entries .given .1)) _ (c .before .before .before .before .before .before .before .before .before .before .before .before .before .entries-refusal .ensures ∙ entries-are _ _ _ _ _ _ _ (got-tree _ _ _ _ _ _ _ _ (c .before .before .before .before .before .before .before .before .before .before .before .before .before .before .before .before .before .before .before .before .parse-field .ensures) (c .before .before .before .before .before .before .before .before .before .before .before .before .before .before .before .before .entries .given .1)) (below-fits _ _ _ _ (c .before .before .before .before .before .before .before .before .before .before .before .before .before .before .before .before .before .before .before .before .before .before .before .before .before .before .before .before .pre .1 .0))) (c .before .before .before .before .before .before .before .before .before .before .before .before .if1 .left) (d .0) _ (d .1) _ _ _ _ (got-value _ _ (sym (c .before .before .before .before .before .sorted .given .1) ∙ c .before .before .before .before .before .before .before .parse-map-sorted .ensures)) (c .before .before .close .ensures)
 
   pub closed : {M : Type 1} → lts.Closed (calls t) (at t) parse-map.Post M
   closed = lts.spec (calls t) (at t) parse-map.Post expect-token-requires enum-known-next enum-known-n returns add-parse-field parse-field-requires enum-known-entries enum-told same-length returns-2 add-entries-refusal entries-refusal-requires same-length-2 returns-3 expect-token-requires-2 enum-known-next-2 enum-known-n-2 same-length-3 returns-4 parse-map-sorted-requires enum-known-sorted enum-known-n-3 same-length-4 returns-5 close-requires same-length-5 returns-6

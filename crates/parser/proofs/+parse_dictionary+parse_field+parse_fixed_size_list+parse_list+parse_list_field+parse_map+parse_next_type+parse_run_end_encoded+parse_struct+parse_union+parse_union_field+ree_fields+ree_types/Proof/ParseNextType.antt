@@ -39,43 +39,43 @@ module _ (t : ℕ) where
   sub-level c = search needs
 
   parse-timestamp-requires : lts.Need-parse-timestamp-requires (calls t) (at t) parse-next-type.Post
-  parse-timestamp-requires c κs = room-one _ _ _ _ (c .before .before .before .before .before .before .before .before .before .before .pre .1) (c .before .before .before .before .before .before .if2 .left)
+  parse-timestamp-requires c κs = (room-one _ _ _ _ (c .before .before .before .before .before .before .before .before .before .before .pre .1 .0) (c .before .before .before .before .before .before .if2 .left), c .before .before .before .before .before .before .before .before .before .before .pre .1 .1)
 
   parse-interval-requires : lts.Need-parse-interval-requires (calls t) (at t) parse-next-type.Post
-  parse-interval-requires c κs = room-one _ _ _ _ (c .before .before .before .before .before .before .before .before .before .before .pre .1) (c .before .before .before .before .before .before .if2 .left)
+  parse-interval-requires c κs = (room-one _ _ _ _ (c .before .before .before .before .before .before .before .before .before .before .pre .1 .0) (c .before .before .before .before .before .before .if2 .left), c .before .before .before .before .before .before .before .before .before .before .pre .1 .1)
 
   parse-fixed-size-binary-requires : lts.Need-parse-fixed-size-binary-requires (calls t) (at t) parse-next-type.Post
-  parse-fixed-size-binary-requires c κs = room-one _ _ _ _ (c .before .before .before .before .before .before .before .before .before .before .pre .1) (c .before .before .before .before .before .before .if2 .left)
+  parse-fixed-size-binary-requires c κs = (room-one _ _ _ _ (c .before .before .before .before .before .before .before .before .before .before .pre .1 .0) (c .before .before .before .before .before .before .if2 .left), c .before .before .before .before .before .before .before .before .before .before .pre .1 .1)
 
   parse-fixed-size-list-requires : lts.Need-parse-fixed-size-list-requires (calls t) (at t) parse-next-type.Post
-  parse-fixed-size-list-requires c κs = (omega arith, room-less _ _ _ _ (c .before .before .before .before .before .before .before .before .before .before .pre .1) (c .before .before .before .before .before .before .if2 .left))
+  parse-fixed-size-list-requires c κs = (omega arith, (room-less _ _ _ _ (c .before .before .before .before .before .before .before .before .before .before .pre .1 .0) (c .before .before .before .before .before .before .if2 .left), c .before .before .before .before .before .before .before .before .before .before .pre .1 .1))
 
   parse-struct-requires : lts.Need-parse-struct-requires (calls t) (at t) parse-next-type.Post
-  parse-struct-requires c κs = (omega arith, room-less _ _ _ _ (c .before .before .before .before .before .before .before .before .before .before .pre .1) (c .before .before .before .before .before .before .if2 .left))
+  parse-struct-requires c κs = (omega arith, (room-less _ _ _ _ (c .before .before .before .before .before .before .before .before .before .before .pre .1 .0) (c .before .before .before .before .before .before .if2 .left), c .before .before .before .before .before .before .before .before .before .before .pre .1 .1))
 
   parse-union-requires : lts.Need-parse-union-requires (calls t) (at t) parse-next-type.Post
-  parse-union-requires c κs = (omega arith, room-less _ _ _ _ (c .before .before .before .before .before .before .before .before .before .before .pre .1) (c .before .before .before .before .before .before .if2 .left))
+  parse-union-requires c κs = (omega arith, (room-less _ _ _ _ (c .before .before .before .before .before .before .before .before .before .before .pre .1 .0) (c .before .before .before .before .before .before .if2 .left), c .before .before .before .before .before .before .before .before .before .before .pre .1 .1))
 
   parse-dictionary-requires : lts.Need-parse-dictionary-requires (calls t) (at t) parse-next-type.Post
-  parse-dictionary-requires c κs = (omega arith, room-less _ _ _ _ (c .before .before .before .before .before .before .before .before .before .before .pre .1) (c .before .before .before .before .before .before .if2 .left))
+  parse-dictionary-requires c κs = (omega arith, (room-less _ _ _ _ (c .before .before .before .before .before .before .before .before .before .before .pre .1 .0) (c .before .before .before .before .before .before .if2 .left), c .before .before .before .before .before .before .before .before .before .before .pre .1 .1))
 
   parse-map-requires : lts.Need-parse-map-requires (calls t) (at t) parse-next-type.Post
-  parse-map-requires c κs = (omega arith, room-less _ _ _ _ (c .before .before .before .before .before .before .before .before .before .before .pre .1) (c .before .before .before .before .before .before .if2 .left))
+  parse-map-requires c κs = (omega arith, (room-less _ _ _ _ (c .before .before .before .before .before .before .before .before .before .before .pre .1 .0) (c .before .before .before .before .before .before .if2 .left), c .before .before .before .before .before .before .before .before .before .before .pre .1 .1))
 
   parse-run-end-encoded-requires : lts.Need-parse-run-end-encoded-requires (calls t) (at t) parse-next-type.Post
-  parse-run-end-encoded-requires c κs = (omega arith, room-less _ _ _ _ (c .before .before .before .before .before .before .before .before .before .before .pre .1) (c .before .before .before .before .before .before .if2 .left))
+  parse-run-end-encoded-requires c κs = (omega arith, (room-less _ _ _ _ (c .before .before .before .before .before .before .before .before .before .before .pre .1 .0) (c .before .before .before .before .before .before .if2 .left), c .before .before .before .before .before .before .before .before .before .before .pre .1 .1))
 
   parse-time-requires : lts.Need-parse-time-requires (calls t) (at t) parse-next-type.Post
-  parse-time-requires c κs = room-one _ _ _ _ (c .before .before .before .before .before .before .before .before .before .before .before .before .pre .1) (c .before .before .before .before .before .before .before .before .if2 .left)
+  parse-time-requires c κs = (room-one _ _ _ _ (c .before .before .before .before .before .before .before .before .before .before .before .before .pre .1 .0) (c .before .before .before .before .before .before .before .before .if2 .left), c .before .before .before .before .before .before .before .before .before .before .before .before .pre .1 .1)
 
   parse-list-requires : lts.Need-parse-list-requires (calls t) (at t) parse-next-type.Post
-  parse-list-requires c κs = (omega arith, room-less _ _ _ _ (c .before .before .before .before .before .before .before .before .before .before .before .before .before .before .pre .1) (c .before .before .before .before .before .before .before .before .before .before .if2 .left))
+  parse-list-requires c κs = (omega arith, (room-less _ _ _ _ (c .before .before .before .before .before .before .before .before .before .before .before .before .before .before .pre .1 .0) (c .before .before .before .before .before .before .before .before .before .before .if2 .left), c .before .before .before .before .before .before .before .before .before .before .before .before .before .before .pre .1 .1))
 
   parse-decimal-requires : lts.Need-parse-decimal-requires (calls t) (at t) parse-next-type.Post
-  parse-decimal-requires c κs = room-one _ _ _ _ (c .before .before .before .before .before .before .before .before .before .before .before .before .before .before .before .pre .1) (c .before .before .before .before .before .before .before .before .before .before .before .if2 .left)
+  parse-decimal-requires c κs = (room-one _ _ _ _ (c .before .before .before .before .before .before .before .before .before .before .before .before .before .before .before .pre .1 .0) (c .before .before .before .before .before .before .before .before .before .before .before .if2 .left), c .before .before .before .before .before .before .before .before .before .before .before .before .before .before .before .pre .1 .1)
 
   put-parent-requires : lts.Need-put-parent-requires (calls t) (at t) parse-next-type.Post
-  put-parent-requires c κs = leaf-asks _ _ _ _ (c .before .before .before .before .before .before .before .before .before .before .before .pre .1) (c .before .before .before .before .before .before .before .if2 .left)
+  put-parent-requires c κs = leaf-asks _ _ _ _ (c .before .before .before .before .before .before .before .before .before .before .before .pre .1 .0) (c .before .before .before .before .before .before .before .if2 .left)
 
   same-length : lts.Need-same-length (calls t) (at t) parse-next-type.Post
   same-length c = search needs

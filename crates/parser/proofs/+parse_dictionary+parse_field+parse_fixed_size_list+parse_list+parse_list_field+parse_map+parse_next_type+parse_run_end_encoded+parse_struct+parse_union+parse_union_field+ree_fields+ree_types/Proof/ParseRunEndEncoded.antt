@@ -1,3 +1,4 @@
+use Rattle.parser.proofs.Readers.{room-below}
 use Prim.Native.Nat.{ℕ}
 use Rattle.parser.proofs.Answers.{got-fields, got-step, lost-fields, lost-step}
 use Rattle.parser.proofs.FieldLaws.{run-ends-long, run-ends-short}
@@ -29,7 +30,7 @@ module _ (t : ℕ) where
   add-ree-fields c = search needs
 
   ree-fields-requires : lts.Need-ree-fields-requires (calls t) (at t) parse-run-end-encoded.Post
-  ree-fields-requires c κs = search needs
+  ree-fields-requires c κs = (search needs, (room-below _ _ _ _ (c .before .before .before .before .before .before .before .before .before .pre .1 .0), c .before .before .before .before .before .before .before .before .before .pre .1 .1))
 
   enum-known-fields : lts.Need-enum-known-fields (calls t) (at t) parse-run-end-encoded.Post
   enum-known-fields c = search needs
@@ -44,7 +45,7 @@ module _ (t : ℕ) where
   returns-2 c = let o = got-step _ _ (sym (c .before .before .before .before .before .before .before .before .before .next .given .1) ∙ c .before .before .before .before .before .before .before .before .before .before .before .expect-token .ensures) in meets-lost _ _ _ _ _ _ _ (c .enum-told .given .1) (run-end-2 _ _ _ _ _ (o .0) _ (o .1) _ (lost-fields _ _ _ _ _ _ _ (run-ends-long _ _ _ _ _ _ _ _ (sym (c .before .before .before .before .before .before .before .peek-double-quoted .ensures) ∙ c .before .before .before .before .before .before .if1 .taken) (c .before .before .before .before .ree-fields .ensures)) (c .enum-told .given .1)))
 
   close-requires : lts.Need-close-requires (calls t) (at t) parse-run-end-encoded.Post
-  close-requires c κs = room-front _ _ _ _ _ (c .before .before .before .before .before .before .before .before .before .before .before .before .before .before .before .before .pre .1) (c .before .before .before .before .before .before .ree-fields .kept .1 .0) _ (fields-most _ _ _ _ _ _ _ (got-fields _ _ _ _ _ _ _ _ (c .before .before .before .before .before .before .ree-fields .ensures) (c .before .before .fields .given .1)))
+  close-requires c κs = (room-front _ _ _ _ _ (c .before .before .before .before .before .before .before .before .before .before .before .before .before .before .before .before .pre .1 .0) (c .before .before .before .before .before .before .ree-fields .kept .1 .1 .0) _ (fields-most _ _ _ _ _ _ _ (got-fields _ _ _ _ _ _ _ _ (c .before .before .before .before .before .before .ree-fields .ensures) (c .before .before .fields .given .1))), c .before .before .before .before .before .before .before .before .before .before .before .before .before .before .before .before .pre .1 .1)
 
   same-length-2 : lts.Need-same-length-2 (calls t) (at t) parse-run-end-encoded.Post
   same-length-2 c = search needs
@@ -56,7 +57,7 @@ module _ (t : ℕ) where
   add-ree-types c = search needs
 
   ree-types-requires : lts.Need-ree-types-requires (calls t) (at t) parse-run-end-encoded.Post
-  ree-types-requires c κs = search needs
+  ree-types-requires c κs = (search needs, (room-below _ _ _ _ (c .before .before .before .before .before .before .before .before .before .pre .1 .0), c .before .before .before .before .before .before .before .before .before .pre .1 .1))
 
   enum-known-fields-2 : lts.Need-enum-known-fields-2 (calls t) (at t) parse-run-end-encoded.Post
   enum-known-fields-2 c = search needs
@@ -71,7 +72,7 @@ module _ (t : ℕ) where
   returns-4 c = let o = got-step _ _ (sym (c .before .before .before .before .before .before .before .before .before .next .given .1) ∙ c .before .before .before .before .before .before .before .before .before .before .before .expect-token .ensures) in meets-lost _ _ _ _ _ _ _ (c .enum-told2 .given .1) (run-end-2 _ _ _ _ _ (o .0) _ (o .1) _ (lost-fields _ _ _ _ _ _ _ (run-ends-short _ _ _ _ _ _ _ _ (sym (c .before .before .before .before .before .before .before .peek-double-quoted .ensures) ∙ c .before .before .before .before .before .before .if1 .left) (c .before .before .before .before .ree-types .ensures)) (c .enum-told2 .given .1)))
 
   close-requires-2 : lts.Need-close-requires-2 (calls t) (at t) parse-run-end-encoded.Post
-  close-requires-2 c κs = room-front _ _ _ _ _ (c .before .before .before .before .before .before .before .before .before .before .before .before .before .before .before .before .pre .1) (c .before .before .before .before .before .before .ree-types .kept .1 .0) _ (fields-most _ _ _ _ _ _ _ (got-fields _ _ _ _ _ _ _ _ (c .before .before .before .before .before .before .ree-types .ensures) (c .before .before .fields2 .given .1)))
+  close-requires-2 c κs = (room-front _ _ _ _ _ (c .before .before .before .before .before .before .before .before .before .before .before .before .before .before .before .before .pre .1 .0) (c .before .before .before .before .before .before .ree-types .kept .1 .1 .0) _ (fields-most _ _ _ _ _ _ _ (got-fields _ _ _ _ _ _ _ _ (c .before .before .before .before .before .before .ree-types .ensures) (c .before .before .fields2 .given .1))), c .before .before .before .before .before .before .before .before .before .before .before .before .before .before .before .before .pre .1 .1)
 
   same-length-4 : lts.Need-same-length-4 (calls t) (at t) parse-run-end-encoded.Post
   same-length-4 c = search needs

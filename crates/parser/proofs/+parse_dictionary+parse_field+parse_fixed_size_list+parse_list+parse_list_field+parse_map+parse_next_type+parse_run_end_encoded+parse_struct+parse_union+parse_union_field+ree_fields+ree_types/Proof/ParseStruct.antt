@@ -13,10 +13,10 @@ use Rattle.parser.proofs.+parse_dictionary+parse_field+parse_fixed_size
 use Rattle.parser.proofs.+parse_dictionary+parse_field+parse_fixed_size_list+parse_list+parse_list_field+parse_map+parse_next_type+parse_run_end_encoded+parse_struct+parse_union+parse_union_field+ree_fields+ree_types.Proof.Frame.{parse-struct-at as at, calls-parse-struct as calls}
 
 abbrev Inv-loop : lts.InvT-loop
-Inv-loop text rows₀ kind at row left level «open» next₀ used₀ rows next used = Loop (structItem text (typeAt text level)) «open» left (row + 1) rows₀ rows next used
+Inv-loop words text rows₀ kind at row left level «open» next₀ used₀ rows next used = Loop (structItem text (typeAt text level)) «open» left (row + 1) rows₀ rows next used
 
 abbrev μ-loop : lts.MeasureT-loop
-μ-loop text rows₀ kind at row left level «open» next₀ used₀ rows next used = left - used
+μ-loop words text rows₀ kind at row left level «open» next₀ used₀ rows next used = left - used
 
 module _ (t : ℕ) where
   expect-token-requires : lts.Need-expect-token-requires (calls t) (at t) parse-struct.Post Inv-loop μ-loop
@@ -41,7 +41,7 @@ module _ (t : ℕ) where
   enum-known-end c = search needs
 
   put-parent-requires : lts.Need-put-parent-requires (calls t) (at t) parse-struct.Post Inv-loop μ-loop
-  put-parent-requires c κs = loop-front _ _ _ _ _ _ _ _ (c .before .before .before .before .before .loop .inv) _ (c .before .before .before .before .before .before .before .before .before .before .before .before .pre .1)
+  put-parent-requires c κs = loop-front _ _ _ _ _ _ _ _ (c .before .before .before .before .before .loop .inv) _ (c .before .before .before .before .before .before .before .before .before .before .before .before .pre .1 .0)
 
   same-length : lts.Need-same-length (calls t) (at t) parse-struct.Post Inv-loop μ-loop
   same-length c = c .before .before .put-parent .kept .0 ∙ loop-length _ _ _ _ _ _ _ _ (c .before .before .before .before .before .before .before .before .loop .inv)
@@ -56,13 +56,13 @@ module _ (t : ℕ) where
   add-parse-field c = search needs
 
   add-parse-field-2 : lts.Need-add-parse-field-2 (calls t) (at t) parse-struct.Post Inv-loop μ-loop
-  add-parse-field-2 c = omega (arith, c .before .before .before .before .loop .inv .within, c .before .before .before .before .before .before .before .before .before .before .before .pre .1 .small)
+  add-parse-field-2 c = omega (arith, c .before .before .before .before .loop .inv .within, c .before .before .before .before .before .before .before .before .before .before .before .pre .1 .0 .small)
 
   sub-parse-field : lts.Need-sub-parse-field (calls t) (at t) parse-struct.Post Inv-loop μ-loop
   sub-parse-field c = c .before .before .before .before .loop .inv .within
 
   parse-field-requires : lts.Need-parse-field-requires (calls t) (at t) parse-struct.Post Inv-loop μ-loop
-  parse-field-requires c κs = (omega arith, loop-room _ _ _ _ _ _ _ _ (c .before .before .before .before .loop .inv) _ (room-below _ _ _ _ (c .before .before .before .before .before .before .before .before .before .before .before .pre .1)))
+  parse-field-requires c κs = (omega arith, (loop-room _ _ _ _ _ _ _ _ (c .before .before .before .before .loop .inv) _ (room-below _ _ _ _ (c .before .before .before .before .before .before .before .before .before .before .before .pre .1 .0)), c .before .before .before .before .before .before .before .before .before .before .before .pre .1 .1))
 
   enum-known-field : lts.Need-enum-known-field (calls t) (at t) parse-struct.Post Inv-loop μ-loop
   enum-known-field c = search needs
@@ -71,13 +71,13 @@ module _ (t : ℕ) where
   enum-told-2 c = search needs
 
   same-length-2 : lts.Need-same-length-2 (calls t) (at t) parse-struct.Post Inv-loop μ-loop
-  same-length-2 c = c .before .before .before .before .parse-field .kept .1 .0 ∙ loop-length _ _ _ _ _ _ _ _ (c .before .before .before .before .before .before .before .before .before .loop .inv)
+  same-length-2 c = c .before .before .before .before .parse-field .kept .1 .1 .0 ∙ loop-length _ _ _ _ _ _ _ _ (c .before .before .before .before .before .before .before .before .before .loop .inv)
 
   returns-3 : lts.Need-returns-3 (calls t) (at t) parse-struct.Post Inv-loop μ-loop
   returns-3 c = let o = got-step _ _ (sym (c .before .before .before .before .before .before .before .before .before .before .before .next .given .1) ∙ c .before .before .before .before .before .before .before .before .before .before .before .before .before .expect-token .ensures) in let l = lost-look _ (sym (c .before .before .before .before .before .before .enum-told .given .1) ∙ c .before .before .before .before .before .before .before .before .next-if .ensures) in meets-lost _ _ _ _ _ _ _ (c .enum-told2 .given .1) (struct-2 _ _ _ _ _ (o .0) _ (o .1) _ (loop-lost _ _ _ _ _ _ _ _ (c .before .before .before .before .before .before .before .before .before .loop .inv) _ (struct-field-1 _ _ _ _ (l .0) (l .1) _ (lost-tree _ _ _ _ _ _ _ (c .before .before .before .before .parse-field .ensures) (c .enum-told2 .given .1)))))
 
   add-used : lts.Need-add-used (calls t) (at t) parse-struct.Post Inv-loop μ-loop
-  add-used c = omega (arith, grown-most _ _ _ _ _ _ _ _ (c .before .before .before .before .before .before .before .before .before .before .loop .inv) _ _ _ _ (got-tree _ _ _ _ _ _ _ _ (c .before .before .before .before .before .parse-field .ensures) (c .before .field .given .1)), c .before .before .before .before .before .before .before .before .before .before .before .before .before .before .before .before .before .pre .1 .small)
+  add-used c = omega (arith, grown-most _ _ _ _ _ _ _ _ (c .before .before .before .before .before .before .before .before .before .before .loop .inv) _ _ _ _ (got-tree _ _ _ _ _ _ _ _ (c .before .before .before .before .before .parse-field .ensures) (c .before .field .given .1)), c .before .before .before .before .before .before .before .before .before .before .before .before .before .before .before .before .before .pre .1 .0 .small)
 
   next-if-requires-2 : lts.Need-next-if-requires-2 (calls t) (at t) parse-struct.Post Inv-loop μ-loop
   next-if-requires-2 c κs = search needs
@@ -95,10 +95,10 @@ module _ (t : ℕ) where
   enum-told-3 c = search needs
 
   close-requires : lts.Need-close-requires (calls t) (at t) parse-struct.Post Inv-loop μ-loop
-  close-requires c κs = room-front _ _ _ _ _ (c .before .before .before .before .before .before .before .before .before .before .before .before .before .before .before .before .before .before .before .before .before .pre .1) (c .before .before .before .before .before .before .before .before .before .parse-field .kept .1 .0 ∙ loop-length _ _ _ _ _ _ _ _ (c .before .before .before .before .before .before .before .before .before .before .before .before .before .before .loop .inv)) _ (grown-most _ _ _ _ _ _ _ _ (c .before .before .before .before .before .before .before .before .before .before .before .before .before .before .loop .inv) _ _ _ _ (got-tree _ _ _ _ _ _ _ _ (c .before .before .before .before .before .before .before .before .before .parse-field .ensures) (c .before .before .before .before .before .field .given .1)))
+  close-requires c κs = (room-front _ _ _ _ _ (c .before .before .before .before .before .before .before .before .before .before .before .before .before .before .before .before .before .before .before .before .before .pre .1 .0) (c .before .before .before .before .before .before .before .before .before .parse-field .kept .1 .1 .0 ∙ loop-length _ _ _ _ _ _ _ _ (c .before .before .before .before .before .before .before .before .before .before .before .before .before .before .loop .inv)) _ (grown-most _ _ _ _ _ _ _ _ (c .before .before .before .before .before .before .before .before .before .before .before .before .before .before .loop .inv) _ _ _ _ (got-tree _ _ _ _ _ _ _ _ (c .before .before .before .before .before .before .before .before .before .parse-field .ensures) (c .before .before .before .before .before .field .given .1))), c .before .before .before .before .before .before .before .before .before .before .before .before .before .before .before .before .before .before .before .before .before .pre .1 .1)
 
   same-length-3 : lts.Need-same-length-3 (calls t) (at t) parse-struct.Post Inv-loop μ-loop
-  same-length-3 c = c .before .before .close .kept .1 .0 ∙ c .before .before .before .before .before .before .before .before .before .before .before .before .parse-field .kept .1 .0 ∙ loop-length _ _ _ _ _ _ _ _ (c .before .before .before .before .before .before .before .before .before .before .before .before .before .before .before .before .before .loop .inv)
+  same-length-3 c = c .before .before .close .kept .1 .1 .0 ∙ c .before .before .before .before .before .before .before .before .before .before .before .before .parse-field .kept .1 .1 .0 ∙ loop-length _ _ _ _ _ _ _ _ (c .before .before .before .before .before .before .before .before .before .before .before .before .before .before .before .before .before .loop .inv)
 
   returns-4 : lts.Need-returns-4 (calls t) (at t) parse-struct.Post Inv-loop μ-loop
   returns-4 c = let o = got-step _ _ (sym (c .before .before .before .before .before .before .before .before .before .before .before .before .before .before .before .before .before .before .before .next .given .1) ∙ c .before .before .before .before .before .before .before .before .before .before .before .before .before .before .before .before .before .before .before .before .before .expect-token .ensures) in let l = lost-look _ (sym (c .before .before .before .before .before .before .before .before .before .before .before .before .before .before .enum-told .given .1) ∙ c .before .before .before .before .before .before .before .before .before .before .before .before .before .before .before .before .next-if .ensures) in let m = lost-look _ (sym (c .before .before .before .before .enum-told3 .given .1) ∙ c .before .before .before .before .before .before .next-if2 .ensures) in struct-4 _ _ _ _ _ (o .0) _ (o .1) _ _ _ _ _ (c .before .before .before .before .before .before .before .before .before .before .before .before .before .before .before .before .before .loop .inv) (l .0) (l .1) _ _ _ (got-tree _ _ _ _ _ _ _ _ (c .before .before .before .before .before .before .before .before .before .before .before .before .parse-field .ensures) (c .before .before .before .before .before .before .before .before .field .given .1)) (m .0) (m .1) _ _ (c .before .before .close .ensures)

@@ -15,10 +15,10 @@ use Rattle.parser.proofs.+parse_dictionary+parse_field+parse_fixed_size
 use Rattle.parser.proofs.+parse_dictionary+parse_field+parse_fixed_size_list+parse_list+parse_list_field+parse_map+parse_next_type+parse_run_end_encoded+parse_struct+parse_union+parse_union_field+ree_fields+ree_types.Proof.Frame.{parse-union-at as at, calls-parse-union as calls}
 
 abbrev Inv-loop : lts.InvT-loop
-Inv-loop text rows₀ kind at row left level «open» mode next₀ used₀ rows next used = Loop (unionItem text (typeAt text level)) (mode .next) left (row + 1) rows₀ rows next used
+Inv-loop words text rows₀ kind at row left level «open» mode next₀ used₀ rows next used = Loop (unionItem text (typeAt text level)) (mode .next) left (row + 1) rows₀ rows next used
 
 abbrev μ-loop : lts.MeasureT-loop
-μ-loop text rows₀ kind at row left level «open» mode next₀ used₀ rows next used = left - used
+μ-loop words text rows₀ kind at row left level «open» mode next₀ used₀ rows next used = left - used
 
 module _ (t : ℕ) where
   expect-token-requires : lts.Need-expect-token-requires (calls t) (at t) parse-union.Post Inv-loop μ-loop
@@ -61,7 +61,7 @@ module _ (t : ℕ) where
   add-try-new-2 c = search needs
 
   add-try-new-3 : lts.Need-add-try-new-3 (calls t) (at t) parse-union.Post Inv-loop μ-loop
-  add-try-new-3 c = omega (arith, c .before .before .before .before .before .loop .inv .within, c .before .before .before .before .before .before .before .before .before .before .before .before .before .before .before .before .pre .1 .small)
+  add-try-new-3 c = omega (arith, c .before .before .before .before .before .loop .inv .within, c .before .before .before .before .before .before .before .before .before .before .before .before .before .before .before .before .pre .1 .0 .small)
 
   try-new-requires : lts.Need-try-new-requires (calls t) (at t) parse-union.Post Inv-loop μ-loop
   try-new-requires c κs = search needs
@@ -70,16 +70,16 @@ module _ (t : ℕ) where
   same-length c = loop-length _ _ _ _ _ _ _ _ (c .before .before .before .before .before .before .before .loop .inv)
 
   returns-3 : lts.Need-returns-3 (calls t) (at t) parse-union.Post Inv-loop μ-loop
-  returns-3 c = let o = got-step _ _ (sym (c .before .before .before .before .before .before .before .before .before .before .before .before .before .next .given .1) ∙ c .before .before .before .before .before .before .before .before .before .before .before .before .before .before .before .expect-token .ensures) in let e = got-look _ _ (sym (c .before .before .before .before .end .given .1) ∙ c .before .before .before .before .before .before .next-if .ensures) in meets-refused _ _ _ _ _ _ (union-at-4 _ _ _ _ _ (o .0) _ (o .1) _ _ (got-value _ _ (sym (c .before .before .before .before .before .before .before .before .before .mode .given .1) ∙ c .before .before .before .before .before .before .before .before .before .before .before .parse-union-mode .ensures)) _ _ _ _ _ (loop-end _ _ _ _ _ _ _ _ (c .before .before .before .before .before .before .before .loop .inv) _ (union-end _ _ _ _ (e .0) _ (e .1))) _ (c .before .try-new .ensures ∙ ids-read _ _ _ _ _ _ _ (loop-end _ _ _ _ _ _ _ _ (c .before .before .before .before .before .before .before .loop .inv) _ (union-end _ _ _ _ (e .0) _ (e .1))) (below-fits _ _ _ _ (c .before .before .before .before .before .before .before .before .before .before .before .before .before .before .before .before .before .before .pre .1))) (not-true _ (c .if1 .taken)))
+  returns-3 c = let o = got-step _ _ (sym (c .before .before .before .before .before .before .before .before .before .before .before .before .before .next .given .1) ∙ c .before .before .before .before .before .before .before .before .before .before .before .before .before .before .before .expect-token .ensures) in let e = got-look _ _ (sym (c .before .before .before .before .end .given .1) ∙ c .before .before .before .before .before .before .next-if .ensures) in meets-refused _ _ _ _ _ _ (union-at-4 _ _ _ _ _ (o .0) _ (o .1) _ _ (got-value _ _ (sym (c .before .before .before .before .before .before .before .before .before .mode .given .1) ∙ c .before .before .before .before .before .before .before .before .before .before .before .parse-union-mode .ensures)) _ _ _ _ _ (loop-end _ _ _ _ _ _ _ _ (c .before .before .before .before .before .before .before .loop .inv) _ (union-end _ _ _ _ (e .0) _ (e .1))) _ (c .before .try-new .ensures ∙ ids-read _ _ _ _ _ _ _ (loop-end _ _ _ _ _ _ _ _ (c .before .before .before .before .before .before .before .loop .inv) _ (union-end _ _ _ _ (e .0) _ (e .1))) (below-fits _ _ _ _ (c .before .before .before .before .before .before .before .before .before .before .before .before .before .before .before .before .before .before .pre .1 .0))) (not-true _ (c .if1 .taken)))
 
   put-parent-requires : lts.Need-put-parent-requires (calls t) (at t) parse-union.Post Inv-loop μ-loop
-  put-parent-requires c κs = loop-front _ _ _ _ _ _ _ _ (c .before .before .before .before .before .before .before .before .loop .inv) _ (c .before .before .before .before .before .before .before .before .before .before .before .before .before .before .before .before .before .before .before .pre .1)
+  put-parent-requires c κs = loop-front _ _ _ _ _ _ _ _ (c .before .before .before .before .before .before .before .before .loop .inv) _ (c .before .before .before .before .before .before .before .before .before .before .before .before .before .before .before .before .before .before .before .pre .1 .0)
 
   same-length-2 : lts.Need-same-length-2 (calls t) (at t) parse-union.Post Inv-loop μ-loop
   same-length-2 c = c .before .before .put-parent .kept .0 ∙ loop-length _ _ _ _ _ _ _ _ (c .before .before .before .before .before .before .before .before .before .before .before .loop .inv)
 
   returns-4 : lts.Need-returns-4 (calls t) (at t) parse-union.Post Inv-loop μ-loop
-  returns-4 c = let o = got-step _ _ (sym (c .before .before .before .before .before .before .before .before .before .before .before .before .before .before .before .before .before .next .given .1) ∙ c .before .before .before .before .before .before .before .before .before .before .before .before .before .before .before .before .before .before .before .expect-token .ensures) in let e = got-look _ _ (sym (c .before .before .before .before .before .before .before .before .end .given .1) ∙ c .before .before .before .before .before .before .before .before .before .before .next-if .ensures) in union-at-5 _ _ _ _ _ (o .0) _ (o .1) _ _ (got-value _ _ (sym (c .before .before .before .before .before .before .before .before .before .before .before .before .before .mode .given .1) ∙ c .before .before .before .before .before .before .before .before .before .before .before .before .before .before .before .parse-union-mode .ensures)) _ _ _ _ _ (loop-end _ _ _ _ _ _ _ _ (c .before .before .before .before .before .before .before .before .before .before .before .loop .inv) _ (union-end _ _ _ _ (e .0) _ (e .1))) _ (c .before .before .before .before .before .try-new .ensures ∙ ids-read _ _ _ _ _ _ _ (loop-end _ _ _ _ _ _ _ _ (c .before .before .before .before .before .before .before .before .before .before .before .loop .inv) _ (union-end _ _ _ _ (e .0) _ (e .1))) (below-fits _ _ _ _ (c .before .before .before .before .before .before .before .before .before .before .before .before .before .before .before .before .before .before .before .before .before .before .pre .1))) _ _ (not-false _ (c .before .before .before .before .if1 .left)) (c .before .before .put-parent .ensures)
+  returns-4 c = let o = got-step _ _ (sym (c .before .before .before .before .before .before .before .before .before .before .before .before .before .before .before .before .before .next .given .1) ∙ c .before .before .before .before .before .before .before .before .before .before .before .before .before .before .before .before .before .before .before .expect-token .ensures) in let e = got-look _ _ (sym (c .before .before .before .before .before .before .before .before .end .given .1) ∙ c .before .before .before .before .before .before .before .before .before .before .next-if .ensures) in union-at-5 _ _ _ _ _ (o .0) _ (o .1) _ _ (got-value _ _ (sym (c .before .before .before .before .before .before .before .before .before .before .before .before .before .mode .given .1) ∙ c .before .before .before .before .before .before .before .before .before .before .before .before .before .before .before .parse-union-mode .ensures)) _ _ _ _ _ (loop-end _ _ _ _ _ _ _ _ (c .before .before .before .before .before .before .before .before .before .before .before .loop .inv) _ (union-end _ _ _ _ (e .0) _ (e .1))) _ (c .before .before .before .before .before .try-new .ensures ∙ ids-read _ _ _ _ _ _ _ (loop-end _ _ _ _ _ _ _ _ (c .before .before .before .before .before .before .before .before .before .before .before .loop .inv) _ (union-end _ _ _ _ (e .0) _ (e .1))) (below-fits _ _ _ _ (c .before .before .before .before .before .before .before .before .before .before .before .before .before .before .before .before .before .before .before .before .before .before .pre .1 .0))) _ _ (not-false _ (c .before .before .before .before .if1 .left)) (c .before .before .put-parent .ensures)
 
   enum-told : lts.Need-enum-told (calls t) (at t) parse-union.Post Inv-loop μ-loop
   enum-told c = search needs
@@ -100,16 +100,16 @@ module _ (t : ℕ) where
   returns-5 c = let o = got-step _ _ (sym (c .before .before .before .before .before .before .before .before .before .before .before .before .before .next .given .1) ∙ c .before .before .before .before .before .before .before .before .before .before .before .before .before .before .before .expect-token .ensures) in let l = lost-look _ (sym (c .before .before .before .before .enum-told .given .1) ∙ c .before .before .before .before .before .before .next-if .ensures) in meets-refused _ _ _ _ _ _ (union-at-3 _ _ _ _ _ (o .0) _ (o .1) _ _ (got-value _ _ (sym (c .before .before .before .before .before .before .before .before .before .mode .given .1) ∙ c .before .before .before .before .before .before .before .before .before .before .before .parse-union-mode .ensures)) _ (loop-lost _ _ _ _ _ _ _ _ (c .before .before .before .before .before .before .before .loop .inv) _ (union-open _ _ _ _ (l .0) (l .1) _ (lost-step _ _ (sym (c .before .n3 .given .1) ∙ c .before .before .before .expect-token2 .ensures)))))
 
   add-parse-union-field : lts.Need-add-parse-union-field (calls t) (at t) parse-union.Post Inv-loop μ-loop
-  add-parse-union-field c = search needs
+  add-parse-union-field c = omega (arith, c .before .before .before .before .before .before .before .before .before .before .before .before .before .before .before .before .before .before .before .pre .1 .0 .small)
 
   add-parse-union-field-2 : lts.Need-add-parse-union-field-2 (calls t) (at t) parse-union.Post Inv-loop μ-loop
-  add-parse-union-field-2 c = omega (arith, c .before .before .before .before .before .before .before .before .loop .inv .within, c .before .before .before .before .before .before .before .before .before .before .before .before .before .before .before .before .before .before .before .pre .1 .small)
+  add-parse-union-field-2 c = omega (arith, c .before .before .before .before .before .before .before .before .loop .inv .within, c .before .before .before .before .before .before .before .before .before .before .before .before .before .before .before .before .before .before .before .pre .1 .0 .small)
 
   sub-parse-union-field : lts.Need-sub-parse-union-field (calls t) (at t) parse-union.Post Inv-loop μ-loop
   sub-parse-union-field c = c .before .before .before .before .before .before .before .before .loop .inv .within
 
   parse-union-field-requires : lts.Need-parse-union-field-requires (calls t) (at t) parse-union.Post Inv-loop μ-loop
-  parse-union-field-requires c κs = (omega arith, loop-room _ _ _ _ _ _ _ _ (c .before .before .before .before .before .before .before .before .loop .inv) _ (room-below _ _ _ _ (c .before .before .before .before .before .before .before .before .before .before .before .before .before .before .before .before .before .before .before .pre .1)))
+  parse-union-field-requires c κs = (omega arith, (loop-room _ _ _ _ _ _ _ _ (c .before .before .before .before .before .before .before .before .loop .inv) _ (room-below _ _ _ _ (c .before .before .before .before .before .before .before .before .before .before .before .before .before .before .before .before .before .before .before .pre .1 .0)), c .before .before .before .before .before .before .before .before .before .before .before .before .before .before .before .before .before .before .before .pre .1 .1))
 
   enum-known-field : lts.Need-enum-known-field (calls t) (at t) parse-union.Post Inv-loop μ-loop
   enum-known-field c = search needs
@@ -118,13 +118,13 @@ module _ (t : ℕ) where
   enum-told-2 c = search needs
 
   same-length-4 : lts.Need-same-length-4 (calls t) (at t) parse-union.Post Inv-loop μ-loop
-  same-length-4 c = c .before .before .before .before .parse-union-field .kept .1 .0 ∙ loop-length _ _ _ _ _ _ _ _ (c .before .before .before .before .before .before .before .before .before .before .before .before .before .loop .inv)
+  same-length-4 c = c .before .before .before .before .parse-union-field .kept .1 .1 .0 ∙ loop-length _ _ _ _ _ _ _ _ (c .before .before .before .before .before .before .before .before .before .before .before .before .before .loop .inv)
 
   returns-6 : lts.Need-returns-6 (calls t) (at t) parse-union.Post Inv-loop μ-loop
   returns-6 c = let o = got-step _ _ (sym (c .before .before .before .before .before .before .before .before .before .before .before .before .before .before .before .before .before .before .before .next .given .1) ∙ c .before .before .before .before .before .before .before .before .before .before .before .before .before .before .before .before .before .before .before .before .before .expect-token .ensures) in let l = lost-look _ (sym (c .before .before .before .before .before .before .before .before .before .before .enum-told .given .1) ∙ c .before .before .before .before .before .before .before .before .before .before .before .before .next-if .ensures) in let c0 = got-step _ _ (sym (c .before .before .before .before .before .before .before .comma .given .1) ∙ c .before .before .before .before .before .before .before .before .before .expect-token2 .ensures) in meets-lost _ _ _ _ _ _ _ (c .enum-told2 .given .1) (union-at-3 _ _ _ _ _ (o .0) _ (o .1) _ _ (got-value _ _ (sym (c .before .before .before .before .before .before .before .before .before .before .before .before .before .before .before .mode .given .1) ∙ c .before .before .before .before .before .before .before .before .before .before .before .before .before .before .before .before .before .parse-union-mode .ensures)) _ (loop-lost _ _ _ _ _ _ _ _ (c .before .before .before .before .before .before .before .before .before .before .before .before .before .loop .inv) _ (union-lost _ _ _ _ (l .0) (l .1) (c0 .0) _ (c0 .1) _ (lost-tree _ _ _ _ _ _ _ (c .before .before .before .before .parse-union-field .ensures) (c .enum-told2 .given .1)))))
 
   add-used : lts.Need-add-used (calls t) (at t) parse-union.Post Inv-loop μ-loop
-  add-used c = omega (arith, grown-most _ _ _ _ _ _ _ _ (c .before .before .before .before .before .before .before .before .before .before .before .before .before .before .loop .inv) _ _ _ _ (got-tree _ _ _ _ _ _ _ _ (c .before .before .before .before .before .parse-union-field .ensures) (c .before .field .given .1)), c .before .before .before .before .before .before .before .before .before .before .before .before .before .before .before .before .before .before .before .before .before .before .before .before .before .pre .1 .small)
+  add-used c = omega (arith, grown-most _ _ _ _ _ _ _ _ (c .before .before .before .before .before .before .before .before .before .before .before .before .before .before .loop .inv) _ _ _ _ (got-tree _ _ _ _ _ _ _ _ (c .before .before .before .before .before .parse-union-field .ensures) (c .before .field .given .1)), c .before .before .before .before .before .before .before .before .before .before .before .before .before .before .before .before .before .before .before .before .before .before .before .before .before .pre .1 .0 .small)
 
   loop-less : lts.Need-loop-less (calls t) (at t) parse-union.Post Inv-loop μ-loop
   loop-less c = turn-less _ _ _ _ _ _ _ _ (c .before .before .before .before .before .before .before .before .before .before .before .before .before .before .loop .inv) _ _ _ _ (got-tree _ _ _ _ _ _ _ _ (c .before .before .before .before .before .parse-union-field .ensures) (c .before .field .given .1))

@@ -66,7 +66,7 @@ module _ (t : ℕ) where
   returns-4 c = let k0 = got-step _ _ (sym (c .before .before .before .before .before .before .before .before .before .before .before .before .next .given .1) ∙ c .before .before .before .before .before .before .before .before .before .before .before .before .before .before .expect-token .ensures) in let p0 = got-step _ _ (sym (c .before .before .before .before .before .before .before .before .next2 .given .1) ∙ c .before .before .before .before .before .before .before .before .before .before .expect-token2 .ensures) in meets-lost _ _ _ _ _ _ _ (c .enum-told .given .1) (union-4 _ _ _ _ ((got-number _ _ (sym (c .before .before .before .before .before .before .before .before .before .before .before .before .before .before .before .before .id .given .1) ∙ c .before .before .before .before .before .before .before .before .before .before .before .before .before .before .before .before .before .before .parse-i8 .ensures)) .token) _ _ ((got-number _ _ (sym (c .before .before .before .before .before .before .before .before .before .before .before .before .before .before .before .before .id .given .1) ∙ c .before .before .before .before .before .before .before .before .before .before .before .before .before .before .before .before .before .before .parse-i8 .ensures)) .is) (c .before .before .before .before .before .before .wrapped .ensures ∙ id-is _ _ _ _ (got-number _ _ (sym (c .before .before .before .before .before .before .before .before .before .before .before .before .before .before .before .before .id .given .1) ∙ c .before .before .before .before .before .before .before .before .before .before .before .before .before .before .before .before .before .before .parse-i8 .ensures))) (k0 .0) _ (k0 .1) (p0 .0) _ (p0 .1) _ (lost-tree _ _ _ _ _ _ _ (c .before .before .before .before .parse-field .ensures) (c .enum-told .given .1)))
 
   expect-token-requires-3 : lts.Need-expect-token-requires-3 (calls t) (at t) parse-union-field.Post
-  expect-token-requires-3 c κs = search needs
+  expect-token-requires-3 c κs = (search needs, c .before .before .before .before .before .before .before .before .before .before .before .before .before .before .before .before .before .before .before .before .before .before .pre .1 .1)
 
   enum-known-end : lts.Need-enum-known-end (calls t) (at t) parse-union-field.Post
   enum-known-end c = search needs

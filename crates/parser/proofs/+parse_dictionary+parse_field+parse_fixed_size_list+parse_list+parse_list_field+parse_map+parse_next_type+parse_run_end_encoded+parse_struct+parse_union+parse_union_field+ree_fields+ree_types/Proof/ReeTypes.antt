@@ -32,7 +32,7 @@ module _ (t : ℕ) where
   returns-2 c = fields-lost _ _ _ _ _ _ _ (c .enum-told .given .1) (short-2 _ _ _ _ _ (c .before .before .before .before .before .before .before .before .parse-opt-nullable .ensures .0) (c .before .before .before .before .before .before .if1 .left) _ (default-1 _ _ _ _ _ _ _ (c .before .before .before .before .before .before .before .before .parse-opt-nullable .ensures .0) (c .before .before .before .before .before .before .before .before .parse-opt-nullable .ensures .1) _ (lost-tree _ _ _ _ _ _ _ (c .before .before .before .before .parse-next-type .ensures) (c .enum-told .given .1))))
 
   put-run-ends-field-requires : lts.Need-put-run-ends-field-requires (calls t) (at t) ree-types.Post
-  put-run-ends-field-requires c κs = row-inside _ _ (c .before .before .before .before .before .before .parse-next-type .last .1 .0) _ _ (c .before .before .before .before .before .before .before .before .before .before .before .before .before .pre .1) (c .before .before .before .before .before .before .parse-next-type .kept .1 .0) _ (tree-some _ _ _ _ _ _ _ (got-tree _ _ _ _ _ _ _ _ (c .before .before .before .before .before .before .parse-next-type .ensures) (c .before .before .run-ends .given .1))) (tree-most _ _ _ _ _ _ _ (got-tree _ _ _ _ _ _ _ _ (c .before .before .before .before .before .before .parse-next-type .ensures) (c .before .before .run-ends .given .1)))
+  put-run-ends-field-requires c κs = row-inside _ _ (c .before .before .before .before .before .before .parse-next-type .last .1 .1 .0) _ _ (c .before .before .before .before .before .before .before .before .before .before .before .before .before .pre .1 .0) (c .before .before .before .before .before .before .parse-next-type .kept .1 .1 .0) _ (tree-some _ _ _ _ _ _ _ (got-tree _ _ _ _ _ _ _ _ (c .before .before .before .before .before .before .parse-next-type .ensures) (c .before .before .run-ends .given .1))) (tree-most _ _ _ _ _ _ _ (got-tree _ _ _ _ _ _ _ _ (c .before .before .before .before .before .before .parse-next-type .ensures) (c .before .before .run-ends .given .1)))
 
   expect-token-requires : lts.Need-expect-token-requires (calls t) (at t) ree-types.Post
   expect-token-requires c κs = search needs
@@ -50,16 +50,16 @@ module _ (t : ℕ) where
   returns-3 c = fields-refused _ _ _ _ _ _ (short-3 _ _ _ _ _ (c .before .before .before .before .before .before .before .before .before .before .before .before .before .before .before .before .before .parse-opt-nullable .ensures .0) (c .before .before .before .before .before .before .before .before .before .before .before .before .before .before .before .if1 .left) _ _ _ _ _ (default-tree _ _ _ _ _ _ _ (sym (c .before .before .before .before .before .before .before .before .before .before .before .before .before .before .before .if1 .left) ∙ c .before .before .before .before .before .before .before .before .before .before .before .before .before .before .before .before .before .parse-opt-nullable .ensures .0) (c .before .before .before .before .before .before .before .before .before .before .before .before .before .before .before .before .before .parse-opt-nullable .ensures .1) _ _ _ _ _ (got-tree _ _ _ _ _ _ _ _ (c .before .before .before .before .before .before .before .before .before .before .before .before .before .parse-next-type .ensures) (c .before .before .before .before .before .before .before .before .before .run-ends .given .1)) _ (c .before .before .before .before .before .before .put-run-ends-field .ensures)) _ (lost-step _ _ (sym (c .before .n .given .1) ∙ c .before .before .before .expect-token .ensures)))
 
   parse-opt-nullable-requires-2 : lts.Need-parse-opt-nullable-requires-2 (calls t) (at t) ree-types.Post
-  parse-opt-nullable-requires-2 c κs = search needs
+  parse-opt-nullable-requires-2 c κs = c .before .before .before .before .before .before .before .before .before .before .before .before .before .before .before .before .before .before .before .before .pre .1 .1
 
   add-parse-next-type : lts.Need-add-parse-next-type (calls t) (at t) ree-types.Post
-  add-parse-next-type c = omega (arith, tree-most _ _ _ _ _ _ _ (got-tree _ _ _ _ _ _ _ _ (c .before .before .before .before .before .before .before .before .before .before .before .before .before .before .before .parse-next-type .ensures) (c .before .before .before .before .before .before .before .before .before .before .before .run-ends .given .1)), c .before .before .before .before .before .before .before .before .before .before .before .before .before .before .before .before .before .before .before .before .before .before .pre .1 .small)
+  add-parse-next-type c = omega (arith, tree-most _ _ _ _ _ _ _ (got-tree _ _ _ _ _ _ _ _ (c .before .before .before .before .before .before .before .before .before .before .before .before .before .before .before .parse-next-type .ensures) (c .before .before .before .before .before .before .before .before .before .before .before .run-ends .given .1)), c .before .before .before .before .before .before .before .before .before .before .before .before .before .before .before .before .before .before .before .before .before .before .pre .1 .0 .small)
 
   sub-parse-next-type : lts.Need-sub-parse-next-type (calls t) (at t) ree-types.Post
   sub-parse-next-type c = tree-most _ _ _ _ _ _ _ (got-tree _ _ _ _ _ _ _ _ (c .before .before .before .before .before .before .before .before .before .before .before .before .before .before .before .parse-next-type .ensures) (c .before .before .before .before .before .before .before .before .before .before .before .run-ends .given .1))
 
   parse-next-type-requires-2 : lts.Need-parse-next-type-requires-2 (calls t) (at t) ree-types.Post
-  parse-next-type-requires-2 c κs = (omega (arith, c .before .before .before .before .before .before .before .before .before .before .before .before .before .before .before .before .before .before .before .before .before .before .pre .0), (room-behind _ _ _ _ _ (c .before .before .before .before .before .before .before .before .before .before .before .before .before .before .before .before .before .before .before .before .before .before .pre .1) (c .before .before .before .before .before .before .before .before .put-run-ends-field .kept .0 ∙ c .before .before .before .before .before .before .before .before .before .before .before .before .before .before .before .parse-next-type .kept .1 .0) _ (tree-most _ _ _ _ _ _ _ (got-tree _ _ _ _ _ _ _ _ (c .before .before .before .before .before .before .before .before .before .before .before .before .before .before .before .parse-next-type .ensures) (c .before .before .before .before .before .before .before .before .before .before .before .run-ends .given .1)))))
+  parse-next-type-requires-2 c κs = (omega (arith, c .before .before .before .before .before .before .before .before .before .before .before .before .before .before .before .before .before .before .before .before .before .before .pre .0), ((room-behind _ _ _ _ _ (c .before .before .before .before .before .before .before .before .before .before .before .before .before .before .before .before .before .before .before .before .before .before .pre .1 .0) (c .before .before .before .before .before .before .before .before .put-run-ends-field .kept .0 ∙ c .before .before .before .before .before .before .before .before .before .before .before .before .before .before .before .parse-next-type .kept .1 .1 .0) _ (tree-most _ _ _ _ _ _ _ (got-tree _ _ _ _ _ _ _ _ (c .before .before .before .before .before .before .before .before .before .before .before .before .before .before .before .parse-next-type .ensures) (c .before .before .before .before .before .before .before .before .before .before .before .run-ends .given .1)))), c .before .before .before .before .before .before .before .before .before .before .before .before .before .before .before .before .before .before .before .before .before .before .pre .1 .1))
 
   enum-known-values : lts.Need-enum-known-values (calls t) (at t) ree-types.Post
   enum-known-values c = search needs
@@ -74,19 +74,19 @@ module _ (t : ℕ) where
   returns-4 c = let c1 = got-step _ _ (sym (c .before .before .before .before .before .before .before .before .next .given .1) ∙ c .before .before .before .before .before .before .before .before .before .before .expect-token .ensures) in fields-lost _ _ _ _ _ _ _ (c .enum-told2 .given .1) (short-4 _ _ _ _ _ (c .before .before .before .before .before .before .before .before .before .before .before .before .before .before .before .before .before .before .before .before .before .before .before .before .parse-opt-nullable .ensures .0) (c .before .before .before .before .before .before .before .before .before .before .before .before .before .before .before .before .before .before .before .before .before .before .if1 .left) _ _ _ _ _ (default-tree _ _ _ _ _ _ _ (sym (c .before .before .before .before .before .before .before .before .before .before .before .before .before .before .before .before .before .before .before .before .before .before .if1 .left) ∙ c .before .before .before .before .before .before .before .before .before .before .before .before .before .before .before .before .before .before .before .before .before .before .before .before .parse-opt-nullable .ensures .0) (c .before .before .before .before .before .before .before .before .before .before .before .before .before .before .before .before .before .before .before .before .before .before .before .before .parse-opt-nullable .ensures .1) _ _ _ _ _ (got-tree _ _ _ _ _ _ _ _ (c .before .before .before .before .before .before .before .before .before .before .before .before .before .before .before .before .before .before .before .before .parse-next-type .ensures) (c .before .before .before .before .before .before .before .before .before .before .before .before .before .before .before .before .run-ends .given .1)) _ (c .before .before .before .before .before .before .before .before .before .before .before .before .before .put-run-ends-field .ensures)) (c1 .0) _ (c1 .1) _ (default-1 _ _ _ _ _ _ _ (c .before .before .before .before .before .before .parse-opt-nullable2 .ensures .0) (c .before .before .before .before .before .before .parse-opt-nullable2 .ensures .1) _ (lost-tree _ _ _ _ _ _ _ (c .before .before .before .before .parse-next-type2 .ensures) (c .enum-told2 .given .1))))
 
   add-put-values-field : lts.Need-add-put-values-field (calls t) (at t) ree-types.Post
-  add-put-values-field c = omega (arith, tree-most _ _ _ _ _ _ _ (got-tree _ _ _ _ _ _ _ _ (c .before .before .before .before .before .before .before .before .before .before .before .before .before .before .before .before .before .before .before .before .before .before .parse-next-type .ensures) (c .before .before .before .before .before .before .before .before .before .before .before .before .before .before .before .before .before .before .run-ends .given .1)), c .before .before .before .before .before .before .before .before .before .before .before .before .before .before .before .before .before .before .before .before .before .before .before .before .before .before .before .before .before .pre .1 .small)
+  add-put-values-field c = omega (arith, tree-most _ _ _ _ _ _ _ (got-tree _ _ _ _ _ _ _ _ (c .before .before .before .before .before .before .before .before .before .before .before .before .before .before .before .before .before .before .before .before .before .before .parse-next-type .ensures) (c .before .before .before .before .before .before .before .before .before .before .before .before .before .before .before .before .before .before .run-ends .given .1)), c .before .before .before .before .before .before .before .before .before .before .before .before .before .before .before .before .before .before .before .before .before .before .before .before .before .before .before .before .before .pre .1 .0 .small)
 
   put-values-field-requires : lts.Need-put-values-field-requires (calls t) (at t) ree-types.Post
-  put-values-field-requires c κs = row-inside _ (c .before .before .before .before .before .before .before .before .before .before .before .before .before .before .before .put-run-ends-field .last .0) (c .before .before .before .before .before .before .parse-next-type2 .last .1 .0) _ _ (room-behind _ _ _ _ _ (c .before .before .before .before .before .before .before .before .before .before .before .before .before .before .before .before .before .before .before .before .before .before .before .before .before .before .before .before .before .pre .1) (c .before .before .before .before .before .before .before .before .before .before .before .before .before .before .before .put-run-ends-field .kept .0 ∙ c .before .before .before .before .before .before .before .before .before .before .before .before .before .before .before .before .before .before .before .before .before .before .parse-next-type .kept .1 .0) _ (tree-most _ _ _ _ _ _ _ (got-tree _ _ _ _ _ _ _ _ (c .before .before .before .before .before .before .before .before .before .before .before .before .before .before .before .before .before .before .before .before .before .before .parse-next-type .ensures) (c .before .before .before .before .before .before .before .before .before .before .before .before .before .before .before .before .before .before .run-ends .given .1)))) (c .before .before .before .before .before .before .parse-next-type2 .kept .1 .0) _ (tree-some _ _ _ _ _ _ _ (got-tree _ _ _ _ _ _ _ _ (c .before .before .before .before .before .before .parse-next-type2 .ensures) (c .before .before .values .given .1))) (tree-most _ _ _ _ _ _ _ (got-tree _ _ _ _ _ _ _ _ (c .before .before .before .before .before .before .parse-next-type2 .ensures) (c .before .before .values .given .1)))
+  put-values-field-requires c κs = row-inside _ (c .before .before .before .before .before .before .before .before .before .before .before .before .before .before .before .put-run-ends-field .last .0) (c .before .before .before .before .before .before .parse-next-type2 .last .1 .1 .0) _ _ (room-behind _ _ _ _ _ (c .before .before .before .before .before .before .before .before .before .before .before .before .before .before .before .before .before .before .before .before .before .before .before .before .before .before .before .before .before .pre .1 .0) (c .before .before .before .before .before .before .before .before .before .before .before .before .before .before .before .put-run-ends-field .kept .0 ∙ c .before .before .before .before .before .before .before .before .before .before .before .before .before .before .before .before .before .before .before .before .before .before .parse-next-type .kept .1 .1 .0) _ (tree-most _ _ _ _ _ _ _ (got-tree _ _ _ _ _ _ _ _ (c .before .before .before .before .before .before .before .before .before .before .before .before .before .before .before .before .before .before .before .before .before .before .parse-next-type .ensures) (c .before .before .before .before .before .before .before .before .before .before .before .before .before .before .before .before .before .before .run-ends .given .1)))) (c .before .before .before .before .before .before .parse-next-type2 .kept .1 .1 .0) _ (tree-some _ _ _ _ _ _ _ (got-tree _ _ _ _ _ _ _ _ (c .before .before .before .before .before .before .parse-next-type2 .ensures) (c .before .before .values .given .1))) (tree-most _ _ _ _ _ _ _ (got-tree _ _ _ _ _ _ _ _ (c .before .before .before .before .before .before .parse-next-type2 .ensures) (c .before .before .values .given .1)))
 
-  add-t28 : lts.Need-add-t28 (calls t) (at t) ree-types.Post
-  add-t28 c = omega (arith, tree-most _ _ _ _ _ _ _ (got-tree _ _ _ _ _ _ _ _ (c .before .before .before .before .before .before .before .before .before .before .before .before .before .before .before .before .before .before .before .before .before .before .before .before .before .parse-next-type .ensures) (c .before .before .before .before .before .before .before .before .before .before .before .before .before .before .before .before .before .before .before .before .before .run-ends .given .1)), tree-most _ _ _ _ _ _ _ (got-tree _ _ _ _ _ _ _ _ (c .before .before .before .before .before .before .before .before .before .parse-next-type2 .ensures) (c .before .before .before .before .before .values .given .1)), c .before .before .before .before .before .before .before .before .before .before .before .before .before .before .before .before .before .before .before .before .before .before .before .before .before .before .before .before .before .before .before .before .pre .1 .small)
+  add-t29 : lts.Need-add-t29 (calls t) (at t) ree-types.Post
+  add-t29 c = omega (arith, tree-most _ _ _ _ _ _ _ (got-tree _ _ _ _ _ _ _ _ (c .before .before .before .before .before .before .before .before .before .before .before .before .before .before .before .before .before .before .before .before .before .before .before .before .before .parse-next-type .ensures) (c .before .before .before .before .before .before .before .before .before .before .before .before .before .before .before .before .before .before .before .before .before .run-ends .given .1)), tree-most _ _ _ _ _ _ _ (got-tree _ _ _ _ _ _ _ _ (c .before .before .before .before .before .before .before .before .before .parse-next-type2 .ensures) (c .before .before .before .before .before .values .given .1)), c .before .before .before .before .before .before .before .before .before .before .before .before .before .before .before .before .before .before .before .before .before .before .before .before .before .before .before .before .before .before .before .before .pre .1 .0 .small)
 
   same-length-4 : lts.Need-same-length-4 (calls t) (at t) ree-types.Post
-  same-length-4 c = c .before .before .put-values-field .kept .0 ∙ c .before .before .before .before .before .before .before .before .before .parse-next-type2 .kept .1 .0 ∙ c .before .before .before .before .before .before .before .before .before .before .before .before .before .before .before .before .before .before .put-run-ends-field .kept .0 ∙ c .before .before .before .before .before .before .before .before .before .before .before .before .before .before .before .before .before .before .before .before .before .before .before .before .before .parse-next-type .kept .1 .0
+  same-length-4 c = c .before .before .put-values-field .kept .0 ∙ c .before .before .before .before .before .before .before .before .before .parse-next-type2 .kept .1 .1 .0 ∙ c .before .before .before .before .before .before .before .before .before .before .before .before .before .before .before .before .before .before .put-run-ends-field .kept .0 ∙ c .before .before .before .before .before .before .before .before .before .before .before .before .before .before .before .before .before .before .before .before .before .before .before .before .before .parse-next-type .kept .1 .1 .0
 
   returns-5 : lts.Need-returns-5 (calls t) (at t) ree-types.Post
   returns-5 c = let c1 = got-step _ _ (sym (c .before .before .before .before .before .before .before .before .before .before .before .before .before .next .given .1) ∙ c .before .before .before .before .before .before .before .before .before .before .before .before .before .before .before .expect-token .ensures) in short-5 _ _ _ _ _ (c .before .before .before .before .before .before .before .before .before .before .before .before .before .before .before .before .before .before .before .before .before .before .before .before .before .before .before .before .before .parse-opt-nullable .ensures .0) (c .before .before .before .before .before .before .before .before .before .before .before .before .before .before .before .before .before .before .before .before .before .before .before .before .before .before .before .if1 .left) _ _ _ _ _ (default-tree _ _ _ _ _ _ _ (sym (c .before .before .before .before .before .before .before .before .before .before .before .before .before .before .before .before .before .before .before .before .before .before .before .before .before .before .before .if1 .left) ∙ c .before .before .before .before .before .before .before .before .before .before .before .before .before .before .before .before .before .before .before .before .before .before .before .before .before .before .before .before .before .parse-opt-nullable .ensures .0) (c .before .before .before .before .before .before .before .before .before .before .before .before .before .before .before .before .before .before .before .before .before .before .before .before .before .before .before .before .before .parse-opt-nullable .ensures .1) _ _ _ _ _ (got-tree _ _ _ _ _ _ _ _ (c .before .before .before .before .before .before .before .before .before .before .before .before .before .before .before .before .before .before .before .before .before .before .before .before .before .parse-next-type .ensures) (c .before .before .before .before .before .before .before .before .before .before .before .before .before .before .before .before .before .before .before .before .before .run-ends .given .1)) _ (c .before .before .before .before .before .before .before .before .before .before .before .before .before .before .before .before .before .before .put-run-ends-field .ensures)) (c1 .0) _ (c1 .1) _ _ _ (default-tree _ _ _ _ _ _ _ (c .before .before .before .before .before .before .before .before .before .before .before .parse-opt-nullable2 .ensures .0) (c .before .before .before .before .before .before .before .before .before .before .before .parse-opt-nullable2 .ensures .1) _ _ _ _ _ (got-tree _ _ _ _ _ _ _ _ (c .before .before .before .before .before .before .before .before .before .parse-next-type2 .ensures) (c .before .before .before .before .before .values .given .1)) _ (c .before .before .put-values-field .ensures))
 
   pub closed : {M : Type 1} → lts.Closed (calls t) (at t) ree-types.Post M
-  closed = lts.spec (calls t) (at t) ree-types.Post parse-opt-nullable-requires returns parse-next-type-requires enum-known-run-ends enum-told same-length returns-2 put-run-ends-field-requires expect-token-requires enum-known-next enum-known-n same-length-2 returns-3 parse-opt-nullable-requires-2 add-parse-next-type sub-parse-next-type parse-next-type-requires-2 enum-known-values enum-told-2 same-length-3 returns-4 add-put-values-field put-values-field-requires add-t28 same-length-4 returns-5
+  closed = lts.spec (calls t) (at t) ree-types.Post parse-opt-nullable-requires returns parse-next-type-requires enum-known-run-ends enum-told same-length returns-2 put-run-ends-field-requires expect-token-requires enum-known-next enum-known-n same-length-2 returns-3 parse-opt-nullable-requires-2 add-parse-next-type sub-parse-next-type parse-next-type-requires-2 enum-known-values enum-told-2 same-length-3 returns-4 add-put-values-field put-values-field-requires add-t29 same-length-4 returns-5

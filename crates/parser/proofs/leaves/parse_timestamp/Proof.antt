@@ -44,10 +44,10 @@ returns-3 : tie.Need-returns-3
 returns-3 c = let o = got-step _ _ (sym (c .before .before .before .before .before .before .before .before .before .next .given .1) ∙ c .before .before .before .before .before .before .before .before .before .before .before .expect-token .ensures) in meets-refused _ _ _ _ _ _ (timestamp-3 _ _ _ (o .0) _ (o .1) _ _ (got-value _ _ (sym (c .before .before .before .before .before .unit .given .1) ∙ c .before .before .before .before .before .before .before .parse-time-unit .ensures)) _ (lost-zone _ _ (sym (c .before .n3 .given .1) ∙ c .before .before .before .parse-zone .ensures)))
 
 cast-put-row : tie.Need-cast-put-row
-cast-put-row c = zone-fits _ _ _ _ _ (c .before .before .before .before .before .before .before .before .before .before .before .before .before .before .before .before .pre .short) (got-zone _ _ (sym (c .before .before .before .zone .given .1) ∙ c .before .before .before .before .before .parse-zone .ensures)) .0
+cast-put-row c = zone-fits _ _ _ _ _ (c .before .before .before .before .before .before .before .before .before .before .before .before .before .before .before .before .pre .0 .short) (got-zone _ _ (sym (c .before .before .before .zone .given .1) ∙ c .before .before .before .before .before .parse-zone .ensures)) .0
 
 cast-put-row-2 : tie.Need-cast-put-row-2
-cast-put-row-2 c = zone-fits _ _ _ _ _ (c .before .before .before .before .before .before .before .before .before .before .before .before .before .before .before .before .before .pre .short) (got-zone _ _ (sym (c .before .before .before .before .zone .given .1) ∙ c .before .before .before .before .before .before .parse-zone .ensures)) .1
+cast-put-row-2 c = zone-fits _ _ _ _ _ (c .before .before .before .before .before .before .before .before .before .before .before .before .before .before .before .before .before .pre .0 .short) (got-zone _ _ (sym (c .before .before .before .before .zone .given .1) ∙ c .before .before .before .before .before .before .parse-zone .ensures)) .1
 
 put-row-requires : tie.Need-put-row-requires
 put-row-requires c κs = search needs

@@ -13,7 +13,7 @@ enum-known-next : tie.Need-enum-known-next
 enum-known-next c = search needs
 
 put-parent-requires : tie.Need-put-parent-requires
-put-parent-requires c κs = (omega (arith, c .before .before .before .before .before .before .before .pre .fits), omega (arith, c .before .before .before .before .before .before .before .pre .small))
+put-parent-requires c κs = (omega (arith, c .before .before .before .before .before .before .before .pre .0 .fits), omega (arith, c .before .before .before .before .before .before .before .pre .0 .small))
 
 enum-known-n : tie.Need-enum-known-n
 enum-known-n c = search needs

@@ -1,38 +1,42 @@
-use Rattle.parser.proofs.TokenLaws.{number-found}
+use Rattle.parser.proofs.TokenLaws.{but, number-lost, number-out, number-in}
 use borrow.Author.Needs.{needs}
 use Rattle.parser.proofs.tokens.parse_number.Statement.{statement}
 use Rattle.parser.proofs.tokens.parse_number.Tie as tie
 use Rattle.parser.proofs.tokens.parse_number.Reads as reads
 use Rattle.parser.proofs.tokens.parse_number.Lts as lts
-use Rattle.parser.proofs.tokens.number_token.Reads as number-token-reads
-use Rattle.parser.proofs.tokens.short_number.Reads as short-number-reads
-use Rattle.tokenizer.proofs.skip_spaces.Reads as skip-spaces-reads
+use Rattle.parser.proofs.tokens.limit.Reads as limit-reads
+use Rattle.parser.proofs.tokens.refusal_of.Reads as refusal-of-reads
+use Rattle.parser.proofs.tokens.next_token.Reads as next-token-reads
 
-skip-spaces-requires : tie.Need-skip-spaces-requires
-skip-spaces-requires c κs = search needs
+next-token-requires : tie.Need-next-token-requires
+next-token-requires c κs = search needs
 
-short-number-requires : tie.Need-short-number-requires
-short-number-requires c κs = search needs
+enum-known-kind : tie.Need-enum-known-kind
+enum-known-kind c = search needs
 
-cast-magnitude : tie.Need-cast-magnitude
-cast-magnitude c = search needs
+refusal-of-requires : tie.Need-refusal-of-requires
+refusal-of-requires c κs = search needs
 
 returns : tie.Need-returns
-returns c = number-found _ _ _ (c .before .before .before .before .before .skip-spaces .ensures) _ _ _ _ (c .before .before .before .before .short-number .ensures) (c .before .if1 .taken) (c .if2 .taken)
+returns c = number-lost _ _ _ _ _ (c .before .before .next-token .ensures) (but 4) tt (c .before .match .keys2) _ (c .refusal-of .ensures)
 
-number-token-requires : tie.Need-number-token-requires
-number-token-requires c κs = search needs
+limit-requires : tie.Need-limit-requires
+limit-requires c κs = search needs
 
 returns-2 : tie.Need-returns-2
-returns-2 c = search needs
+returns-2 c = number-out _ _ _ _ _ (c .before .before .before .before .before .next-token .ensures) _ _ _ (c .before .before .before .kind .given .1) (c .before .limit .ensures) (c .if1 .taken)
+
+returns-3 : tie.Need-returns-3
+returns-3 c = number-in _ _ _ _ _ (c .before .before .before .before .before .next-token .ensures) _ _ _ (c .before .before .before .kind .given .1) (c .before .limit .ensures) (c .if1 .left)
 
 pub parse-number-spec : {M : Type 1} → statement M
 parse-number-spec =
     tie.close
     (tie.spec
-    skip-spaces-requires
-    short-number-requires
-    cast-magnitude
+    next-token-requires
+    enum-known-kind
+    refusal-of-requires
     returns
-    number-token-requires
-    returns-2)
+    limit-requires
+    returns-2
+    returns-3)

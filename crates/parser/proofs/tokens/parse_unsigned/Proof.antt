@@ -18,8 +18,8 @@ enum-known-n c = search needs
 returns : tie.Need-returns
 returns c = unsigned-lost _ _ _ _ (lost-number _ _ (sym (c .before .n .given .1) ∙ c .before .before .before .parse-number .ensures))
 
-cast-t9 : tie.Need-cast-t9
-cast-t9 c = omega (arith, number-most _ _ _ _ _ _ _ (got-number _ _ (sym (c .before .before .number .given .1) ∙ c .before .before .before .before .parse-number .ensures)) (omega arith))
+cast-t10 : tie.Need-cast-t10
+cast-t10 c = omega (arith, number-most _ _ _ _ _ _ _ (got-number _ _ (sym (c .before .before .number .given .1) ∙ c .before .before .before .before .parse-number .ensures)) (omega arith))
 
 returns-2 : tie.Need-returns-2
 returns-2 c = number-valued _ _ _ _ _ _ _ (got-number _ _ (sym (c .before .before .number .given .1) ∙ c .before .before .before .before .parse-number .ensures))
@@ -32,5 +32,5 @@ parse-unsigned-spec =
     enum-known-number
     enum-known-n
     returns
-    cast-t9
+    cast-t10
     returns-2)

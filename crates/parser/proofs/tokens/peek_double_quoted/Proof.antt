@@ -4,7 +4,7 @@ use Rattle.parser.proofs.tokens.peek_double_quoted.Statement.{statement
 use Rattle.parser.proofs.tokens.peek_double_quoted.Tie as tie
 use Rattle.parser.proofs.tokens.peek_double_quoted.Reads as reads
 use Rattle.parser.proofs.tokens.peek_double_quoted.Lts as lts
-use Rattle.tokenizer.proofs.next_token.Reads as next-token-reads
+use Rattle.parser.proofs.tokens.next_token.Reads as next-token-reads
 
 next-token-requires : tie.Need-next-token-requires
 next-token-requires c κs = search needs
