@@ -1,4 +1,7 @@
 // One line of the line program: a text, and the answer that is printed for it.
+
+#![tactic(auto)]
+
 ghost use Rattle.std.specs.Prelude.{◌≡◌};
 ghost use Rattle.answer_line.specs.Line.{line_end, line_answered, line_rows, line_out, answered_means};
 

@@ -1,4 +1,7 @@
 // The functions that services call from Rust or C, on numbers and slices. A status is 0 or document 01's number.
+
+#![tactic(auto)]
+
 ghost use Rattle.std.specs.Prelude.{◌≡◌, length};
 ghost use Rattle.arrow_types.specs.Status.{status_of, value_of, flag, yes_of, row_of, if_named};
 ghost use Rattle.datatype.specs.Tree.{name_of, zone_of};

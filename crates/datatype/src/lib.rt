@@ -1,4 +1,7 @@
 // Kinds of types and their decimals, the words of a row, and names and zones handed back.
+
+#![tactic(auto)]
+
 mod field;
 pub mod kind;
 pub mod rows;

@@ -15,7 +15,7 @@ use datatype::kind::is_word;
 use datatype::rows::{KIND, NUMBER, ROLE, UNION_ID};
 
 // [non-null ]type
-#[cycle(put_dictionary_put_field_put_fixed_size_list_put_list_put_list_field_put_map_put_nested_put_nullable_put_run_end_encoded_put_struct_put_type_put_union_put_union_field)]
+#[cycle(types)]
 fn put_nullable<'a>(
     text: &'a [u8],
     names: &'a [u8],
@@ -34,7 +34,7 @@ fn put_nullable<'a>(
 }
 
 // "name": [non-null ]type
-#[cycle(put_dictionary_put_field_put_fixed_size_list_put_list_put_list_field_put_map_put_nested_put_nullable_put_run_end_encoded_put_struct_put_type_put_union_put_union_field)]
+#[cycle(types)]
 fn put_field<'a>(
     text: &'a [u8],
     names: &'a [u8],
@@ -54,7 +54,7 @@ fn put_field<'a>(
 }
 
 // [non-null ]type[, field: 'name']
-#[cycle(put_dictionary_put_field_put_fixed_size_list_put_list_put_list_field_put_map_put_nested_put_nullable_put_run_end_encoded_put_struct_put_type_put_union_put_union_field)]
+#[cycle(types)]
 fn put_list_field<'a>(
     text: &'a [u8],
     names: &'a [u8],
@@ -73,7 +73,7 @@ fn put_list_field<'a>(
 }
 
 // List(field) and the other three lists of any length
-#[cycle(put_dictionary_put_field_put_fixed_size_list_put_list_put_list_field_put_map_put_nested_put_nullable_put_run_end_encoded_put_struct_put_type_put_union_put_union_field)]
+#[cycle(types)]
 fn put_list<'a>(
     text: &'a [u8],
     names: &'a [u8],
@@ -92,7 +92,7 @@ fn put_list<'a>(
 }
 
 // FixedSizeList(length x field)
-#[cycle(put_dictionary_put_field_put_fixed_size_list_put_list_put_list_field_put_map_put_nested_put_nullable_put_run_end_encoded_put_struct_put_type_put_union_put_union_field)]
+#[cycle(types)]
 fn put_fixed_size_list<'a>(
     text: &'a [u8],
     names: &'a [u8],
@@ -114,7 +114,7 @@ fn put_fixed_size_list<'a>(
 }
 
 // Struct(field, ..)
-#[cycle(put_dictionary_put_field_put_fixed_size_list_put_list_put_list_field_put_map_put_nested_put_nullable_put_run_end_encoded_put_struct_put_type_put_union_put_union_field)]
+#[cycle(types)]
 fn put_struct<'a>(
     text: &'a [u8],
     names: &'a [u8],
@@ -150,7 +150,7 @@ fn put_struct<'a>(
 }
 
 // , id: (field)
-#[cycle(put_dictionary_put_field_put_fixed_size_list_put_list_put_list_field_put_map_put_nested_put_nullable_put_run_end_encoded_put_struct_put_type_put_union_put_union_field)]
+#[cycle(types)]
 fn put_union_field<'a>(
     text: &'a [u8],
     names: &'a [u8],
@@ -172,7 +172,7 @@ fn put_union_field<'a>(
 }
 
 // Union(mode, id: (field), ..)
-#[cycle(put_dictionary_put_field_put_fixed_size_list_put_list_put_list_field_put_map_put_nested_put_nullable_put_run_end_encoded_put_struct_put_type_put_union_put_union_field)]
+#[cycle(types)]
 fn put_union<'a>(
     text: &'a [u8],
     names: &'a [u8],
@@ -198,7 +198,7 @@ fn put_union<'a>(
 }
 
 // Dictionary(key, value)
-#[cycle(put_dictionary_put_field_put_fixed_size_list_put_list_put_list_field_put_map_put_nested_put_nullable_put_run_end_encoded_put_struct_put_type_put_union_put_union_field)]
+#[cycle(types)]
 fn put_dictionary<'a>(
     text: &'a [u8],
     names: &'a [u8],
@@ -220,7 +220,7 @@ fn put_dictionary<'a>(
 }
 
 // Map(field, sorted)
-#[cycle(put_dictionary_put_field_put_fixed_size_list_put_list_put_list_field_put_map_put_nested_put_nullable_put_run_end_encoded_put_struct_put_type_put_union_put_union_field)]
+#[cycle(types)]
 fn put_map<'a>(
     text: &'a [u8],
     names: &'a [u8],
@@ -242,7 +242,7 @@ fn put_map<'a>(
 }
 
 // RunEndEncoded(run ends, values), with their names unless both are the default ones
-#[cycle(put_dictionary_put_field_put_fixed_size_list_put_list_put_list_field_put_map_put_nested_put_nullable_put_run_end_encoded_put_struct_put_type_put_union_put_union_field)]
+#[cycle(types)]
 fn put_run_end_encoded<'a>(
     text: &'a [u8],
     names: &'a [u8],
@@ -271,7 +271,7 @@ fn put_run_end_encoded<'a>(
 }
 
 // Writes the type of row i with all that stands below it.
-#[cycle(put_dictionary_put_field_put_fixed_size_list_put_list_put_list_field_put_map_put_nested_put_nullable_put_run_end_encoded_put_struct_put_type_put_union_put_union_field)]
+#[cycle(types)]
 pub(crate) fn put_type<'a>(
     text: &'a [u8],
     names: &'a [u8],
@@ -295,7 +295,7 @@ pub(crate) fn put_type<'a>(
 }
 
 // Writes the type of row i with the types below it.
-#[cycle(put_dictionary_put_field_put_fixed_size_list_put_list_put_list_field_put_map_put_nested_put_nullable_put_run_end_encoded_put_struct_put_type_put_union_put_union_field)]
+#[cycle(types)]
 fn put_nested<'a>(
     text: &'a [u8],
     names: &'a [u8],

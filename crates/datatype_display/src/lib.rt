@@ -1,4 +1,7 @@
 // The printer: a sound tree becomes its text, as the Rust's `Display` writes it.
+
+#![tactic(auto)]
+
 ghost use Rattle.std.specs.Prelude.{◌≡◌};
 ghost use Rattle.datatype_display.specs.Print.{print_answer, print_bytes, printed_means};
 

@@ -1,4 +1,7 @@
 // The type reader: a whole text becomes rows, or is refused.
+
+#![tactic(auto)]
+
 ghost use Rattle.std.specs.Prelude.{◌≡◌};
 ghost use Rattle.datatype_parse.specs.Parse.{text_over, parse_answer, parse_rows, parsed_means};
 ghost use Rattle.datatype_parse.specs.RowsToLend.{rows_to_lend};

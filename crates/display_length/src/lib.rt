@@ -1,4 +1,7 @@
 // The printed length of a sound tree: a row's own bytes plus its children's.
+
+#![tactic(auto)]
+
 ghost use Rattle.std.specs.Prelude.{◌≡◌};
 ghost use Rattle.display_length.specs.PrintedLength.{printed_length, printed_length_means};
 

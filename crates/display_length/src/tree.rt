@@ -25,7 +25,7 @@ fn single_word(size: usize, kind: u32) -> bool
 
 // How many bytes the type of row i has, with all that stands below it. No sum overflows: a row has at most 100,000 bytes
 // of its own, and as many around its type.
-#[cycle(nested_length_type_length)]
+#[cycle(lengths)]
 fn nested_length<'a>(
     text: &'a [u8],
     names: &'a [u8],
@@ -59,7 +59,7 @@ fn nested_length<'a>(
 }
 
 // The same; a row with nothing below it is not walked.
-#[cycle(nested_length_type_length)]
+#[cycle(lengths)]
 fn type_length<'a>(
     text: &'a [u8],
     names: &'a [u8],

@@ -1,4 +1,7 @@
 // The layout verdict: a dictionary key is any of the eight integer types, run ends are Int16, Int32 or Int64.
+
+#![tactic(auto)]
+
 ghost use Rattle.std.specs.Prelude.{◌≡◌, ◌&&◌, leb};
 ghost use Rattle.tokenizer.specs.Answer.{done};
 ghost use Rattle.datatype.specs.Kind.{shape_of};

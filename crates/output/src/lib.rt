@@ -1,4 +1,7 @@
 // Writing into lent bytes: bytes, and numbers in decimal digits. What has no room is not written.
+
+#![tactic(auto)]
+
 ghost use Rattle.std.specs.Prelude.{◌≡◌, [], ◌∷◌, ◌+◌, length};
 ghost use Rattle.std.proofs.lemmas.List.Edits.{sets};
 ghost use Rattle.output.specs.Digits.{digits};

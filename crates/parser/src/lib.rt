@@ -2,6 +2,8 @@
 // parent's row is written behind its children's. `row` is the next free row, `left` how many rows there are from it on,
 // `level` how many levels are left.
 
+#![tactic(auto)]
+
 ghost use Rattle.std.specs.Prelude.{◌≡◌, ◌+◌, ◌-◌, ◌%◌, ◌≤◌, length};
 ghost use Rattle.tokenizer.specs.Edges.{edges};
 ghost use Rattle.tokenizer.specs.Text.{if◌then◌else◌};
@@ -109,7 +111,7 @@ pub(crate) struct Nullability {
 // ---- types and fields: the functions that call one another, with the level falling
 
 // A type at a place: a level (3) and a row (4) must be left, then its word is judged.
-#[cycle(parse_dictionary_parse_field_parse_fixed_size_list_parse_list_parse_list_field_parse_map_parse_next_type_parse_run_end_encoded_parse_struct_parse_union_parse_union_field_ree_fields_ree_types)]
+#[cycle(types)]
 fn parse_next_type(
     words: &WordTable,
     text: &[u8],
@@ -159,7 +161,7 @@ fn parse_next_type(
 }
 
 // "name": [nullability] type, with a union id.
-#[cycle(parse_dictionary_parse_field_parse_fixed_size_list_parse_list_parse_list_field_parse_map_parse_next_type_parse_run_end_encoded_parse_struct_parse_union_parse_union_field_ree_fields_ree_types)]
+#[cycle(types)]
 fn parse_field(
     words: &WordTable,
     text: &[u8],
@@ -201,7 +203,7 @@ fn parse_field(
 }
 
 // [nullability] type [, field: 'name'].
-#[cycle(parse_dictionary_parse_field_parse_fixed_size_list_parse_list_parse_list_field_parse_map_parse_next_type_parse_run_end_encoded_parse_struct_parse_union_parse_union_field_ree_fields_ree_types)]
+#[cycle(types)]
 fn parse_list_field(
     words: &WordTable,
     text: &[u8],
@@ -259,7 +261,7 @@ fn parse_list_name(words: &WordTable, text: &[u8], at: usize) -> Quoted
 // ---- types with children
 
 // List, ListView, LargeList and LargeListView.
-#[cycle(parse_dictionary_parse_field_parse_fixed_size_list_parse_list_parse_list_field_parse_map_parse_next_type_parse_run_end_encoded_parse_struct_parse_union_parse_union_field_ree_fields_ree_types)]
+#[cycle(types)]
 fn parse_list(
     words: &WordTable,
     text: &[u8],
@@ -286,7 +288,7 @@ fn parse_list(
 }
 
 // FixedSizeList(length x list field), or FixedSizeList(length, type).
-#[cycle(parse_dictionary_parse_field_parse_fixed_size_list_parse_list_parse_list_field_parse_map_parse_next_type_parse_run_end_encoded_parse_struct_parse_union_parse_union_field_ree_fields_ree_types)]
+#[cycle(types)]
 fn parse_fixed_size_list(
     words: &WordTable,
     text: &[u8],
@@ -328,7 +330,7 @@ fn parse_fixed_size_list(
     close(words, text, rows, next, row, used, kind, length.value, 0)
 }
 
-#[cycle(parse_dictionary_parse_field_parse_fixed_size_list_parse_list_parse_list_field_parse_map_parse_next_type_parse_run_end_encoded_parse_struct_parse_union_parse_union_field_ree_fields_ree_types)]
+#[cycle(types)]
 fn parse_dictionary(
     words: &WordTable,
     text: &[u8],
@@ -362,7 +364,7 @@ fn parse_dictionary(
     close(words, text, rows, next, row, used + more, kind, 0, 0)
 }
 
-#[cycle(parse_dictionary_parse_field_parse_fixed_size_list_parse_list_parse_list_field_parse_map_parse_next_type_parse_run_end_encoded_parse_struct_parse_union_parse_union_field_ree_fields_ree_types)]
+#[cycle(types)]
 fn parse_struct(
     words: &WordTable,
     text: &[u8],
@@ -409,7 +411,7 @@ fn parse_struct(
 }
 
 // Union ids are judged behind the mark that closes the type.
-#[cycle(parse_dictionary_parse_field_parse_fixed_size_list_parse_list_parse_list_field_parse_map_parse_next_type_parse_run_end_encoded_parse_struct_parse_union_parse_union_field_ree_fields_ree_types)]
+#[cycle(types)]
 fn parse_union(
     words: &WordTable,
     text: &[u8],
@@ -455,7 +457,7 @@ fn parse_union(
 }
 
 // id: ("name": [nullability] type).
-#[cycle(parse_dictionary_parse_field_parse_fixed_size_list_parse_list_parse_list_field_parse_map_parse_next_type_parse_run_end_encoded_parse_struct_parse_union_parse_union_field_ree_fields_ree_types)]
+#[cycle(types)]
 fn parse_union_field(
     words: &WordTable,
     text: &[u8],
@@ -506,7 +508,7 @@ fn wrapped(negative: bool, magnitude: u64) -> u32
     magnitude as u32
 }
 
-#[cycle(parse_dictionary_parse_field_parse_fixed_size_list_parse_list_parse_list_field_parse_map_parse_next_type_parse_run_end_encoded_parse_struct_parse_union_parse_union_field_ree_fields_ree_types)]
+#[cycle(types)]
 fn parse_map(
     words: &WordTable,
     text: &[u8],
@@ -555,7 +557,7 @@ fn parse_map(
 }
 
 // RunEndEncoded of two fields if a whole double-quoted string is next, else of two types.
-#[cycle(parse_dictionary_parse_field_parse_fixed_size_list_parse_list_parse_list_field_parse_map_parse_next_type_parse_run_end_encoded_parse_struct_parse_union_parse_union_field_ree_fields_ree_types)]
+#[cycle(types)]
 fn parse_run_end_encoded(
     words: &WordTable,
     text: &[u8],
@@ -589,7 +591,7 @@ fn parse_run_end_encoded(
 }
 
 // RunEndEncoded's two fields, in the long form.
-#[cycle(parse_dictionary_parse_field_parse_fixed_size_list_parse_list_parse_list_field_parse_map_parse_next_type_parse_run_end_encoded_parse_struct_parse_union_parse_union_field_ree_fields_ree_types)]
+#[cycle(types)]
 fn ree_fields(
     words: &WordTable,
     text: &[u8],
@@ -622,7 +624,7 @@ fn ree_fields(
 }
 
 // RunEndEncoded's fields in the short form: two types, named by the name list.
-#[cycle(parse_dictionary_parse_field_parse_fixed_size_list_parse_list_parse_list_field_parse_map_parse_next_type_parse_run_end_encoded_parse_struct_parse_union_parse_union_field_ree_fields_ree_types)]
+#[cycle(types)]
 fn ree_types(
     words: &WordTable,
     text: &[u8],

@@ -1,4 +1,7 @@
 // Printing a tree and reading it back: demand 3 as a function's contract.
+
+#![tactic(auto)]
+
 ghost use Rattle.std.specs.Prelude.{◌≡◌};
 ghost use Rattle.datatype_display.specs.Print.{print_bytes};
 ghost use Rattle.round_trip.specs.PrintAndRead.{printed_and_read_means, print_and_read_answer, print_and_read_rows, Asks3, Demand3};

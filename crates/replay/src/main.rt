@@ -1,5 +1,8 @@
 // Replays stored samples: each case is given to the functions of this repository, and what they answer and leave behind
 // is compared with what is stored.
+
+#![tactic(auto)]
+
 ghost use Rattle.std.specs.Prelude.{◌≡◌, length};
 ghost use Rattle.io.specs.Counts.{IsPrefixLen};
 

@@ -2,6 +2,9 @@
 
 // A tree that was printed and read back, as the printed length and the row count, or the number of the printer's or of
 // the reader's refusal.
+
+#![tactic(auto)]
+
 #[derive(Drop)]
 pub enum PrintedAndRead {
     Tree(usize, usize),

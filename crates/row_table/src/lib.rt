@@ -1,4 +1,7 @@
 // The row table: soundness, and the depth of a sound tree.
+
+#![tactic(auto)]
+
 mod children;
 mod levels;
 mod names;

@@ -1,5 +1,8 @@
 // What the words of a row table say of subtrees, whether the tree is sound or not: levels, parents, union ids, Map's
 // entries, and equality.
+
+#![tactic(auto)]
+
 mod equality;
 mod ids;
 mod levels;

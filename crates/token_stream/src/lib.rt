@@ -1,5 +1,8 @@
 // A text and a place in it, held in one value, as the Rust's `Tokenizer` holds them. A thin layer: each method takes the
 // struct apart and calls the function on the text and the place.
+
+#![tactic(auto)]
+
 ghost use Rattle.std.specs.Prelude.{◌≡◌};
 ghost use Rattle.tokenizer.specs.Token.{token_at};
 ghost use Rattle.token_stream.specs.Stream.{start_of, token_of, moved_on};

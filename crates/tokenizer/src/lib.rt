@@ -1,4 +1,7 @@
 // Tokens of a type text: the work of the Rust's `Tokenizer`.
+
+#![tactic(auto)]
+
 mod edges;
 mod number;
 pub mod refusal;

@@ -1,6 +1,9 @@
 // The line program: standard input has a type text on each line, standard output gets an answer for each. Answers are
 // written before each read, so that whoever waits for one before it writes the next line gets it. A read or a write that
 // fails ends the program with a message; the language has no exit status to go with that.
+
+#![tactic(auto)]
+
 ghost use Rattle.std.specs.Prelude.{◌≡◌, ◌<◌, ◌≤◌, length};
 ghost use Rattle.answer_line.specs.Line.{line_words};
 ghost use Rattle.type_lines.specs.Run.{Room, Unfinished};

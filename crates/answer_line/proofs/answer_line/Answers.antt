@@ -1,0 +1,28 @@
+use Rattle.answer_line.proofs.Whole.{few_words, few_bytes, line_refused, line-fits, line-few, line-counted, line_read}
+use native.Mathlib.Omega.{arith}
+use borrow.Author.Rules.{rules}
+use Rattle.answer_line.proofs.answer_line.Goals as goal
+
+pub returns-then-rows-lt-LINE_WORDS : goal.returns-then-rows-lt-LINE_WORDS
+returns-then-rows-lt-LINE_WORDS c = few_words _ _ _ c.if-rows-lt-LINE_WORDS.true
+
+pub returns-then-out-lt-ANSWER_BYTES : goal.returns-then-out-lt-ANSWER_BYTES
+returns-then-out-lt-ANSWER_BYTES c = few_bytes _ _ _ c.if-rows-lt-LINE_WORDS.false c.if-out-lt-ANSWER_BYTES.true
+
+pub overflow_mul-words : goal.overflow_mul-words
+overflow_mul-words c = record { fits = omega (arith, line-fits _ _ c.args.out.now c.if-rows-lt-LINE_WORDS.false c.if-out-lt-ANSWER_BYTES.false _ _ c.parse_data_type.ensures.answer c.parse_data_type.ensures.contents _ c.in-Rows.is c.parse_data_type.auto.1.0, c.parse_data_type.auto.1.0) }
+
+pub slice_bounds-answer_tree-end : goal.slice_bounds-answer_tree-end
+slice_bounds-answer_tree-end c = line-fits _ _ c.args.out.now c.if-rows-lt-LINE_WORDS.false c.if-out-lt-ANSWER_BYTES.false _ _ c.parse_data_type.ensures.answer c.parse_data_type.ensures.contents _ c.in-Rows.is c.parse_data_type.auto.1.0
+
+pub slice_bounds-answer_tree-end-in-Rows : goal.slice_bounds-answer_tree-end-in-Rows
+slice_bounds-answer_tree-end-in-Rows c = line-counted _ _ c.args.out.now c.if-rows-lt-LINE_WORDS.false c.if-out-lt-ANSWER_BYTES.false _ _ c.parse_data_type.ensures.answer c.parse_data_type.ensures.contents _ c.in-Rows.is c.parse_data_type.auto.1.0
+
+pub answer_tree-requires : goal.answer_tree-requires
+answer_tree-requires c = (search rules, line-few _ _ c.args.out.now c.if-rows-lt-LINE_WORDS.false c.if-out-lt-ANSWER_BYTES.false _ _ c.parse_data_type.ensures.answer c.parse_data_type.ensures.contents _ c.in-Rows.is c.parse_data_type.auto.1.0)
+
+pub returns-in-Refused : goal.returns-in-Refused
+returns-in-Refused c = line_refused _ _ _ c.if-rows-lt-LINE_WORDS.false c.if-out-lt-ANSWER_BYTES.false _ _ c.parse_data_type.ensures.answer c.parse_data_type.ensures.contents _ c.in-Refused.is _ _ c.put_no.ensures
+
+pub returns-in-Rows : goal.returns-in-Rows
+returns-in-Rows c = line_read _ _ _ c.if-rows-lt-LINE_WORDS.false c.if-out-lt-ANSWER_BYTES.false _ _ c.parse_data_type.ensures.answer c.parse_data_type.ensures.contents _ c.in-Rows.is _ _ c.answer_tree.ensures

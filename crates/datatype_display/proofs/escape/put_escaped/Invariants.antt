@@ -1,0 +1,12 @@
+use Rattle.datatype_display.proofs.Writes.{Rest}
+use Rattle.display_length.specs.Display.{escaped}
+use mathlib.Core.List.{[], ◌∷◌}
+use lib.ListN.{length, drop}
+use Prim.Native.Nat.{◌-◌}
+use Rattle.datatype_display.proofs.escape.put_escaped.Given as goal
+
+abbrev pub invariant-loop-i : goal.invariant-loop-i
+invariant-loop-i l = Rest l.at l.s (escaped l.initial.out) l.next l.out (escaped (drop l.i l.initial.out) ∷ [])
+
+abbrev pub decreases-loop-i : goal.decreases-loop-i
+decreases-loop-i l = length l.initial.out - l.i

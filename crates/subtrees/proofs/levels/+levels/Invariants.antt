@@ -1,0 +1,9 @@
+use Prim.Native.Nat.{◌-◌}
+use Rattle.subtrees.proofs.LevelLaws.{LevelsSo}
+use Rattle.subtrees.proofs.levels.+levels.Given as goal
+
+abbrev pub invariant-loop-at : goal.invariant-loop-at
+invariant-loop-at l = LevelsSo l.rows l.most l.start l.end l.deepest l.at
+
+abbrev pub decreases-loop-at : goal.decreases-loop-at
+decreases-loop-at l = l.end - l.at
