@@ -1,6 +1,6 @@
 -- Kinds, units and decimals: what the functions of `kind.rt` look at.
 use mathlib.Core.Path.{◌≡◌, refl, sym}
-use mathlib.Core.Bool.{Bool, true, false, ◌&&◌, and_false}
+use mathlib.Core.Bool.{Bool, true, false, ◌&&◌, and-false}
 use mathlib.Core.List.{[], ◌∷◌}
 use Prim.Native.Nat.{ℕ, zero, suc, ◌+◌, ◌-◌, ◌≤◌, ◌<◌}
 use native.Mathlib.Omega.{arith}
@@ -62,7 +62,7 @@ module _ (k : ℕ) where
   pub no-decimal : (p s : ℕ) → (k ≡ 35 → ⊥) → (k ≡ 36 → ⊥) → (k ≡ 37 → ⊥) → (k ≡ 38 → ⊥) → decimal_fits k p s ≡ false
   unfolding decimal_fits
   no-decimal zero s a b c d = refl
-  no-decimal (suc p) s a b c d = rw (sym (max-5 a b c d), lt-leb (suc p) 0 (omega arith), and_false (leb 1 (suc p)))
+  no-decimal (suc p) s a b c d = rw (sym (max-5 a b c d), lt-leb (suc p) 0 (omega arith), and-false (leb 1 (suc p)))
 
   -- one rule for the four widths, 32, 64, 128 and 256 bits: the precision is 1 to the width's greatest, and the scale,
   -- less 128, at most the precision

@@ -1,6 +1,6 @@
 -- What the functions of `rules.rt` say of every kind: a rule of the table of shapes is one computed test.
 use mathlib.Core.Path.{◌≡◌, refl, sym, ap, ◌∙◌}
-use mathlib.Core.Bool.{Bool, true, false, ◌&&◌, ◌||◌, and-true, and_false, false≢true}
+use mathlib.Core.Bool.{Bool, true, false, ◌&&◌, ◌||◌, and-true, and-false, false≢true}
 use mathlib.Core.List.{List, [], ◌∷◌}
 use Prim.Native.Nat.{ℕ, ◌+◌, ◌≤◌, ◌<◌}
 use native.Mathlib.Omega.{arith}
@@ -150,7 +150,7 @@ no_unit : (k p s : ℕ) → unit_fits k p ≡ false → numbers_fit k p s ≡ fa
 no_unit k p s u = go (eqb k 16) refl (eqb k 17) refl
   where
     timed : shape_of k ≡ time → numbers_fit k p s ≡ false
-    timed e = unfold numbers_fit rules_of in rw (e, u) (and_false (ltb p 4 && ltb s 1))
+    timed e = unfold numbers_fit rules_of in rw (e, u) (and-false (ltb p 4 && ltb s 1))
 
     go : (a : Bool) → eqb k 16 ≡ a → (b : Bool) → eqb k 17 ≡ b → numbers_fit k p s ≡ false
     go true e b f = timed (ap shape_of (eqb-true k 16 e) ∙ time_32)

@@ -1,6 +1,6 @@
 -- Union ids of rows that stand side by side: what the loop over them holds, and what they are where the rows nest.
 use mathlib.Core.Path.{◌≡◌, refl, sym, ◌∙◌}
-use mathlib.Core.Bool.{Bool, true, false, not, ◌&&◌, and_false}
+use mathlib.Core.Bool.{Bool, true, false, not, ◌&&◌, and-false}
 use mathlib.Core.List.{List, [], ◌∷◌, map}
 use mathlib.Core.Option
 use mathlib.Core.Option.{Option, none, some}
@@ -31,7 +31,7 @@ all_fresh_lem (some ids) = fresh_ids_lem ids
 
 fresh_more : (met : List ℕ) (id : ℕ) (o : Option (List ℕ)) → all_fresh met (Option.map (λ ids. id ∷ ids) o) ≡ (ltb id 128 && not (has id met) && all_fresh (id ∷ met) o)
 unfolding fresh_ids
-fresh_more met id none = sym (and_false (ltb id 128 && not (has id met)))
+fresh_more met id none = sym (and-false (ltb id 128 && not (has id met)))
 fresh_more met id (some ids) = refl
 
 -- before a turn: the ids met, and that the rest decides

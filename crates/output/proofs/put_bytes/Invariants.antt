@@ -3,7 +3,7 @@ use Rattle.output.proofs.Writes.{Copied}
 use Rattle.output.proofs.put_bytes.Given as goal
 
 abbrev pub invariant-loop-i : goal.invariant-loop-i
-invariant-loop-i l = Copied l.at l.n l.s l.initial.out l.i l.out
+invariant-loop-i l = Copied l.initial.out l.s l.at l.n l.i l.out
 
 abbrev pub decreases-loop-i : goal.decreases-loop-i
-decreases-loop-i l = l.initial.out - l.i
+decreases-loop-i l = l.n - l.i

@@ -19,13 +19,13 @@ use Rattle.parser.specs.Parse.{type_at, union_item}
 use Rattle.parser.proofs.+types.Given as goal
 
 abbrev pub parse_struct-invariant-loop-end : goal.parse_struct-invariant-loop-end
-parse_struct-invariant-loop-end l = Loop (struct_item l.text (type_at l.text l.open)) «open» l.level (l.left + 1) l.kind l.rows l.next l.used
+parse_struct-invariant-loop-end l = Loop (struct_item l.text (type_at l.text l.level)) «open» l.left (l.row + 1) l.initial.rows l.rows l.next l.used
 
 abbrev pub parse_struct-decreases-loop-end : goal.parse_struct-decreases-loop-end
-parse_struct-decreases-loop-end l = l.level - l.used
+parse_struct-decreases-loop-end l = l.left - l.used
 
 abbrev pub parse_union-invariant-loop-end : goal.parse_union-invariant-loop-end
-parse_union-invariant-loop-end l = Loop (union_item l.text (type_at l.text l.open)) l.initial.rows.next l.level (l.left + 1) l.kind l.rows l.next l.used
+parse_union-invariant-loop-end l = Loop (union_item l.text (type_at l.text l.level)) l.mode.next l.left (l.row + 1) l.initial.rows l.rows l.next l.used
 
 abbrev pub parse_union-decreases-loop-end : goal.parse_union-decreases-loop-end
-parse_union-decreases-loop-end l = l.level - l.used
+parse_union-decreases-loop-end l = l.left - l.used

@@ -22,13 +22,13 @@ use Rattle.display_length.specs.Display.{union_text, shown}
 use Rattle.datatype_display.proofs.display.+types.Given as goal
 
 abbrev pub put_struct-invariant-loop-j : goal.put_struct-invariant-loop-j
-put_struct-invariant-loop-j l = Fields l.text l.names l.rows (place_below (label_at l.text l.names l.rows l.i)) l.level l.initial.out l.at l.initial.next (struct_text (shown (kids_at l.text l.names l.rows l.i)) ++ bytes ")") struct_text l.j l.next l.out
+put_struct-invariant-loop-j l = Fields l.text l.names l.rows (place_below (label_at l.text l.names l.rows l.i)) l.level l.end l.initial.out l.initial.next (struct_text (shown (kids_at l.text l.names l.rows l.i)) ++ bytes ")") struct_text l.j l.next l.out
 
 abbrev pub put_struct-decreases-loop-j : goal.put_struct-decreases-loop-j
-put_struct-decreases-loop-j l = l.initial.out - l.j
+put_struct-decreases-loop-j l = l.end - l.j
 
 abbrev pub put_union-invariant-loop-j : goal.put_union-invariant-loop-j
-put_union-invariant-loop-j l = Fields l.text l.names l.rows (place_below (label_at l.text l.names l.rows l.i)) l.level l.opened l.at l.initial.next (union_text (shown (kids_at l.text l.names l.rows l.i)) ++ bytes ")") union_text l.j l.next l.out
+put_union-invariant-loop-j l = Fields l.text l.names l.rows (place_below (label_at l.text l.names l.rows l.i)) l.level l.end l.initial.out l.initial.next (union_text (shown (kids_at l.text l.names l.rows l.i)) ++ bytes ")") union_text l.j l.next l.out
 
 abbrev pub put_union-decreases-loop-j : goal.put_union-decreases-loop-j
-put_union-decreases-loop-j l = l.opened - l.j
+put_union-decreases-loop-j l = l.end - l.j

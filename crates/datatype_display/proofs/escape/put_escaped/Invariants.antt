@@ -6,7 +6,7 @@ use Prim.Native.Nat.{◌-◌}
 use Rattle.datatype_display.proofs.escape.put_escaped.Given as goal
 
 abbrev pub invariant-loop-i : goal.invariant-loop-i
-invariant-loop-i l = Rest l.at l.s (escaped l.initial.out) l.next l.out (escaped (drop l.i l.initial.out) ∷ [])
+invariant-loop-i l = Rest l.initial.out l.at (escaped l.s) l.next l.out (escaped (drop l.i l.s) ∷ [])
 
 abbrev pub decreases-loop-i : goal.decreases-loop-i
-decreases-loop-i l = length l.initial.out - l.i
+decreases-loop-i l = length l.s - l.i

@@ -4,7 +4,7 @@ use lib.ListN.{length}
 use Rattle.datatype_display.proofs.escape.put_run.Given as goal
 
 abbrev pub invariant-loop-i : goal.invariant-loop-i
-invariant-loop-i l = Ran l.at l.s l.initial.out l.i l.out
+invariant-loop-i l = Ran l.initial.out l.at l.s l.i l.out
 
 abbrev pub decreases-loop-i : goal.decreases-loop-i
-decreases-loop-i l = length l.initial.out - l.i
+decreases-loop-i l = length l.s - l.i

@@ -4,7 +4,7 @@ use Prim.Native.Nat.{◌-◌}
 use Rattle.datatype_display.proofs.write.put.Given as goal
 
 abbrev pub invariant-loop-i : goal.invariant-loop-i
-invariant-loop-i l = Copied l.at l.initial.out l.s (length l.initial.out) l.i l.out
+invariant-loop-i l = Copied l.initial.out l.s l.at (length l.s) l.i l.out
 
 abbrev pub decreases-loop-i : goal.decreases-loop-i
-decreases-loop-i l = length l.initial.out - l.i
+decreases-loop-i l = length l.s - l.i
