@@ -14,10 +14,10 @@ pub answer_part-requires : goal.answer_part-requires
 answer_part-requires c = (c.loop-wrote.invariant.room.words, omega (arith, c.loop-wrote.invariant.room.bytes, c.loop-wrote-test.true), c.loop-wrote.invariant.goes.inside.read, no_end _ _ _ c.loop-wrote.invariant.goes.inside.read c.line_end-end.ensures c.if-end-input.true)
 
 pub shape_of-rows-then-end-input : goal.shape_of-rows-then-end-input
-shape_of-rows-then-end-input c = c.answer_part.auto.1.1.1.0 ∙ c.loop-wrote.invariant.words
+shape_of-rows-then-end-input c = c.answer_part.auto.rows ∙ c.loop-wrote.invariant.words
 
 pub shape_of-out-then-end-input : goal.shape_of-out-then-end-input
-shape_of-out-then-end-input c = c.answer_part.auto.1.1.1.1.0 ∙ c.loop-wrote.invariant.bytes
+shape_of-out-then-end-input c = c.answer_part.auto.out ∙ c.loop-wrote.invariant.bytes
 
 pub returns-then-end-input : goal.returns-then-end-input
 returns-then-end-input c = (goes_then _ _ _ _ _ c.loop-wrote.invariant.goes _ _ c.answer_part.ensures.0, halts_left _ _ _ c.answer_part.ensures.1)
@@ -41,7 +41,7 @@ pub loop-wrote-smaller : goal.loop-wrote-smaller
 loop-wrote-smaller c = omega (arith, from-before _ _ _ c.loop-wrote.invariant.goes.inside.read c.line_end-end.ensures, end-within _ _ _ c.loop-wrote.invariant.goes.inside.read c.line_end-end.ensures, c.if-end-input.false)
 
 pub loop-wrote-preserved : goal.loop-wrote-preserved
-loop-wrote-preserved c = reached-more _ _ _ _ _ _ _ _ _ c.loop-wrote.invariant _ _ _ _ c.line_end-end.ensures c.if-end-input.false c.answer_at-wrote.auto.1.0 c.answer_at-wrote.auto.1.1.0 c.answer_at-wrote.ensures
+loop-wrote-preserved c = reached-more _ _ _ _ _ _ _ _ _ c.loop-wrote.invariant _ _ _ _ c.line_end-end.ensures c.if-end-input.false c.answer_at-wrote.auto.rows c.answer_at-wrote.auto.out c.answer_at-wrote.ensures
 
 pub shape_of-rows : goal.shape_of-rows
 shape_of-rows c = c.loop-wrote.invariant.words
