@@ -5,7 +5,7 @@ pub loop-groups-init : goal.loop-groups-init
 loop-groups-init c = groups-first _ _ _ _ c.number_at-n.ensures
 
 pub loop-groups-preserved : goal.loop-groups-preserved
-loop-groups-preserved c = groups-next c.args.sample.now c.args.words.now c.args.others.now _ _ _ _ c.loop-groups.invariant _ _ _ c.loop-groups-test.true c.one_group-t.ensures c.one_group-t.auto.1.1.0 c.one_group-t.auto.1.1.1.0
+loop-groups-preserved c = groups-next c.args.sample.now c.args.words.now c.args.others.now _ _ _ _ c.loop-groups.invariant _ _ _ c.loop-groups-test.true c.one_group-t.ensures c.one_group-t.auto.words c.one_group-t.auto.others
 
 pub shape_of-words : goal.shape_of-words
 shape_of-words c = c.loop-groups.invariant.words_long
