@@ -20,7 +20,6 @@ use Rattle.parser.proofs.Values.{id-is}
 use Rattle.parser.proofs.+types.Goals.{parse_next_type-in_default-via-then-kind-lt16, parse_next_type-in_default-via-else-kind-lt16+else-kind-lt19+then-kind-lt27, parse_next_type-in_default-via-else-kind-lt16+else-kind-lt19+else-kind-lt27+else-kind-lt32+else-kind-lt39}
 use Rattle.parser.proofs.+types.Goals as goal
 
-
 pub parse_dictionary-returns-in-Refused : goal.parse_dictionary-returns-in-Refused
 parse_dictionary-returns-in-Refused t c = meets-refused _ _ _ _ _ _ (dictionary-1 _ _ _ _ _ _ (lost_step _ _ (sym c.in-Refused.is ∙ c.expect_token.ensures)))
 
@@ -280,9 +279,9 @@ pub parse_next_type-returns-in_default : goal.parse_next_type-returns-in_default
 parse_next_type-returns-in_default t c =
     type-leaf _ _ _ _ c.if-level-eq0.false c.if-left-eq0.false _ _ _ _ _ _ (got_value _ _ (sym c.in-Value.is ∙ c.parse_type_word.ensures))
     (elim c.in_default.branch [
-      parse_next_type-in_default-via-then-kind-lt16 w ↦ leaf_low _ w.if-kind-lt16-1.true c.in_default-1.rest.0.0.0.0.0.0.0.0.1
-    | parse_next_type-in_default-via-else-kind-lt16+else-kind-lt19+then-kind-lt27 w ↦ leaf_mid _ w.if-kind-lt19-1.false w.if-kind-lt27-1.true c.in_default-1.rest.0.0.0.0.0.0.0.1 c.in_default-1.rest.0.0.0.0.0.0.1
-    | parse_next_type-in_default-via-else-kind-lt16+else-kind-lt19+else-kind-lt27+else-kind-lt32+else-kind-lt39 w ↦ leaf_high _ w.if-kind-lt39-1.false c.in_default-1.rest.0.1 c.in_default-1.rest.1
+      | parse_next_type-in_default-via-then-kind-lt16 w ↦ leaf_low _ w.if-kind-lt16-1.true c.in_default-1.rest.0.0.0.0.0.0.0.0.1
+      | parse_next_type-in_default-via-else-kind-lt16+else-kind-lt19+then-kind-lt27 w ↦ leaf_mid _ w.if-kind-lt19-1.false w.if-kind-lt27-1.true c.in_default-1.rest.0.0.0.0.0.0.0.1 c.in_default-1.rest.0.0.0.0.0.0.1
+      | parse_next_type-in_default-via-else-kind-lt16+else-kind-lt19+else-kind-lt27+else-kind-lt32+else-kind-lt39 w ↦ leaf_high _ w.if-kind-lt39-1.false c.in_default-1.rest.0.1 c.in_default-1.rest.1
     ]) c.put_parent.ensures
 
 pub parse_run_end_encoded-returns-in-Refused : goal.parse_run_end_encoded-returns-in-Refused
