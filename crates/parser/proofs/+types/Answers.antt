@@ -12,8 +12,6 @@ use Rattle.datatype.proofs.ShapeLaws.{shapes_of}
 use Rattle.datatype.specs.Kind.{decimal, dictionary, fixed, fixed_list, interval, list, mapping, run_end_encoded, shape_of, struct, time, timestamp, union}
 use Rattle.parser.proofs.Types.{decimal_kind, leaf_asks, leaf_high, leaf_low, leaf_mid, list_kind, room_less, room_one, time_kind, type-childless, type-deep, type-full, type-leaf, type-parent, type-word, struct-1, struct-2, struct-3, struct-4, union-at-1, union-at-2, union-at-3, union-at-4, union-at-5}
 use Rattle.parser.specs.Parse.{shape_at}
-use mathlib.Core.Logic.{⊎_elim}
-use Prim.Native.Nat.{◌-◌}
 use Rattle.parser.proofs.Loops.{grown-most, loop-end, loop_front, loop-length, loop-lost, loop-more, loop-room, loop-start, turn-less}
 use borrow.Author.Tests.{not-false, not-true}
 use Rattle.parser.proofs.Values.{id-is}
