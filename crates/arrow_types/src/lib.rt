@@ -142,12 +142,7 @@ pub fn arrow_types_is_sound(text: &[u8], names: &[u8], rows: &[u32]) -> u32
 }
 
 // The depth of a tree.
-pub fn arrow_types_depth(
-    text: &[u8],
-    names: &[u8],
-    rows: &[u32],
-    depth: &mut usize,
-) -> u32
+pub fn arrow_types_depth(text: &[u8], names: &[u8], rows: &[u32], depth: &mut usize) -> u32
     ensures status { result ≡ status_of (depth_of text.now names.now rows.now) }
     ensures value { depth.new ≡ value_of (depth_of text.now names.now rows.now) }
 {

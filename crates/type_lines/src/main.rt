@@ -142,13 +142,7 @@ fn read_on(rt: &HostRuntime, input: &mut [u8], left: usize, skip: bool, wrote: u
 }
 
 // One turn: answers what can be answered and writes the answers; then reads more, unless the output was short of room.
-fn take_turn(
-    rt: &HostRuntime,
-    input: &mut [u8],
-    t: Turn,
-    rows: &mut [u32],
-    out: &mut [u8],
-) -> After
+fn take_turn(rt: &HostRuntime, input: &mut [u8], t: Turn, rows: &mut [u32], out: &mut [u8]) -> After
     requires { Running input.old t rows.old out.old }
     ensures { GoesOn t input.old out.old result input.new out.new }
 {
@@ -176,13 +170,7 @@ fn take_turn(
 }
 
 // Answers what is left at the end of the input, and writes the answer.
-fn finish(
-    rt: &HostRuntime,
-    line: &[u8],
-    skip: bool,
-    rows: &mut [u32],
-    out: &mut [u8],
-) -> Ending
+fn finish(rt: &HostRuntime, line: &[u8], skip: bool, rows: &mut [u32], out: &mut [u8]) -> Ending
     requires { Room rows.old out.old × Unfinished line.now }
     ensures { LastLine line.now skip result out.new }
 {
