@@ -1,5 +1,4 @@
 use Rattle.type_lines.proofs.Turns.{counted, all_handed, none_handed}
-use borrow.Author.Rules.{rules}
 use Rattle.type_lines.proofs.flush.Goals as goal
 
 pub slice_bounds-write_all-end : goal.slice_bounds-write_all-end

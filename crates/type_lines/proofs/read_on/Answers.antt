@@ -6,7 +6,6 @@ use Rattle.std.specs.Prelude.{◌<◌, ◌≤◌}
 use lib.ListN.{length}
 use borrow.Rule.Slice.PartMut.{mid_of, put_mid, take_put, same_len_mid}
 use native.Mathlib.Omega.{arith}
-use borrow.Author.Rules.{rules}
 use Rattle.type_lines.proofs.read_on.Goals as goal
 
 pub returns-in-Err : goal.returns-in-Err

@@ -1,6 +1,5 @@
 use Rattle.type_lines.proofs.Turns.{runs-start, counted, last_fits, last_line, ran-ended, ran-broken, runs_on, ran_out}
 use mathlib.Core.Path.{◌∙◌}
-use Prim.Native.Nat.{◌-◌}
 use native.Mathlib.Omega.{arith}
 use Rattle.type_lines.proofs.run.Goals as goal
 

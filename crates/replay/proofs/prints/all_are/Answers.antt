@@ -1,5 +1,4 @@
 use mathlib.Core.Path.{refl}
-use Prim.Native.Nat.{◌-◌}
 use Rattle.replay.proofs.PrintCases.{all_end, all-other, all_more}
 use Rattle.replay.proofs.prints.all_are.Goals as goal
 

@@ -1,4 +1,3 @@
-use Prim.Native.Nat.{◌-◌}
 use Rattle.replay.proofs.Reading.{filled_start, filled_more, filled-all}
 use Rattle.replay.proofs.prints.fill.Goals as goal
 

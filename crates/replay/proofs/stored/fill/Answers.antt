@@ -1,4 +1,3 @@
-use Prim.Native.Nat.{◌-◌}
 use Rattle.replay.proofs.Reading.{filled_start, filled_more, filled-all}
 use Rattle.replay.proofs.stored.fill.Goals as goal
 

@@ -1,5 +1,4 @@
 use mathlib.Core.Path.{refl}
-use Prim.Native.Nat.{◌-◌}
 use Rattle.replay.specs.Sample.{number_at}
 use Rattle.replay.proofs.Reading.{number-end, number-stop, number-go}
 use Rattle.replay.proofs.stored.number_at.Goals as goal

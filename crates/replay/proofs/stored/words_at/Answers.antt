@@ -1,4 +1,3 @@
-use Prim.Native.Nat.{◌-◌}
 use Rattle.replay.proofs.Reading.{numbered_start, numbered_more, numbered-all, numbered-place}
 use Rattle.replay.proofs.stored.words_at.Goals as goal
 

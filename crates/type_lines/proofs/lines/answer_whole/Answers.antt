@@ -1,6 +1,5 @@
 use Rattle.type_lines.proofs.Going.{goes_then, from-before, end-within, no_end, reached-start, reached-more, halts_left, halts_short}
 use mathlib.Core.Path.{◌∙◌}
-use Prim.Native.Nat.{◌-◌}
 use native.Mathlib.Omega.{arith}
 use Rattle.type_lines.proofs.lines.answer_whole.Goals as goal
 

@@ -1,5 +1,4 @@
 use Rattle.type_lines.proofs.Moving.{moving-start, moving-length, moving-more, moving-all}
-use Prim.Native.Nat.{◌-◌}
 use native.Mathlib.Omega.{arith}
 use Rattle.type_lines.proofs.lines.move_left.Goals as goal
 
