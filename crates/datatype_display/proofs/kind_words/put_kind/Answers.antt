@@ -20,10 +20,6 @@ overflow_add-result c = omega (arith, word_room _ c.requires.0 _ c.kind_word-wor
 pub returns-then-n-gt8 : goal.returns-then-n-gt8
 returns-then-n-gt8 c = long-word _ c.requires.0 _ c.kind_word-word.ensures c.if-n-gt8.true _ _ _ _ c.store_eight.ensures c.store_eight-then-n-gt8.ensures
 
--- NO GOAL Need-slice-aggregate-put
--- slice-aggregate-put : tie.Need-slice-aggregate-put
--- slice-aggregate-put c = search rules
-
 pub put-requires : goal.put-requires
 put-requires c = fits_as (sym (map-word _ c.requires.0 _ c.kind_word-word.ensures c.if-n-lt4.true)) c.requires.1
 

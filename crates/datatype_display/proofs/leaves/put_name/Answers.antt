@@ -6,10 +6,6 @@ use Rattle.datatype_display.proofs.leaves.put_name.Goals as goal
 pub put_quoted-named-requires : goal.put_quoted-named-requires
 put_quoted-named-requires c = rest_fits (rest_start (quoted_name_parts _ _) c.requires)
 
--- NO GOAL Need-slice-aggregate-put
--- slice-aggregate-put : tie.Need-slice-aggregate-put
--- slice-aggregate-put c = search rules
-
 pub put-next-requires : goal.put-next-requires
 put-next-requires c = rest_fits (rest_step (rest_start (quoted_name_parts _ _) c.requires) c.put_quoted-named.ensures)
 

@@ -6,10 +6,6 @@ use Rattle.datatype_display.proofs.leaves.put_zone.Goals as goal
 pub returns-then-zone-eq0 : goal.returns-then-zone-eq0
 returns-then-zone-eq0 c = wrote_as (no_zone _ c.if-zone-eq0.true) (wrote_none _ _)
 
--- NO GOAL Need-slice-aggregate-put
--- slice-aggregate-put : tie.Need-slice-aggregate-put
--- slice-aggregate-put c = search rules
-
 pub put-next-requires : goal.put-next-requires
 put-next-requires c = rest_fits (rest_start (zone_parts _ c.if-zone-eq0.false) c.requires)
 
