@@ -7,8 +7,9 @@ use Rattle.datatype_display.proofs.Shapes.{list_kind}
 use Rattle.datatype.proofs.ShapeLaws.{shapes_of}
 use Rattle.datatype.specs.Kind.{shape_of}
 use Rattle.tokenizer.proofs.Basics.{of_true}
-use Prim.Native.Nat.{◌-◌}
-use Rattle.display_length.specs.Display.{struct_text, union_text}
+use Rattle.display_length.specs.Display.{field_text, struct_text, union_text}
+use Rattle.datatype_display.specs.Internal.Steps.{Wrote, shown_at}
+use Rattle.datatype_display.proofs.display.+types.Goals.{put_struct-then-is_word, put_struct-else-is_word+then-is_alone, put_struct-else-is_word+else-is_alone}
 use Rattle.datatype_display.proofs.display.+types.Goals as goal
 
 pub put_dictionary-overflow_add-value : goal.put_dictionary-overflow_add-value
@@ -300,13 +301,27 @@ pub put_struct-overflow_add-j-in-loop-j : goal.put_struct-overflow_add-j-in-loop
 put_struct-overflow_add-j-in-loop-j t c = omega (arith, (first-turn _ _ _ _ _ _ _ c.loop-j.invariant.rows c.loop-j-test.true).within, c.loop-j.invariant.rows.few, c.subtree-j.ensures)
 
 pub put_struct-put_comma-next-requires : goal.put_struct-put_comma-next-requires
-put_struct-put_comma-next-requires t c = ?
+put_struct-put_comma-next-requires t c =
+    let field : Wrote c.loop-j.out c.loop-j.next (field_text (shown_at c.args.text.now c.args.names.now c.args.rows.now c.loop-j.j)) c.if-is_word.last c.if-is_word.out =
+        elim c.if-is_word.branch [
+          put_struct-then-is_word w ↦ wrote_came (rest_last (rest_step (rest_start (field-parts _ _ _ _ _ c.name_at-name.ensures _ c.word-role.ensures) (struct-field _ _ _ _ _ _ _ _ _ _ _ _ c.loop-j-test.true c.loop-j.invariant)) c.put_name-named.ensures) (wrote_as (word-text _ _ _ _ c.word-kind.ensures _ (of_true _ (sym c.is_word.ensures ∙ w.if-is_word.true))) w.put_kind-last.ensures)) w.out-is w.last-is
+        | put_struct-else-is_word+then-is_alone w ↦ wrote_came (rest_last (rest_step (rest_start (field-parts _ _ _ _ _ c.name_at-name.ensures _ c.word-role.ensures) (struct-field _ _ _ _ _ _ _ _ _ _ _ _ c.loop-j-test.true c.loop-j.invariant)) c.put_name-named.ensures) (wrote_as (alone-text _ _ _ _ c.word-kind.ensures _ (subtree-kind _ _ _ _ _ (first-child _ _ _ _ _ _ _ c.loop-j.invariant.rows c.loop-j-test.true).subtree _ c.word-kind.ensures) (of_true _ (sym w.is_alone.ensures ∙ w.if-is_alone.true))) w.put_leaf.ensures)) w.out-is w.last-is
+        | put_struct-else-is_word+else-is_alone w ↦ wrote_came (rest_last (rest_step (rest_start (field-parts _ _ _ _ _ c.name_at-name.ensures _ c.word-role.ensures) (struct-field _ _ _ _ _ _ _ _ _ _ _ _ c.loop-j-test.true c.loop-j.invariant)) c.put_name-named.ensures) w.put_nested.ensures) w.out-is w.last-is
+        ] in
+    rest_fits (rest_step (struct-here _ _ _ _ _ _ _ _ _ _ _ _ c.loop-j-test.true c.loop-j.invariant _ c.subtree-j.ensures) field)
 
 pub put_struct-loop-j-smaller : goal.put_struct-loop-j-smaller
 put_struct-loop-j-smaller t c = omega (arith, (first-turn _ _ _ _ _ _ _ c.loop-j.invariant.rows c.loop-j-test.true).some-rows, (first-turn _ _ _ _ _ _ _ c.loop-j.invariant.rows c.loop-j-test.true).within, c.subtree-j.ensures)
 
 pub put_struct-loop-j-preserved : goal.put_struct-loop-j-preserved
-put_struct-loop-j-preserved t c = ?
+put_struct-loop-j-preserved t c =
+    let field : Wrote c.loop-j.out c.loop-j.next (field_text (shown_at c.args.text.now c.args.names.now c.args.rows.now c.loop-j.j)) c.if-is_word.last c.if-is_word.out =
+        elim c.if-is_word.branch [
+          put_struct-then-is_word w ↦ wrote_came (rest_last (rest_step (rest_start (field-parts _ _ _ _ _ c.name_at-name.ensures _ c.word-role.ensures) (struct-field _ _ _ _ _ _ _ _ _ _ _ _ c.loop-j-test.true c.loop-j.invariant)) c.put_name-named.ensures) (wrote_as (word-text _ _ _ _ c.word-kind.ensures _ (of_true _ (sym c.is_word.ensures ∙ w.if-is_word.true))) w.put_kind-last.ensures)) w.out-is w.last-is
+        | put_struct-else-is_word+then-is_alone w ↦ wrote_came (rest_last (rest_step (rest_start (field-parts _ _ _ _ _ c.name_at-name.ensures _ c.word-role.ensures) (struct-field _ _ _ _ _ _ _ _ _ _ _ _ c.loop-j-test.true c.loop-j.invariant)) c.put_name-named.ensures) (wrote_as (alone-text _ _ _ _ c.word-kind.ensures _ (subtree-kind _ _ _ _ _ (first-child _ _ _ _ _ _ _ c.loop-j.invariant.rows c.loop-j-test.true).subtree _ c.word-kind.ensures) (of_true _ (sym w.is_alone.ensures ∙ w.if-is_alone.true))) w.put_leaf.ensures)) w.out-is w.last-is
+        | put_struct-else-is_word+else-is_alone w ↦ wrote_came (rest_last (rest_step (rest_start (field-parts _ _ _ _ _ c.name_at-name.ensures _ c.word-role.ensures) (struct-field _ _ _ _ _ _ _ _ _ _ _ _ c.loop-j-test.true c.loop-j.invariant)) c.put_name-named.ensures) w.put_nested.ensures) w.out-is w.last-is
+        ] in
+    struct-again _ _ _ _ _ _ _ _ _ _ _ _ c.loop-j-test.true c.loop-j.invariant _ c.subtree-j.ensures _ _ _ _ field c.put_comma-next.ensures
 
 pub put_struct-put_mark-requires : goal.put_struct-put_mark-requires
 put_struct-put_mark-requires t c = rest_fits (struct-end _ _ _ _ _ _ _ _ _ _ _ _ c.loop-j.invariant c.loop-j-test.false)
