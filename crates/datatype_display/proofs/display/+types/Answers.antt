@@ -303,11 +303,11 @@ put_struct-overflow_add-j-in-loop-j t c = omega (arith, (first-turn _ _ _ _ _ _ 
 pub put_struct-put_comma-next-requires : goal.put_struct-put_comma-next-requires
 put_struct-put_comma-next-requires t c =
     let field : Wrote c.loop-j.out c.loop-j.next (field_text (shown_at c.args.text.now c.args.names.now c.args.rows.now c.loop-j.j)) c.if-is_word.last c.if-is_word.out =
-        elim c.if-is_word.branch [
-          put_struct-then-is_word w ↦ wrote_came (rest_last (rest_step (rest_start (field-parts _ _ _ _ _ c.name_at-name.ensures _ c.word-role.ensures) (struct-field _ _ _ _ _ _ _ _ _ _ _ _ c.loop-j-test.true c.loop-j.invariant)) c.put_name-named.ensures) (wrote_as (word-text _ _ _ _ c.word-kind.ensures _ (of_true _ (sym c.is_word.ensures ∙ w.if-is_word.true))) w.put_kind-last.ensures)) w.out-is w.last-is
-        | put_struct-else-is_word+then-is_alone w ↦ wrote_came (rest_last (rest_step (rest_start (field-parts _ _ _ _ _ c.name_at-name.ensures _ c.word-role.ensures) (struct-field _ _ _ _ _ _ _ _ _ _ _ _ c.loop-j-test.true c.loop-j.invariant)) c.put_name-named.ensures) (wrote_as (alone-text _ _ _ _ c.word-kind.ensures _ (subtree-kind _ _ _ _ _ (first-child _ _ _ _ _ _ _ c.loop-j.invariant.rows c.loop-j-test.true).subtree _ c.word-kind.ensures) (of_true _ (sym w.is_alone.ensures ∙ w.if-is_alone.true))) w.put_leaf.ensures)) w.out-is w.last-is
-        | put_struct-else-is_word+else-is_alone w ↦ wrote_came (rest_last (rest_step (rest_start (field-parts _ _ _ _ _ c.name_at-name.ensures _ c.word-role.ensures) (struct-field _ _ _ _ _ _ _ _ _ _ _ _ c.loop-j-test.true c.loop-j.invariant)) c.put_name-named.ensures) w.put_nested.ensures) w.out-is w.last-is
-        ] in
+    elim c.if-is_word.branch [
+      | put_struct-then-is_word w ↦ wrote_came (rest_last (rest_step (rest_start (field-parts _ _ _ _ _ c.name_at-name.ensures _ c.word-role.ensures) (struct-field _ _ _ _ _ _ _ _ _ _ _ _ c.loop-j-test.true c.loop-j.invariant)) c.put_name-named.ensures) (wrote_as (word-text _ _ _ _ c.word-kind.ensures _ (of_true _ (sym c.is_word.ensures ∙ w.if-is_word.true))) w.put_kind-last.ensures)) w.out-is w.last-is
+      | put_struct-else-is_word+then-is_alone w ↦ wrote_came (rest_last (rest_step (rest_start (field-parts _ _ _ _ _ c.name_at-name.ensures _ c.word-role.ensures) (struct-field _ _ _ _ _ _ _ _ _ _ _ _ c.loop-j-test.true c.loop-j.invariant)) c.put_name-named.ensures) (wrote_as (alone-text _ _ _ _ c.word-kind.ensures _ (subtree-kind _ _ _ _ _ (first-child _ _ _ _ _ _ _ c.loop-j.invariant.rows c.loop-j-test.true).subtree _ c.word-kind.ensures) (of_true _ (sym w.is_alone.ensures ∙ w.if-is_alone.true))) w.put_leaf.ensures)) w.out-is w.last-is
+      | put_struct-else-is_word+else-is_alone w ↦ wrote_came (rest_last (rest_step (rest_start (field-parts _ _ _ _ _ c.name_at-name.ensures _ c.word-role.ensures) (struct-field _ _ _ _ _ _ _ _ _ _ _ _ c.loop-j-test.true c.loop-j.invariant)) c.put_name-named.ensures) w.put_nested.ensures) w.out-is w.last-is
+    ] in
     rest_fits (rest_step (struct-here _ _ _ _ _ _ _ _ _ _ _ _ c.loop-j-test.true c.loop-j.invariant _ c.subtree-j.ensures) field)
 
 pub put_struct-loop-j-smaller : goal.put_struct-loop-j-smaller
@@ -316,11 +316,11 @@ put_struct-loop-j-smaller t c = omega (arith, (first-turn _ _ _ _ _ _ _ c.loop-j
 pub put_struct-loop-j-preserved : goal.put_struct-loop-j-preserved
 put_struct-loop-j-preserved t c =
     let field : Wrote c.loop-j.out c.loop-j.next (field_text (shown_at c.args.text.now c.args.names.now c.args.rows.now c.loop-j.j)) c.if-is_word.last c.if-is_word.out =
-        elim c.if-is_word.branch [
-          put_struct-then-is_word w ↦ wrote_came (rest_last (rest_step (rest_start (field-parts _ _ _ _ _ c.name_at-name.ensures _ c.word-role.ensures) (struct-field _ _ _ _ _ _ _ _ _ _ _ _ c.loop-j-test.true c.loop-j.invariant)) c.put_name-named.ensures) (wrote_as (word-text _ _ _ _ c.word-kind.ensures _ (of_true _ (sym c.is_word.ensures ∙ w.if-is_word.true))) w.put_kind-last.ensures)) w.out-is w.last-is
-        | put_struct-else-is_word+then-is_alone w ↦ wrote_came (rest_last (rest_step (rest_start (field-parts _ _ _ _ _ c.name_at-name.ensures _ c.word-role.ensures) (struct-field _ _ _ _ _ _ _ _ _ _ _ _ c.loop-j-test.true c.loop-j.invariant)) c.put_name-named.ensures) (wrote_as (alone-text _ _ _ _ c.word-kind.ensures _ (subtree-kind _ _ _ _ _ (first-child _ _ _ _ _ _ _ c.loop-j.invariant.rows c.loop-j-test.true).subtree _ c.word-kind.ensures) (of_true _ (sym w.is_alone.ensures ∙ w.if-is_alone.true))) w.put_leaf.ensures)) w.out-is w.last-is
-        | put_struct-else-is_word+else-is_alone w ↦ wrote_came (rest_last (rest_step (rest_start (field-parts _ _ _ _ _ c.name_at-name.ensures _ c.word-role.ensures) (struct-field _ _ _ _ _ _ _ _ _ _ _ _ c.loop-j-test.true c.loop-j.invariant)) c.put_name-named.ensures) w.put_nested.ensures) w.out-is w.last-is
-        ] in
+    elim c.if-is_word.branch [
+      | put_struct-then-is_word w ↦ wrote_came (rest_last (rest_step (rest_start (field-parts _ _ _ _ _ c.name_at-name.ensures _ c.word-role.ensures) (struct-field _ _ _ _ _ _ _ _ _ _ _ _ c.loop-j-test.true c.loop-j.invariant)) c.put_name-named.ensures) (wrote_as (word-text _ _ _ _ c.word-kind.ensures _ (of_true _ (sym c.is_word.ensures ∙ w.if-is_word.true))) w.put_kind-last.ensures)) w.out-is w.last-is
+      | put_struct-else-is_word+then-is_alone w ↦ wrote_came (rest_last (rest_step (rest_start (field-parts _ _ _ _ _ c.name_at-name.ensures _ c.word-role.ensures) (struct-field _ _ _ _ _ _ _ _ _ _ _ _ c.loop-j-test.true c.loop-j.invariant)) c.put_name-named.ensures) (wrote_as (alone-text _ _ _ _ c.word-kind.ensures _ (subtree-kind _ _ _ _ _ (first-child _ _ _ _ _ _ _ c.loop-j.invariant.rows c.loop-j-test.true).subtree _ c.word-kind.ensures) (of_true _ (sym w.is_alone.ensures ∙ w.if-is_alone.true))) w.put_leaf.ensures)) w.out-is w.last-is
+      | put_struct-else-is_word+else-is_alone w ↦ wrote_came (rest_last (rest_step (rest_start (field-parts _ _ _ _ _ c.name_at-name.ensures _ c.word-role.ensures) (struct-field _ _ _ _ _ _ _ _ _ _ _ _ c.loop-j-test.true c.loop-j.invariant)) c.put_name-named.ensures) w.put_nested.ensures) w.out-is w.last-is
+    ] in
     struct-again _ _ _ _ _ _ _ _ _ _ _ _ c.loop-j-test.true c.loop-j.invariant _ c.subtree-j.ensures _ _ _ _ field c.put_comma-next.ensures
 
 pub put_struct-put_mark-requires : goal.put_struct-put_mark-requires
