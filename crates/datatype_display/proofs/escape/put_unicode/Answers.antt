@@ -1,6 +1,5 @@
 use Rattle.datatype_display.proofs.Writes.{rest_start, rest_fits, rest_step, rest_last}
 use Rattle.datatype_display.proofs.Escapes.{unicode_parts}
-use borrow.Author.Rules.{rules}
 use Rattle.datatype_display.proofs.escape.put_unicode.Goals as goal
 
 pub put-next-requires : goal.put-next-requires

@@ -2,7 +2,6 @@ use Rattle.datatype_display.proofs.Writes.{fits_as, wrote_as}
 use mathlib.Core.Path.{sym}
 use native.Mathlib.Omega.{arith}
 use Rattle.datatype_display.proofs.KindWords.{word_room, short_word, long-word, map-word}
-use borrow.Author.Rules.{rules}
 use Rattle.datatype_display.proofs.kind_words.put_kind.Goals as goal
 
 pub store_eight-requires : goal.store_eight-requires

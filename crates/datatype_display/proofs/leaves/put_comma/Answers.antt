@@ -1,7 +1,6 @@
 use Rattle.datatype_display.proofs.Writes.{fits_as, wrote_as, wrote_none}
 use mathlib.Core.Path.{sym}
 use Rattle.datatype_display.proofs.Texts.{comma_more, comma_last}
-use borrow.Author.Rules.{rules}
 use Rattle.datatype_display.proofs.leaves.put_comma.Goals as goal
 
 pub put-requires : goal.put-requires

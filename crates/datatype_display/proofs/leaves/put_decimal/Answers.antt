@@ -1,6 +1,5 @@
 use Rattle.datatype_display.proofs.Writes.{rest_start, rest_fits, rest_step, rest_last}
 use Rattle.datatype_display.proofs.Texts.{decimal-parts}
-use borrow.Author.Rules.{rules}
 use Rattle.datatype_display.proofs.leaves.put_decimal.Goals as goal
 
 pub put_mark-opened-requires : goal.put_mark-opened-requires

@@ -1,6 +1,5 @@
 use Rattle.datatype_display.proofs.Writes.{wrote_as, wrote_none, rest_start, rest_fits, rest_step, rest_last}
 use Rattle.datatype_display.proofs.Texts.{name_item, name_parts}
-use borrow.Author.Rules.{rules}
 use Rattle.datatype_display.proofs.leaves.put_list_name.Goals as goal
 
 pub returns-then-equal_bytes : goal.returns-then-equal_bytes

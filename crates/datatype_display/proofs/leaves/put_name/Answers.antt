@@ -1,6 +1,5 @@
 use Rattle.datatype_display.proofs.Writes.{rest_start, rest_fits, rest_step, rest_last}
 use Rattle.datatype_display.proofs.Texts.{quoted_name_parts}
-use borrow.Author.Rules.{rules}
 use Rattle.datatype_display.proofs.leaves.put_name.Goals as goal
 
 pub put_quoted-named-requires : goal.put_quoted-named-requires

@@ -1,6 +1,5 @@
 use Rattle.datatype_display.proofs.Texts.{default-not, default-both}
 use borrow.Author.Tests.{not-true, not-false}
-use borrow.Author.Rules.{rules}
 use Rattle.datatype_display.proofs.row.default_names.Goals as goal
 
 pub returns-then-not-equal_bytes : goal.returns-then-not-equal_bytes

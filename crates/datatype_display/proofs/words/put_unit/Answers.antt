@@ -1,7 +1,6 @@
 use Rattle.datatype_display.proofs.Writes.{fits_as, wrote_as}
 use mathlib.Core.Path.{sym}
 use Rattle.datatype_display.proofs.WordLaws.{unit-0, unit-1, unit-2, unit_rest}
-use borrow.Author.Rules.{rules}
 use Rattle.datatype_display.proofs.words.put_unit.Goals as goal
 
 pub put-requires : goal.put-requires

@@ -1,6 +1,5 @@
 use Rattle.display_length.proofs.AsciiLaws.{default-not, default-both}
 use borrow.Author.Tests.{not-true, not-false}
-use borrow.Author.Rules.{rules}
 use Rattle.display_length.proofs.names.default_names.Goals as goal
 
 pub returns-then-not-equal_bytes : goal.returns-then-not-equal_bytes

@@ -1,6 +1,5 @@
 use Rattle.display_length.proofs.StringLaws.{list-name-item, list-name-other}
 use mathlib.Core.Bool.{false}
-use borrow.Author.Rules.{rules}
 use Rattle.display_length.proofs.strings.list_name_length.Goals as goal
 
 pub returns-then-equal_bytes : goal.returns-then-equal_bytes
