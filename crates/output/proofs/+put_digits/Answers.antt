@@ -4,7 +4,7 @@ use borrow.Author.Rules.{rules}
 use Rattle.output.proofs.+put_digits.Goals as goal
 
 pub returns-then-n-lt10 : goal.returns-then-n-lt10
-returns-then-n-lt10 t c = (one_digit _ c.if-n-lt10.true, put_one _ _ _ _ c.if-n-lt10.true c.put_byte.ensures)
+returns-then-n-lt10 t c = record { answer = one_digit _ c.if-n-lt10.true; bytes = put_one _ _ _ _ c.if-n-lt10.true c.put_byte.ensures }
 
 pub overflow_add-result : goal.overflow_add-result
 overflow_add-result t c = (let e = c.put_digits-before.ensures.answer in let f = digits_at_most 9 (c.args.n / 10) (search rules) in search rules)
