@@ -6,9 +6,6 @@ use mathlib.Core.Option.{Option, none, some}
 use Prim.Native.Nat.{ℕ, zero, suc, ◌+◌, ◌≤◌, ◌<◌}
 use native.Mathlib.Omega.{arith}
 use lib.ListN.{length, drop, get_or, drop_of_length-le, length-drop}
-use types.Run.{OneOf, miss}
-use denote.Enum.Declared.{tag_of}
-use Rattle.tokenizer.specs.contracts.TokenKind.{the_type}
 use Rattle.tokenizer.specs.Places.{after_spaces}
 use Rattle.tokenizer.specs.Token.{token, token_from, token_at, is_separator, word_of, word_kind, until_quote, string_token, value_of}
 use Rattle.tokenizer.specs.declared.Token.{Token}
@@ -127,23 +124,23 @@ turn_end text at tokens u h =
     let e : token_at text at ≡ token (Refused 5) at 0 = rw (drop_of_length-le text h) in
     turn-stop text at tokens u (token_at text at) refl 5 (ap (λ (t : Token). t.kind) e)
 
--- every tag but that of `Refused` is that of a token that is read
-pub other_tag : (k : TokenKind) → OneOf (0 ∷ 1 ∷ 2 ∷ 3 ∷ 4 ∷ 5 ∷ 6 ∷ 7 ∷ 8 ∷ 9 ∷ 10 ∷ 11 ∷ 12 ∷ 13 ∷ 14 ∷ 15 ∷ 16 ∷ []) (tag_of the_type k) → is_read k ≡ true
-other_tag LParen o = refl
-other_tag RParen o = refl
-other_tag Comma o = refl
-other_tag Colon o = refl
-other_tag (Integer b m) o = refl
-other_tag DoubleQuotedString o = refl
-other_tag SingleQuotedString o = refl
-other_tag (DataType k) o = refl
-other_tag (TimeUnit u) o = refl
-other_tag (IntervalUnit u) o = refl
-other_tag (UnionMode m) o = refl
-other_tag (MapSorted b) o = refl
-other_tag (Nullability r) o = refl
-other_tag Field o = refl
-other_tag Some o = refl
-other_tag None o = refl
-other_tag X o = refl
-other_tag (Refused r) o = absurd (miss (0 ∷ 1 ∷ 2 ∷ 3 ∷ 4 ∷ 5 ∷ 6 ∷ 7 ∷ 8 ∷ 9 ∷ 10 ∷ 11 ∷ 12 ∷ 13 ∷ 14 ∷ 15 ∷ 16 ∷ []) 17 tt o)
+-- every kind but `Refused` is that of a token that is read
+pub other_kind : (k : TokenKind) → ((r : ℕ) → k ≡ Refused r → ⊥) → is_read k ≡ true
+other_kind LParen o = refl
+other_kind RParen o = refl
+other_kind Comma o = refl
+other_kind Colon o = refl
+other_kind (Integer b m) o = refl
+other_kind DoubleQuotedString o = refl
+other_kind SingleQuotedString o = refl
+other_kind (DataType k) o = refl
+other_kind (TimeUnit u) o = refl
+other_kind (IntervalUnit u) o = refl
+other_kind (UnionMode m) o = refl
+other_kind (MapSorted b) o = refl
+other_kind (Nullability r) o = refl
+other_kind Field o = refl
+other_kind Some o = refl
+other_kind None o = refl
+other_kind X o = refl
+other_kind (Refused r) o = absurd (o r refl)
