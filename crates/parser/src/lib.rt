@@ -95,7 +95,7 @@ pub(crate) enum Quoted {
 }
 
 // A type or a field, or some fields: the place behind it, and how many rows were filled.
-#[derive(Drop)]
+#[derive(Clone, Copy)]
 pub enum Read {
     Tree(usize, usize),
     Refused(u32),
