@@ -1,8 +1,8 @@
 -- What the printer's private functions promise; nothing here has to be believed, since no public function's contract
 -- cites it.
-use Rattle.std.specs.Prelude.{◌≡◌, Bool, true, false, not, ◌&&◌, ◌||◌, List, [], ◌∷◌, ◌++◌, ℕ, ◌+◌, ◌-◌, ◌*◌, ◌/◌, ◌%◌, ◌≤◌, ◌<◌, length, get_or, take, drop, T, leb, ltb, eqb}
+use Rattle.std.specs.Prelude.{◌≡◌, Bool, true, false, not, ◌&&◌, ◌||◌, List, [], ◌∷◌, ◌++◌, ℕ, ◌+◌, ◌-◌, ◌*◌, ◌/◌, ◌%◌, ◌≤◌, ◌<◌, length, get_or, take, drop, T, leb, ltb, eqb, if◌then◌else◌}
 use Rattle.std.proofs.lemmas.List.Edits.{sets}
-use Rattle.tokenizer.specs.Text.{bytes, if◌then◌else◌}
+use Rattle.tokenizer.specs.Text.{bytes}
 use Rattle.datatype.specs.Limits.{max_rows}
 use Rattle.datatype.specs.Kind.{Shape, kinds, shape_of}
 use Rattle.datatype.specs.Tree.{Forest, depth, Label, label_of, labels}

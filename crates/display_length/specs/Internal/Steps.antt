@@ -1,7 +1,7 @@
 -- What private functions of this crate promise; nothing here has to be believed, since no public function's contract
 -- cites it.
-use Rattle.std.specs.Prelude.{◌≡◌, Bool, true, false, not, ◌&&◌, ◌||◌, List, [], ◌∷◌, ℕ, ◌+◌, ◌-◌, ◌*◌, ◌≤◌, ◌<◌, length, get_or, T, leb, eqb}
-use Rattle.tokenizer.specs.Text.{all, if◌then◌else◌}
+use Rattle.std.specs.Prelude.{◌≡◌, Bool, true, false, not, ◌&&◌, ◌||◌, List, [], ◌∷◌, ℕ, ◌+◌, ◌-◌, ◌*◌, ◌≤◌, ◌<◌, length, get_or, T, leb, eqb, if◌then◌else◌}
+use Rattle.tokenizer.specs.Text.{all}
 use Rattle.datatype.specs.Limits.{max_text, max_rows}
 use Rattle.datatype.specs.Kind.{Shape, leaf, timestamp, time, interval, fixed, list, fixed_list, struct, union, dictionary, decimal, mapping, run_end_encoded, shape_of}
 use Rattle.datatype.specs.Tree.{Forest, ∅, node, roots, depth, Label, zone_of, label_of, labels}

@@ -8,10 +8,16 @@ pub slice_bounds-parse_data_type-end-in-Length : goal.slice_bounds-parse_data_ty
 slice_bounds-parse_data_type-end-in-Length c = counted _ _ _ _ _ _ c.print_data_type.ensures.result_value c.print_data_type.ensures.out_after _ c.in-Length.is
 
 pub returns-in-Refused : goal.returns-in-Refused
-returns-in-Refused c = not-printed _ _ _ _ _ _ _ c.print_data_type.ensures.result_value c.print_data_type.ensures.out_after _ c.in-Refused.is
+returns-in-Refused c =
+    let all = not-printed c.args.text.now c.args.names.now c.args.rows.now c.args.out.now c.args.back.now _ _ c.print_data_type.ensures.result_value c.print_data_type.ensures.out_after _ c.in-Refused.is in
+    record { answer = all.0; bytes = all.1.0; contents = all.1.1.0; demand3 = all.1.1.1 }
 
 pub returns-in-Refused-parse_data_type : goal.returns-in-Refused-parse_data_type
-returns-in-Refused-parse_data_type c = not-read _ _ _ _ _ _ _ c.print_data_type.ensures.result_value c.print_data_type.ensures.out_after _ c.in-Length.is _ _ c.parse_data_type.ensures.answer c.parse_data_type.ensures.contents _ c.in-Refused-parse_data_type.is
+returns-in-Refused-parse_data_type c =
+    let all = not-read c.args.text.now c.args.names.now c.args.rows.now c.args.out.now c.args.back.now _ _ c.print_data_type.ensures.result_value c.print_data_type.ensures.out_after _ c.in-Length.is _ _ c.parse_data_type.ensures.answer c.parse_data_type.ensures.contents _ c.in-Refused-parse_data_type.is in
+    record { answer = all.0; bytes = all.1.0; contents = all.1.1.0; demand3 = all.1.1.1 }
 
 pub returns-in-Rows : goal.returns-in-Rows
-returns-in-Rows c = read_back _ _ _ _ _ _ _ c.print_data_type.ensures.result_value c.print_data_type.ensures.out_after _ c.in-Length.is _ _ c.parse_data_type.ensures.answer c.parse_data_type.ensures.contents _ c.in-Rows.is
+returns-in-Rows c =
+    let all = read_back c.args.text.now c.args.names.now c.args.rows.now c.args.out.now c.args.back.now _ _ c.print_data_type.ensures.result_value c.print_data_type.ensures.out_after _ c.in-Length.is _ _ c.parse_data_type.ensures.answer c.parse_data_type.ensures.contents _ c.in-Rows.is in
+    record { answer = all.0; bytes = all.1.0; contents = all.1.1.0; demand3 = all.1.1.1 }

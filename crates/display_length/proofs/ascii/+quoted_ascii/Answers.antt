@@ -1,7 +1,6 @@
 use Rattle.display_length.proofs.AsciiLaws.{quoted-start, quoted-end, quoted-turn, quoted-call, quoted-not-row, quoted-not-kids, quoted-more}
 use borrow.Author.Tests.{not-true, not-false}
 use native.Mathlib.Omega.{arith}
-use Prim.Native.Nat.{◌-◌}
 use Rattle.display_length.proofs.ascii.+quoted_ascii.Goals as goal
 
 pub loop-at-init : goal.loop-at-init

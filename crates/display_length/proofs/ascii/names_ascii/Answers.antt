@@ -1,6 +1,5 @@
 use Rattle.display_length.proofs.AsciiLaws.{names-start, names-end, names-turn, names-not, names_more}
 use borrow.Author.Tests.{not-true, not-false}
-use Prim.Native.Nat.{◌-◌}
 use native.Mathlib.Omega.{arith}
 use Rattle.display_length.proofs.ascii.names_ascii.Goals as goal
 

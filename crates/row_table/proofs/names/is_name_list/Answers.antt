@@ -17,4 +17,4 @@ pub returns-then-pack-2 : goal.returns-then-pack-2
 returns-then-pack-2 c = list-part c.args.names.now 8 8 _ _ c.pack-3.ensures c.pack-4.ensures c.if-pack-2.true
 
 pub returns : goal.returns
-returns c = ap (λ (k : ℕ). eqb c.pack-5.result k) c.pack-6.ensures ∙ list-last c.args.names.now c.if1.false (λ i. omega (arith, c.shared-slice-known.given i)) _ _ _ c.pack.ensures (c.if-pack.false ∙ c.pack-2.ensures) c.pack-3.ensures (c.if-pack-2.false ∙ c.pack-4.ensures) c.pack-5.ensures
+returns c = ap (λ (k : ℕ). eqb c.pack-5.result k) c.pack-6.ensures ∙ list-last c.args.names.now c.if-names-ne18.false (λ i. omega (arith, c.shared_slice_known-1.given i)) _ _ _ c.pack.ensures (c.if-pack.false ∙ c.pack-2.ensures) c.pack-3.ensures (c.if-pack-2.false ∙ c.pack-4.ensures) c.pack-5.ensures

@@ -9,7 +9,7 @@ pub returns-then-values-eq1 : goal.returns-then-values-eq1
 returns-then-values-eq1 c = numbers-one _ _ _ _ c.requires c.if-values-eq1.true c.params-values.ensures c.if-scale-gt0.false
 
 pub returns-then-is_decimal : goal.returns-then-is_decimal
-returns-then-is_decimal c = numbers-decimal _ _ _ _ c.requires (sym c.is_decimal.ensures ∙ c.if-is_decimal.true) c.fits2.ensures
+returns-then-is_decimal c = numbers-decimal _ _ _ _ c.requires (sym c.is_decimal.ensures ∙ c.if-is_decimal.true) c.fits.ensures
 
 pub returns-then-scale-gt0-2 : goal.returns-then-scale-gt0-2
 returns-then-scale-gt0-2 c = numbers-scaled _ _ _ c.requires (sym c.is_decimal.ensures ∙ c.if-is_decimal.false) c.if-scale-gt0-2.true

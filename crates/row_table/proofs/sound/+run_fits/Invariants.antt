@@ -9,3 +9,6 @@ invariant-loop-at l = (l.at ≤ l.end) × (run_fits l.text (standing_of l.standi
 
 abbrev pub decreases-loop-at : goal.decreases-loop-at
 decreases-loop-at l = l.end - l.at
+
+abbrev pub decreases-run_fits : goal.decreases-run_fits
+decreases-run_fits l = l.level

@@ -2,6 +2,7 @@ use mathlib.Core.Path.{sym, ◌∙◌}
 use borrow.Author.Tests.{not-true, not-false}
 use Rattle.tokenizer.proofs.Basics.{of_true}
 use Rattle.row_table.proofs.SoundLaws.{sound-long, sound-names, sound_empty, sound-many, sound-left, sound-root, sound-utf8, sound-parents, sound-is}
+use native.Mathlib.Omega.{arith}
 use borrow.Author.Rules.{rules}
 use Rattle.row_table.proofs.sound.is_sound.Goals as goal
 
@@ -23,7 +24,7 @@ returns-then-n-gt-MAX_ROWS c = sound-many _ _ _ c.if-n-gt-MAX_ROWS.true
 
 -- src/sound.rt:142:9
 pub returns-then-rows-n : goal.returns-then-rows-n
-returns-then-rows-n c = sound-left _ _ _ c.if-rows-n.true
+returns-then-rows-n c = sound-left _ _ _ (λ e. omega (arith, e, c.if-rows-n.true))
 
 -- src/sound.rt:145:9
 pub returns-then-subtree-n : goal.returns-then-subtree-n
@@ -43,4 +44,4 @@ run_fits-requires c = (of_true _ (sym c.is_utf8.ensures ∙ not-false _ c.if-not
 
 -- src/sound.rt:125:1
 pub returns : goal.returns
-returns c = sound-is _ _ _ c.if-text-gt-MAX_TEXT.false (sym c.is_name_list.ensures ∙ not-false _ c.if-not-is_name_list.false-raw) c.if-n-eq0.false c.if-n-gt-MAX_ROWS.false c.if-rows-n.false _ c.subtree.ensures c.if-subtree-n.false (sym c.is_utf8.ensures ∙ not-false _ c.if-not-is_utf8.false-raw) (sym c.parents_fit.ensures ∙ not-false _ c.if-not-parents_fit.false-raw) _ c.run_fits.ensures
+returns c = sound-is _ _ _ c.if-text-gt-MAX_TEXT.false (sym c.is_name_list.ensures ∙ not-false _ c.if-not-is_name_list.false-raw) c.if-n-eq0.false c.if-n-gt-MAX_ROWS.false (search rules) _ c.subtree.ensures c.if-subtree-n.false (sym c.is_utf8.ensures ∙ not-false _ c.if-not-is_utf8.false-raw) (sym c.parents_fit.ensures ∙ not-false _ c.if-not-parents_fit.false-raw) _ c.run_fits.ensures
