@@ -121,7 +121,7 @@ pub record Trees (text names table : List ℕ) (place : Standing) (level at end 
 -- Row i is there with its subtree and fits in its place; there are at most so many levels below it.
 pub record Subtree (text names table : List ℕ) (level i : ℕ) : Type 0 where
   pub place : Standing
-  pub some_rows : 1 ≤ rows_at table i
+  pub some-rows : 1 ≤ rows_at table i
   pub row : T (row_fits place (label_at text names table i) (kids_at text names table i))
   pub below : Trees text names table (place_below (label_at text names table i)) level (i + 1) (i + rows_at table i)
 

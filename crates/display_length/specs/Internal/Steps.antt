@@ -26,7 +26,7 @@ depth_below table i = depth (forest_at table (i + 1) (i + rows_at table i - (i +
 
 -- Row i is there with its subtree, which nests and has fewer than so many levels below it.
 pub record Subtree (table : List ℕ) (level i : ℕ) : Type 0 where
-  pub some_rows : 1 ≤ rows_at table i
+  pub some-rows : 1 ≤ rows_at table i
   pub room : row_words * (i + rows_at table i) ≤ length table
   pub nests : Nests table (i + 1) (i + rows_at table i - (i + 1))
   pub few : i + rows_at table i ≤ max_rows

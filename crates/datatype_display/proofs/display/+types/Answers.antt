@@ -311,7 +311,7 @@ put_struct-put_comma-next-requires t c =
     rest_fits (rest_step (struct-here _ _ _ _ _ _ _ _ _ _ _ _ c.loop-j-test.true c.loop-j.invariant _ c.subtree-j.ensures) field)
 
 pub put_struct-loop-j-smaller : goal.put_struct-loop-j-smaller
-put_struct-loop-j-smaller t c = omega (arith, (first-turn _ _ _ _ _ _ _ c.loop-j.invariant.rows c.loop-j-test.true).some_rows, (first-turn _ _ _ _ _ _ _ c.loop-j.invariant.rows c.loop-j-test.true).within, c.subtree-j.ensures)
+put_struct-loop-j-smaller t c = omega (arith, (first-turn _ _ _ _ _ _ _ c.loop-j.invariant.rows c.loop-j-test.true).some-rows, (first-turn _ _ _ _ _ _ _ c.loop-j.invariant.rows c.loop-j-test.true).within, c.subtree-j.ensures)
 
 pub put_struct-loop-j-preserved : goal.put_struct-loop-j-preserved
 put_struct-loop-j-preserved t c =
@@ -384,7 +384,7 @@ pub put_union-overflow_add-j-in-loop-j : goal.put_union-overflow_add-j-in-loop-j
 put_union-overflow_add-j-in-loop-j t c = omega (arith, (first-turn _ _ _ _ _ _ _ c.loop-j.invariant.rows c.loop-j-test.true).within, c.loop-j.invariant.rows.few, c.subtree-j.ensures)
 
 pub put_union-loop-j-smaller : goal.put_union-loop-j-smaller
-put_union-loop-j-smaller t c = omega (arith, (first-turn _ _ _ _ _ _ _ c.loop-j.invariant.rows c.loop-j-test.true).some_rows, (first-turn _ _ _ _ _ _ _ c.loop-j.invariant.rows c.loop-j-test.true).within, c.subtree-j.ensures)
+put_union-loop-j-smaller t c = omega (arith, (first-turn _ _ _ _ _ _ _ c.loop-j.invariant.rows c.loop-j-test.true).some-rows, (first-turn _ _ _ _ _ _ _ c.loop-j.invariant.rows c.loop-j-test.true).within, c.subtree-j.ensures)
 
 pub put_union-loop-j-preserved : goal.put_union-loop-j-preserved
 put_union-loop-j-preserved t c = union-again _ _ _ _ _ _ _ _ _ _ _ _ c.loop-j-test.true c.loop-j.invariant _ c.subtree-j.ensures _ _ c.put_union_field-next.ensures

@@ -57,7 +57,7 @@ pub nested_length-overflow_add-total-in-loop-j : goal.nested_length-overflow_add
 nested_length-overflow_add-total-in-loop-j t c =
     let both : (c.if-single_word.below ≡ length_at c.args.text.now c.args.names.now c.args.rows.now c.loop-j.j) × (c.if-single_word.below + 100000 ≤ 200000 * rows_at c.args.rows.now c.loop-j.j) =
     elim c.if-single_word.branch [
-      | nested_length-then-single_word w ↦ word_below c.args.text.now c.args.names.now c.args.rows.now c.loop-j.j _ _ c.if-single_word.below c.subtree-size.ensures c.word-own.ensures (counting-turn _ _ _ _ _ _ _ _ _ _ c.loop-j.invariant c.loop-j-test.true).some_rows _ c.single_word.ensures w.if-single_word.true _ w.word_length-below.ensures w.below-is
+      | nested_length-then-single_word w ↦ word_below c.args.text.now c.args.names.now c.args.rows.now c.loop-j.j _ _ c.if-single_word.below c.subtree-size.ensures c.word-own.ensures (counting-turn _ _ _ _ _ _ _ _ _ _ c.loop-j.invariant c.loop-j-test.true).some-rows _ c.single_word.ensures w.if-single_word.true _ w.word_length-below.ensures w.below-is
       | nested_length-else-single_word w ↦ type-below c.args.text.now c.args.names.now c.args.rows.now c.loop-j.j _ _ c.if-single_word.below c.subtree-size.ensures c.word-own.ensures _ w.type_length-below.ensures.value w.type_length-below.ensures.few w.below-is
     ] in
     (let e = counting-sum-2 _ _ _ _ _ _ _ _ _ _ c.loop-j.invariant c.loop-j-test.true _ refl _ c.around_length-around.ensures.few _ both.1 in search rules)
@@ -66,13 +66,13 @@ pub nested_length-overflow_add-j-in-loop-j : goal.nested_length-overflow_add-j-i
 nested_length-overflow_add-j-in-loop-j t c = omega (arith, counting-size _ _ _ _ _ _ _ _ _ _ c.loop-j.invariant c.loop-j-test.true _ c.subtree-size.ensures)
 
 pub nested_length-loop-j-smaller : goal.nested_length-loop-j-smaller
-nested_length-loop-j-smaller t c = omega (arith, (counting-turn _ _ _ _ _ _ _ _ _ _ c.loop-j.invariant c.loop-j-test.true).some_rows, (counting-turn _ _ _ _ _ _ _ _ _ _ c.loop-j.invariant c.loop-j-test.true).within, c.subtree-size.ensures)
+nested_length-loop-j-smaller t c = omega (arith, (counting-turn _ _ _ _ _ _ _ _ _ _ c.loop-j.invariant c.loop-j-test.true).some-rows, (counting-turn _ _ _ _ _ _ _ _ _ _ c.loop-j.invariant c.loop-j-test.true).within, c.subtree-size.ensures)
 
 pub nested_length-loop-j-preserved : goal.nested_length-loop-j-preserved
 nested_length-loop-j-preserved t c =
     let both : (c.if-single_word.below ≡ length_at c.args.text.now c.args.names.now c.args.rows.now c.loop-j.j) × (c.if-single_word.below + 100000 ≤ 200000 * rows_at c.args.rows.now c.loop-j.j) =
     elim c.if-single_word.branch [
-      | nested_length-then-single_word w ↦ word_below c.args.text.now c.args.names.now c.args.rows.now c.loop-j.j _ _ c.if-single_word.below c.subtree-size.ensures c.word-own.ensures (counting-turn _ _ _ _ _ _ _ _ _ _ c.loop-j.invariant c.loop-j-test.true).some_rows _ c.single_word.ensures w.if-single_word.true _ w.word_length-below.ensures w.below-is
+      | nested_length-then-single_word w ↦ word_below c.args.text.now c.args.names.now c.args.rows.now c.loop-j.j _ _ c.if-single_word.below c.subtree-size.ensures c.word-own.ensures (counting-turn _ _ _ _ _ _ _ _ _ _ c.loop-j.invariant c.loop-j-test.true).some-rows _ c.single_word.ensures w.if-single_word.true _ w.word_length-below.ensures w.below-is
       | nested_length-else-single_word w ↦ type-below c.args.text.now c.args.names.now c.args.rows.now c.loop-j.j _ _ c.if-single_word.below c.subtree-size.ensures c.word-own.ensures _ w.type_length-below.ensures.value w.type_length-below.ensures.few w.below-is
     ] in
     counting-again _ _ _ _ _ _ _ _ _ _ c.loop-j.invariant c.loop-j-test.true _ refl _ c.around_length-around.ensures.few _ both.1 _ c.subtree-size.ensures c.around_length-around.ensures.value both.0
