@@ -5,12 +5,12 @@ use Rattle.answer_line.proofs.answer_line.Goals as goal
 
 pub returns-then-rows-lt-LINE_WORDS : goal.returns-then-rows-lt-LINE_WORDS
 returns-then-rows-lt-LINE_WORDS c =
-    let all = few_words c.args.line.now c.args.rows.now c.args.out.now c.if-rows-lt-LINE_WORDS.true in
+    let all = few_words c.args.line.now c.args.rows.now c.args.out.now (omega (arith, c.if-rows-lt-LINE_WORDS.true)) in
     record { answer = all.0; contents = all.1.0; bytes = all.1.1 }
 
 pub returns-then-out-lt-ANSWER_BYTES : goal.returns-then-out-lt-ANSWER_BYTES
 returns-then-out-lt-ANSWER_BYTES c =
-    let all = few_bytes c.args.line.now c.args.rows.now c.args.out.now c.if-rows-lt-LINE_WORDS.false c.if-out-lt-ANSWER_BYTES.true in
+    let all = few_bytes c.args.line.now c.args.rows.now c.args.out.now c.if-rows-lt-LINE_WORDS.false (omega (arith, c.if-out-lt-ANSWER_BYTES.true)) in
     record { answer = all.0; contents = all.1.0; bytes = all.1.1 }
 
 pub overflow_mul-words : goal.overflow_mul-words
