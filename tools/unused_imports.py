@@ -5,12 +5,12 @@
 
 Lists them, a line for each, and ends with 1 if there are any; --fix takes them out of the files. The rules:
 
-- `use M.{a, b as c}`, `ghost use M.{a}` and `use crate::x;` bring in names; `pub use` passes them on and counts as a use.
+- `use M.{a, b as c}`, `ghost use M.{a}`, `use crate::x;` and `use crate::{x, y};` bring in names; `pub use` passes them on and counts as a use.
   A module brought in whole (`use M`, `use M as N`) is left alone, unless --modules is given.
 - A name is used where it stands as a word of its own outside comments, texts and import lines: in code, in a pattern, in a
   contract, behind `unfolding`. Behind a dot it is a field, behind `::` another module's.
-- An operator is used where its parts stand as words: `_≡_` where `≡` does, `if_then_else_` where its three do. A `do` block
-  uses `_>>=_` and `_>>_`.
+- An operator is used where its parts stand as words: `◌≡◌` where `≡` does, `if◌then◌else◌` where its three do. A `do` block
+  uses `◌>>=◌` and `◌>>◌`.
 - What a `ghost use` brings in can be used in contracts alone, between the braces of `requires` and `ensures`.
 - Words that a must-fail edit puts into a file count as uses there: an edit may lead a proof along another way.
 
@@ -27,7 +27,10 @@ ROOT = pathlib.Path(__file__).resolve().parents[1]
 BREAKS = r"\s(){}.;,@\"«»"
 ANTT_IMPORT = re.compile(r"^(?P<head>use (?P<module>[^\s{]+)\.\{)(?P<names>[^}]*)(?P<tail>\}\n)", re.M)
 GHOST_IMPORT = re.compile(r"^(?P<head>ghost use (?P<module>[^\s{]+)\.\{)(?P<names>[^}]*)(?P<tail>\};\n)", re.M)
-RUST_IMPORT = re.compile(r"^use (?:\w+::)+(?P<name>\w+)(?: as (?P<other>\w+))?;\n", re.M)
+RUST_IMPORT = re.compile(r"^use (?P<module>(?:\w+::)+)(?P<name>\w+)(?: as (?P<other>\w+))?;\n", re.M)
+RUST_LIST = re.compile(r"^use (?P<module>(?:\w+::)+)\{(?P<names>[^{}]*)\};\n", re.M)
+# Traits of std that are brought in for their methods: used where one of these is called.
+METHODS = {"Read": r"\.read\w*\(", "Write": r"\.(?:write\w*|flush)\("}
 MODULE_IMPORT = re.compile(r"^use (?P<module>[^\s{]+?)(?: as (?P<other>[^\s{]+))?\n", re.M)
 IMPORT_LINE = re.compile(r"^(?:pub |unfoldable |ghost )*use [^;{\n]*(?:\{[^}]*\})?;?$", re.M)
 
@@ -63,15 +66,15 @@ def contracts(code):
 
 def is_used(name, present):
     """Whether a name of antt, perhaps an operator, is among the words that stand in a text."""
-    parts = [part for part in name.split("_") if part]
-    if name in ("_>>=_", "_>>_") and "do" in present:
+    parts = [part for part in name.split("◌") if part]
+    if name in ("◌>>=◌", "◌>>◌") and "do" in present:
         return True
-    return name in present or bool(parts) and "_" in name and all(stands(part, present) for part in parts)
+    return name in present or bool(parts) and "◌" in name and all(stands(part, present) for part in parts)
 
 
 def stands(part, present):
-    """A part of an operator stands alone, or in a section such as `_+`."""
-    return any(form in present for form in (part, f"_{part}", f"{part}_"))
+    """A part of an operator stands alone, or in a section such as `◌+`."""
+    return any(form in present for form in (part, f"◌{part}", f"{part}◌"))
 
 
 def brought(item):
@@ -114,18 +117,31 @@ def listed(pattern, text, present):
     return pattern.sub(shorter, text), cut
 
 
+def is_called(name, code):
+    """Whether the code has a name of its imports, or calls a method of a trait that the name is."""
+    return re.search(METHODS.get(name, r"(?!)"), code) or re.search(rf"(?<![\w:.]){name}\b", code)
+
+
 def single(text, code):
-    """The same of `use crate::x;` lines."""
+    """The same of `use crate::x;` and `use crate::{x, y as z};` lines."""
     cut = []
 
     def shorter(match):
-        name = match.group("other") or match.group("name")
-        if re.search(rf"(?<![\w:.]){name}\b", code):
+        if is_called(match.group("other") or match.group("name"), code):
             return match.group(0)
         cut.append(match.group(0).strip().removeprefix("use ").rstrip(";"))
         return ""
 
-    return RUST_IMPORT.sub(shorter, text), cut
+    def shorter_list(match):
+        items = [item.strip() for item in match.group("names").split(",") if item.strip()]
+        kept = [item for item in items if item == "self" or is_called(brought(item), code)]
+        cut.extend(match.group("module") + item for item in items if item not in kept)
+        if len(kept) == len(items):
+            return match.group(0)
+        inner = kept[0] if len(kept) == 1 else "{" + ", ".join(kept) + "}"
+        return f"use {match.group('module')}{inner};\n" if kept else ""
+
+    return RUST_LIST.sub(shorter_list, RUST_IMPORT.sub(shorter, text)), cut
 
 
 def whole(text, present):

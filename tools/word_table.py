@@ -33,8 +33,7 @@ CODE_HEAD = """\
 SPEC_HEAD = """\
 -- The table of the listed words, written by tools/word_table.py: the numbers of src/edges.rt. Behind each row stands the
 -- place of its first.
-use mathlib.Core.List.{List, [], _∷_}
-use Prim.Native.Nat.{ℕ}
+use Rattle.std.specs.Prelude.{List, [], ◌∷◌, ℕ}
 
 -- How many numbers a table has.
 abbrev pub places : ℕ

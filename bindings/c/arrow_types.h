@@ -1,7 +1,7 @@
 /*
  * The functions of the proved library arrow_types, for C and C++ on x86-64.
  *
- * `rt staticlib arrow_types` writes it to target/staticlib/libarrow_types.a. It keeps no state and allocates nothing,
+ * `bash tests/build library` writes it to target/staticlib/libarrow_types.a. It keeps no state and allocates nothing,
  * and works in what is lent to it and on the stack.
  *
  * A slice is lent as a pointer and the number of its elements. What the caller owes:

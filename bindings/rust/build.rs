@@ -1,4 +1,4 @@
-//! Links the proved library, which `rt staticlib arrow_types` writes to target/staticlib in the repository. The variable
+//! Links the proved library, which `bash tests/build library` writes to target/staticlib in the repository. The variable
 //! ARROW_TYPES_LIB may name another folder.
 
 use std::path::PathBuf;
@@ -12,7 +12,7 @@ fn main() {
     println!("cargo:rerun-if-changed={}", file.display());
     if !file.is_file() {
         eprintln!("There is no {}.", file.display());
-        eprintln!("Run `rt staticlib arrow_types` in the repository's root, which builds it,");
+        eprintln!("Run `bash tests/build library` in the repository's root, which builds it,");
         eprintln!("or set ARROW_TYPES_LIB to the folder that has {LIBRARY}.");
         std::process::exit(1);
     }

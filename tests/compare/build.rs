@@ -1,4 +1,4 @@
-//! Links the port, which `rt staticlib arrow_types` writes to target/staticlib in the repository.
+//! Links the port, which `bash tests/build library` writes to target/staticlib in the repository.
 
 fn main() {
     if std::env::var_os("CARGO_FEATURE_SUBJECT").is_some() {

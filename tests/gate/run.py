@@ -14,11 +14,12 @@ import tempfile
 import unittest
 
 TESTS = pathlib.Path(__file__).resolve().parents[1]
-PASSED = "rt: ok, 2 crates proved, 3 must-fail edits refused\n5 passed, 0 failed"
-FAILED = "rt: b NOT PROVED (exit 1, 4 s)\nrt: FAILED: b\n1 passed, 1 failed"
+OK = "rt: ok; handles allowed: none; must-fail edits: 3 refused; every proof and must-fail edit was done in this run"
+PASSED = f"{OK}\n5 passed, 0 failed"
+FAILED = "rt: b: NOT PROVED\nrt: FAILED: b\n1 passed, 1 failed"
 TOOLS = ["rt", "python3", "gcc", "nm", "cargo"]
 # What the script itself calls besides.
-PLAIN = ["bash", "env", "dirname", "mktemp", "tee", "tail", "rm", "find", "sort", "xargs", "sha256sum", "cat"]
+PLAIN = ["bash", "env", "dirname", "grep", "mktemp", "tee", "tail", "rm", "find", "sort", "xargs", "sha256sum", "cat"]
 
 
 class Gate(unittest.TestCase):
@@ -77,7 +78,7 @@ class Gate(unittest.TestCase):
         done, called = self.run_gate(ARROW_TYPES_LIB="elsewhere")
         self.assertEqual(done.returncode, 0, done.stderr)
         self.assertEqual(done.stdout.splitlines()[-1], "5 passed, 0 failed")
-        self.assertIn("2 crates proved", done.stdout)
+        self.assertIn(OK, done.stdout)
         self.assertEqual(called, [*self.BEFORE, "rt ci", "bindings own", "python3 tests/lines/run.py"])
 
     def test_source_fails(self):
@@ -96,6 +97,25 @@ class Gate(unittest.TestCase):
     def test_broken_off(self):
         self.rt("rt: a proved (3 s)")
         self.assert_fails([*self.BEFORE, "rt ci"], "did not end with")
+
+    def test_bad_edits(self):
+        # an edit that cannot be applied: rt says how many there are, and passes all the same
+        for bad in ["1", "20"]:
+            with self.subTest(bad=bad):
+                self.setUp()
+                self.rt(PASSED.replace("3 refused", f"3 refused, {bad} bad"))
+                self.assert_fails([*self.BEFORE, "rt ci"], "cannot be applied")
+
+    def test_no_bad_edits(self):
+        for said in ["3 refused, 0 bad", "3 refused, 1 of them only by a limit"]:
+            with self.subTest(said=said):
+                self.setUp()
+                self.rt(PASSED.replace("3 refused", said))
+                self.assertEqual(self.run_gate()[0].returncode, 0)
+
+    def test_not_said_ok(self):
+        self.rt("5 passed, 0 failed")
+        self.assert_fails([*self.BEFORE, "rt ci"], "no line 'rt: ok'")
 
     def test_nothing_proved(self):
         self.rt("0 passed, 0 failed")
@@ -123,6 +143,12 @@ class Gate(unittest.TestCase):
                 self.stand_in("tests/lines/run.py", change)
                 self.assert_fails(says="the crates changed")
 
+    def test_out_changes(self):
+        # what rt makes in the folders out/ is no source
+        self.stand_in("tests/lines/run.py", "echo 1 >>crates/a/out/a")
+        self.write("crates/a/out/a", "")
+        self.assertEqual(self.run_gate()[0].returncode, 0)
+
     def test_missing_tools(self):
         for tool in TOOLS:
             with self.subTest(tool=tool):
@@ -139,6 +165,7 @@ class Missing(unittest.TestCase):
         "tests/run": ["rt", "gcc", "nm", "cargo"],
         "tests/quick": ["rt"],
         "tests/bench": ["rt", "cargo", "gcc", "valgrind"],
+        "tests/build": ["rt"],
         "bindings/test": ["gcc", "nm", "cargo", "rt"],
         "tests/lines/run.py": ["rt"],
         "tests/source/check.py": ["rt"],

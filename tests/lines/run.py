@@ -1,7 +1,7 @@
 #!/usr/bin/env python3
 """Tests of the line program `type_lines`, run as it is built.
 
-    python3 tests/lines/run.py            # proves and builds it first (rt check type_lines)
+    python3 tests/lines/run.py            # proves and builds it first (tests/build program)
     python3 tests/lines/run.py --built    # runs target/bin/type_lines as it stands
 """
 
@@ -282,10 +282,10 @@ class Failures(unittest.TestCase):
 if __name__ == "__main__":
     if "--built" in sys.argv:
         sys.argv.remove("--built")
-        needs.path(PROGRAM, "`rt check type_lines` builds it.")
+        needs.path(PROGRAM, "`bash tests/build program` builds it.")
     else:
         needs.tools("rt")
-        status = subprocess.run(["rt", "check", "type_lines"], cwd=ROOT).returncode
+        status = subprocess.run(["bash", "tests/build", "program"], cwd=ROOT).returncode
         if status:
             sys.exit(status)
     unittest.main()

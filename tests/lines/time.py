@@ -4,7 +4,7 @@ compares what the two print.
 
     python3 tests/lines/time.py [LINES]
 
-Both programs must be built: `rt check type_lines`, and in tests/compare `cargo build --profile speed --offline`. Files go
+Both programs must be built: `bash tests/build program`, and in tests/compare `cargo build --profile speed --offline`. Files go
 to target/lines. Seconds, the fastest of five runs of each in turn.
 """
 
@@ -36,7 +36,7 @@ def seconds(command, lines, answers):
 
 
 def main():
-    needs.path(PORT[0], "`rt check type_lines` builds it.")
+    needs.path(PORT[0], "`bash tests/build program` builds it.")
     needs.path(RUST[0], "`cargo build --profile speed --offline` in tests/compare builds it.")
     FILES.mkdir(parents=True, exist_ok=True)
     mixed = list(mix.mixed(int(sys.argv[1]) if len(sys.argv) > 1 else 1_000_000))

@@ -10,6 +10,7 @@ the table of the listed words is what its script writes; and the layout is that 
 
 import pathlib
 import re
+import shutil
 import subprocess
 import sys
 
@@ -28,7 +29,7 @@ faults = []
 
 def listed_crates():
     lines = (ROOT / "crates.txt").read_text(encoding="utf8").splitlines()
-    return [line.split(":")[0].strip() for line in lines if line.split("#")[0].strip()]
+    return [line.split(":")[0].split()[0] for line in lines if line.split("#")[0].strip()]
 
 
 def check_crates():
@@ -60,13 +61,13 @@ def check_internal():
     """No public function's contract names a definition of specs/Internal, and no definition outside rests on one."""
     for path in sorted(ROOT.glob("crates/*/src/**/*.rt")):
         source = path.read_text(encoding="utf8")
-        lists = re.findall(r"^ghost use Rattle·\w+(?:·specs)?\.specs\.Internal\.[\w.]+\.\{([^}]*)\};", source, re.M)
+        lists = re.findall(r"^ghost use Rattle\.\w+\.specs\.Internal\.[\w.]+\.\{([^}]*)\};", source, re.M)
         internal = {name.strip() for names in lists for name in names.split(",")}
         for function, head in public_functions(source):
             for name in sorted(internal & unused_imports.words(unused_imports.contracts(head))):
                 faults.append(f"{path.relative_to(ROOT)}: pub fn {function} is stated by {name} of specs/Internal")
     for path in sorted(ROOT.glob("crates/*/specs/*.antt")):
-        if re.search(r"^use Rattle·\w+(?:·specs)?\.specs\.Internal\b", path.read_text(encoding="utf8"), re.M):
+        if re.search(r"^use Rattle\.\w+\.specs\.Internal\b", path.read_text(encoding="utf8"), re.M):
             if path.stem not in EXAMPLES:
                 faults.append(f"{path.relative_to(ROOT)}: rests on specs/Internal")
 
@@ -196,13 +197,14 @@ def specs_file(crate, module):
 
 def rests_on(roots):
     """The files of definitions that these files import, one by way of another, and they themselves."""
-    found, todo = set(), list(roots)
+    found, todo, own = set(), list(roots), set(listed_crates())
     while todo:
         crate, module = todo.pop()
         if (crate, module) not in found:
             found.add((crate, module))
             text = specs_file(crate, module).read_text(encoding="utf8")
-            todo += re.findall(r"^use Rattle·(\w+?)(?:·specs)?\.specs\.([A-Z]\w*)", text, re.M)
+            imports = re.findall(r"^use Rattle\.(\w+)\.specs\.([A-Z]\w*)", text, re.M)
+            todo += [name for name in imports if name[0] in own]
     return found
 
 
@@ -273,9 +275,14 @@ def check_word_table():
 
 
 def check_layout():
-    run = subprocess.run(["rt", "fmt", "--check"], cwd=ROOT, capture_output=True, text=True)
+    """Each file is in the layout of `rt fmt`. The compiler that lies beside `rt` says so and changes nothing."""
+    compiler = pathlib.Path(shutil.which("rt")).resolve().parent / "rattle"
+    folders = [ROOT / "crates" / name / part for name in listed_crates() for part in ("src", "specs", "proofs")]
+    files = [path for folder in folders for end in ("rt", "antt") for path in sorted(folder.glob(f"**/*.{end}"))]
+    run = subprocess.run([compiler, "fmt", "--check", *files], capture_output=True, text=True)
     if run.returncode != 0:
-        faults.append("rt fmt --check: " + (run.stdout + run.stderr).strip()[:500])
+        said = (run.stdout + run.stderr).strip().replace(f"{ROOT}/", "")
+        faults.extend(f"rt fmt: {line}"[:500] for line in said.splitlines() or ["it failed"])
 
 
 def main():

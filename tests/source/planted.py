@@ -51,14 +51,14 @@ class Planted(unittest.TestCase):
         self.assert_cut("use M.{a as c}\n\nx = a\n", ["M.a as c"])
 
     def test_operators(self):
-        self.assert_cut("use M.{_≡_, _+_, _∷_, []}\n\nx : a ≡ b\nx = (_+ 1) ∷ []\n", [])
-        self.assert_cut("use M.{_≡_, _+_}\n\nx : a ≢ b\nx = n+n\n", ["M._≡_", "M._+_"])
-        self.assert_cut("use M.{if_then_else_}\n\nx = if a then b else c\n", [])
-        self.assert_cut("use M.{if_then_else_}\n\nx = if a then b\n", ["M.if_then_else_"])
+        self.assert_cut("use M.{◌≡◌, ◌+◌, ◌∷◌, []}\n\nx : a ≡ b\nx = (◌+ 1) ∷ []\n", [])
+        self.assert_cut("use M.{◌≡◌, ◌+◌}\n\nx : a ≢ b\nx = n+n\n", ["M.◌≡◌", "M.◌+◌"])
+        self.assert_cut("use M.{if◌then◌else◌}\n\nx = if a then b else c\n", [])
+        self.assert_cut("use M.{if◌then◌else◌}\n\nx = if a then b\n", ["M.if◌then◌else◌"])
 
     def test_do(self):
-        self.assert_cut("use M.{_>>=_, _>>_, f}\n\nx = do\n  b ← e\n  c\n", ["M.f"])
-        self.assert_cut("use M.{_>>=_}\n\nx = f\n", ["M._>>=_"])
+        self.assert_cut("use M.{◌>>=◌, ◌>>◌, f}\n\nx = do\n  b ← e\n  c\n", ["M.f"])
+        self.assert_cut("use M.{◌>>=◌}\n\nx = f\n", ["M.◌>>=◌"])
 
     def test_patterns(self):
         self.assert_cut("use M.{node, ∅}\n\nf (node a k) = a\nf ∅ = 0\n", [])
@@ -66,8 +66,8 @@ class Planted(unittest.TestCase):
 
     def test_words(self):
         # a longer name, a field, a comment, a text and another import are no uses
-        self.assert_cut("use M.{and-l}\n\nx = and-l′ y\n", ["M.and-l"])
-        self.assert_cut("use M.{taken}\n\nx = c .if1 .taken\n", ["M.taken"])
+        self.assert_cut("use M.{and-l}\n\nx = and-l' y\n", ["M.and-l"])
+        self.assert_cut("use M.{taken}\n\nx = c.if1.taken\n", ["M.taken"])
         self.assert_cut("use M.{a}\n\n-- a\n{- a -}\nx = y -- a\n", ["M.a"])
         self.assert_cut('use M.{a}\n\nx = "a -- " ∷ y\n', ["M.a"])
         self.assert_cut("use M.{a}\nuse N.{a as b}\n\nx = b\n", ["M.a"])
@@ -83,18 +83,29 @@ class Planted(unittest.TestCase):
         self.assert_cut(text, ["N as n"], "use M as m\nuse P as p\nuse p.{q}\n\nx = m.a q\n", modules=True)
 
     def test_ghost(self):
-        text = "ghost use M.{_<_, f, g};\n\nfn a(b: u8) -> bool\n    ensures size { λ r. ⌜ f { x } r ⌝ }\n{\n    g < b\n}\n"
-        self.assert_cut(text, ["M._<_", "M.g"], text.replace("_<_, f, g", "f"), name="src/lib.rt")
+        text = "ghost use M.{◌<◌, f, g};\n\nfn a(b: u8) -> bool\n    ensures size { f { x } result }\n{\n    g < b\n}\n"
+        self.assert_cut(text, ["M.◌<◌", "M.g"], text.replace("◌<◌, f, g", "f"), name="src/lib.rt")
 
     def test_quote_mark(self):
         # a double quote as a byte begins no text
-        text = "ghost use M.{f};\n\nfn a(b: u8) -> bool\n{\n    b == b'\"'\n}\n\nfn c()\n    ensures { ⌜ f ⌝ }\n{\n    d(b\"\")\n}\n"
+        text = "ghost use M.{f};\n\nfn a(b: u8) -> bool\n{\n    b == b'\"'\n}\n\nfn c()\n    ensures { f }\n{\n    d(b\"\")\n}\n"
         self.assert_cut(text, [], name="src/lib.rt")
 
     def test_code(self):
         text = "use crate::a;\nuse crate::b;\nuse crate::c as d;\nuse crate::e;\n\nfn f() {\n    a(x.b, m::b, d); // e\n}\n"
         self.assert_cut(text, ["crate::b", "crate::e"], name="src/lib.rt")
         self.assert_cut("use crate::A;\n\nfn f(a: &[A; 3]) {}\n", [], name="src/lib.rt")
+
+    def test_code_list(self):
+        text = "use crate::{a, b};\nuse crate::m::{c as d, e, f};\nuse g::{h};\n\nfn k() {\n    a(d, f, x.e);\n}\n"
+        left = "use crate::a;\nuse crate::m::{c as d, f};\n\nfn k() {\n    a(d, f, x.e);\n}\n"
+        self.assert_cut(text, ["crate::b", "crate::m::e", "g::h"], left, name="src/lib.rt")
+
+    def test_methods(self):
+        # a trait is brought in for its methods
+        text = "use std::io::Read;\nuse std::io::{Cursor, Write};\n\nfn f(a: &mut Cursor) {\n    a.CALL(b);\n}\n"
+        self.assert_cut(text.replace("CALL", "read"), ["std::io::Write"], name="src/lib.rt")
+        self.assert_cut(text.replace("CALL", "write_all"), ["std::io::Read"], name="src/lib.rt")
 
     def test_edits(self):
         edit = ("must-fail/wrong.edit", "file: proofs/Laws.antt\nold: x = y\nnew: x = a\n")
@@ -103,7 +114,7 @@ class Planted(unittest.TestCase):
 
 class Functions(unittest.TestCase):
     def faults(self, body):
-        text = "\n".join(["fn f(", "    a: u8,", ") -> u8", "    ensures { λ r. ⌜ g {x = 1} ⌝ }", "{", *body, "}", "", "fn g() {", "}"])
+        text = "\n".join(["fn f(", "    a: u8,", ") -> u8", "    ensures { g {x = 1} }", "{", *body, "}", "", "fn g() {", "}"])
         first, second = functions.functions(text)
         self.assertEqual((first.name, second.name, second.faults()), ("f", "g", []))
         return first.faults()

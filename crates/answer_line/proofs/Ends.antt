@@ -1,6 +1,7 @@
 -- Where a line ends.
 --   lines_from   the lines from a place on: the one that ends where `line_end` says, and those behind its newline
 --   long-line    every line over 16,384 bytes has the same answer
+use Rattle.std.specs.Prelude.{if◌then◌else◌}
 use mathlib.Core.Path.{◌≡◌, refl, ap, ◌∙◌}
 use mathlib.Core.Bool.{Bool, true, false}
 use mathlib.Core.List.{List, [], ◌∷◌}
@@ -10,7 +11,7 @@ use lib.ListN.{length, take, drop, get_or, length-drop}
 use lib.Seq.{drop-cons, drop-drop}
 use lib.Dec.{eqb}
 use borrow.Author.Tests.{eq-eqb, ne_eqb}
-use Rattle.tokenizer.specs.Text.{bytes, if◌then◌else◌}
+use Rattle.tokenizer.specs.Text.{bytes}
 use Rattle.parser.proofs.FirstType.{too_long}
 use Rattle.datatype_parse.specs.Parse.{parse}
 use Rattle.output.specs.Digits.{digits, digits_with}

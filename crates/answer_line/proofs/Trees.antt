@@ -1,4 +1,5 @@
 -- The answer to a text that was read: printing into the output behind the head, and what its levels say.
+use Rattle.std.specs.Prelude.{if◌then◌else◌}
 use mathlib.Core.Path.{◌≡◌, refl, sym, ap, ◌∙◌, subst}
 use mathlib.Core.Bool.{Bool, true, false}
 use mathlib.Core.List.{List, [], ◌∷◌, ◌++◌, append_assoc, append-nil}
@@ -8,7 +9,6 @@ use lib.ListN.{length, take, drop, length-append, length-drop, drop_of_length-le
 use lib.Seq.{take_all, drop_at, drop-append-add, drop-drop, length-take-le, take-append_seam}
 use lib.Dec.{leb, leb→le}
 use borrow.Rule.Slice.PartMut.{put_same}
-use Rattle.tokenizer.specs.Text.{if◌then◌else◌}
 use Rattle.tokenizer.specs.Answer.{Out, refused, done, refuse}
 use Rattle.tokenizer.proofs.Basics.{of_true}
 use Rattle.datatype.specs.Tree.{depth, name_list}

@@ -1,7 +1,7 @@
 -- The line program (document 01, 'The line program').
-use Rattle.std.specs.Prelude.{Bool, ◌&&◌, List, [], ◌∷◌, ◌++◌, ℕ, suc, ◌+◌, ◌*◌, min, length, drop, leb, eqb}
+use Rattle.std.specs.Prelude.{Bool, ◌&&◌, List, [], ◌∷◌, ◌++◌, ℕ, suc, ◌+◌, ◌*◌, min, length, drop, leb, eqb, if◌then◌else◌}
 use Rattle.std.proofs.Math.Option.{Option, none, some}
-use Rattle.tokenizer.specs.Text.{bytes, if◌then◌else◌}
+use Rattle.tokenizer.specs.Text.{bytes}
 use Rattle.tokenizer.specs.Answer.{Refusal, Out, refused, done}
 use Rattle.datatype.specs.Limits.{max_text, max_rows}
 use Rattle.datatype.specs.Tree.{Forest, Row, count, depth, name_list}

@@ -18,7 +18,7 @@ pub const LINE_WORDS: usize = ROW_WORDS * MAX_ROWS;
 pub const ANSWER_BYTES: usize = 11 + MAX_TEXT + 1;
 
 // The bytes of a line's answer; or the buffers lent are too small for some line, and nothing was done.
-#[derive(Drop)]
+#[derive(Clone, Copy)]
 pub enum Answered {
     Bytes(usize),
     NoRoom,

@@ -1,4 +1,5 @@
 -- Where a name or a zone stands: home, start and count hand back the same bytes.
+use Rattle.std.specs.Prelude.{if◌then◌else◌}
 use mathlib.Core.Path.{◌≡◌, refl, sym, ap, ◌∙◌}
 use mathlib.Core.Bool.{Bool, true, false}
 use mathlib.Core.List.{List, [], ◌∷◌}
@@ -8,7 +9,6 @@ use lib.ListN.{length, take, drop, length-drop}
 use lib.Dec.{leb}
 use lib.Seq.{length-take-le}
 use borrow.Author.Tests.{leb-true}
-use Rattle.tokenizer.specs.Text.{if◌then◌else◌}
 use Rattle.datatype.specs.Tree.{part, name_of, zone_of}
 use Rattle.arrow_types.specs.Status.{if_named}
 

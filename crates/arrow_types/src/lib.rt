@@ -1,4 +1,5 @@
-// The functions that services call from Rust or C, on numbers and slices. A status is 0 or document 01's number.
+// The functions that services call from Rust or C, on numbers and slices; `arrow_types_c` exports them. A status is 0 or
+// document 01's number.
 
 #![tactic(auto)]
 
@@ -20,8 +21,7 @@ use layout::Verdict;
 use row_table::Depth;
 
 // Reads a type text into lent rows.
-#[unsafe(no_mangle)]
-pub extern "C" fn arrow_types_read(text: &[u8], rows: &mut [u32], count: &mut usize) -> u32
+pub fn arrow_types_read(text: &[u8], rows: &mut [u32], count: &mut usize) -> u32
     ensures status { result ≡ status_of (parse_answer text.now rows.old) }
     ensures value { count.new ≡ value_of (parse_answer text.now rows.old) }
     ensures contents { rows.new ≡ parse_rows text.now rows.old }
@@ -39,16 +39,14 @@ pub extern "C" fn arrow_types_read(text: &[u8], rows: &mut [u32], count: &mut us
 }
 
 // How many rows to lend for a text of so many bytes.
-#[unsafe(no_mangle)]
-pub extern "C" fn arrow_types_rows_to_lend(bytes: usize) -> usize
+pub fn arrow_types_rows_to_lend(bytes: usize) -> usize
     ensures { result ≡ rows_to_lend bytes }
 {
     datatype_parse::rows_to_lend(bytes)
 }
 
 // Prints a tree into a lent buffer.
-#[unsafe(no_mangle)]
-pub extern "C" fn arrow_types_print<'a>(
+pub fn arrow_types_print<'a>(
     text: &'a [u8],
     names: &'a [u8],
     rows: &[u32],
@@ -72,8 +70,7 @@ pub extern "C" fn arrow_types_print<'a>(
 }
 
 // Sets the parent, word 11, of each row that a table holds, up to 1,024: for rows that were built or stored without it.
-#[unsafe(no_mangle)]
-pub extern "C" fn arrow_types_set_parents(rows: &mut [u32])
+pub fn arrow_types_set_parents(rows: &mut [u32])
     ensures { rows.new ≡ with_parents rows.old }
 {
     subtrees::set_parents(rows);
@@ -81,8 +78,7 @@ pub extern "C" fn arrow_types_set_parents(rows: &mut [u32])
 
 // Where a field's name stands, by words 6, 7 and 8 of its row: the home, 1 the text or 2 the name list, with start and
 // count of its bytes there. The three are 0 where the name is empty, as it is where the words do not fit.
-#[unsafe(no_mangle)]
-pub extern "C" fn arrow_types_name<'a>(
+pub fn arrow_types_name<'a>(
     text: &'a [u8],
     names: &'a [u8],
     home: u32,
@@ -113,8 +109,7 @@ pub extern "C" fn arrow_types_name<'a>(
 
 // Where a zone stands, by words 9 and 10 of its row: 1, with start and count of its bytes in the text. The three are 0
 // where the zone is empty, as it is where the words do not fit.
-#[unsafe(no_mangle)]
-pub extern "C" fn arrow_types_zone(
+pub fn arrow_types_zone(
     text: &[u8],
     start: u32,
     size: u32,
@@ -137,8 +132,7 @@ pub extern "C" fn arrow_types_zone(
 }
 
 // Whether text, name list and row words are a sound tree: 1 or 0.
-#[unsafe(no_mangle)]
-pub extern "C" fn arrow_types_is_sound(text: &[u8], names: &[u8], rows: &[u32]) -> u32
+pub fn arrow_types_is_sound(text: &[u8], names: &[u8], rows: &[u32]) -> u32
     ensures { result ≡ flag (is_sound text.now names.now rows.now) }
 {
     if row_table::is_sound(text, names, rows) {
@@ -148,13 +142,7 @@ pub extern "C" fn arrow_types_is_sound(text: &[u8], names: &[u8], rows: &[u32]) 
 }
 
 // The depth of a tree.
-#[unsafe(no_mangle)]
-pub extern "C" fn arrow_types_depth(
-    text: &[u8],
-    names: &[u8],
-    rows: &[u32],
-    depth: &mut usize,
-) -> u32
+pub fn arrow_types_depth(text: &[u8], names: &[u8], rows: &[u32], depth: &mut usize) -> u32
     ensures status { result ≡ status_of (depth_of text.now names.now rows.now) }
     ensures value { depth.new ≡ value_of (depth_of text.now names.now rows.now) }
 {
@@ -171,8 +159,7 @@ pub extern "C" fn arrow_types_depth(
 }
 
 // Whether two trees, each with its text, its name list and its row words, are equal: 1 or 0.
-#[unsafe(no_mangle)]
-pub extern "C" fn arrow_types_equal<'a, 'b>(
+pub fn arrow_types_equal<'a, 'b>(
     text: &'a [u8],
     names: &'a [u8],
     rows: &[u32],
@@ -189,8 +176,7 @@ pub extern "C" fn arrow_types_equal<'a, 'b>(
 }
 
 // The layout verdict of a tree: whether it is yes, 1 or 0, and the first row that breaks a rule, where it is not.
-#[unsafe(no_mangle)]
-pub extern "C" fn arrow_types_verdict(
+pub fn arrow_types_verdict(
     text: &[u8],
     names: &[u8],
     rows: &[u32],

@@ -1,6 +1,5 @@
 -- Kinds of types, and the ranges of their numbers (document 01, 'Types' and 'The row table').
-use Rattle.std.specs.Prelude.{Bool, true, false, not, ◌&&◌, ◌||◌, List, [], ◌∷◌, ℕ, ◌+◌, ◌-◌, get_or, leb, ltb, eqb}
-use Rattle.tokenizer.specs.Text.{if◌then◌else◌}
+use Rattle.std.specs.Prelude.{Bool, true, false, not, ◌&&◌, ◌||◌, List, [], ◌∷◌, ℕ, ◌+◌, ◌-◌, get_or, leb, ltb, eqb, if◌then◌else◌}
 
 -- A kind is its place in `DataType`'s order, Null = 0 to RunEndEncoded = 40.
 abbrev pub kinds : ℕ

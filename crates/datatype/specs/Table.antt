@@ -1,7 +1,6 @@
 -- The row table: twelve words a row, parent first (document 01, 'The row table').
-use Rattle.std.specs.Prelude.{◌&&◌, List, [], ◌∷◌, ◌++◌, ℕ, zero, suc, ◌+◌, ◌*◌, ◌-◌, ◌/◌, min, length, take, drop, get_or, leb}
+use Rattle.std.specs.Prelude.{◌&&◌, List, [], ◌∷◌, ◌++◌, ℕ, zero, suc, ◌+◌, ◌*◌, ◌-◌, ◌/◌, min, length, take, drop, get_or, leb, if◌then◌else◌}
 use Rattle.std.proofs.Math.Option.{Option, none, some}
-use Rattle.tokenizer.specs.Text.{if◌then◌else◌}
 use Rattle.datatype.specs.Limits.{max_rows}
 use Rattle.datatype.specs.Tree.{Forest, ∅, node, count, Row, Label, labels}
 

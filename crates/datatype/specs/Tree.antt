@@ -1,6 +1,6 @@
 -- Trees, rows and what a tree says (document 01, 'The row table').
-use Rattle.std.specs.Prelude.{List, [], ◌∷◌, ℕ, zero, suc, ◌+◌, max, length, take, drop, leb}
-use Rattle.tokenizer.specs.Text.{bytes, if◌then◌else◌}
+use Rattle.std.specs.Prelude.{List, [], ◌∷◌, ℕ, zero, suc, ◌+◌, max, length, take, drop, leb, if◌then◌else◌}
+use Rattle.tokenizer.specs.Text.{bytes}
 
 -- A run of trees side by side: the first tree's root, the run of its children, and the run of its later siblings.
 -- A tree is a run of one. Parents stand before children, and children in order: the order of the rows.

@@ -4,7 +4,7 @@ ghost use Rattle.tokenizer.specs.Text.{same};
 ghost use Rattle.datatype.specs.Tree.{part, name_of, zone_of};
 
 // Where a field's name stands: its home, its start and its length there.
-#[derive(Drop)]
+#[derive(Clone, Copy)]
 pub struct Field {
     pub home: u32,
     pub start: u32,

@@ -131,7 +131,7 @@ pub fn is_word(kind: u32) -> bool
 }
 
 // A decimal's precision, and its scale plus 128.
-#[derive(Drop)]
+#[derive(Clone, Copy)]
 pub struct Decimal {
     pub precision: u32,
     pub scale: u32,

@@ -3,6 +3,7 @@
 --   display-utf8   the printed text of trees whose rows fit, where what prints in double quotes is ASCII
 --   print-utf8     so, what the printer prints, whatever it is given
 --   output-utf8    and what then stands at the start of the output
+use Rattle.std.specs.Prelude.{if◌then◌else◌}
 use mathlib.Core.Path.{◌≡◌, refl, sym, subst}
 use mathlib.Core.Bool.{Bool, true, false, not, ◌&&◌, ◌||◌}
 use mathlib.Core.List.{List, [], ◌∷◌, ◌++◌}
@@ -14,7 +15,7 @@ use lib.ListN.{length, take, drop}
 use lib.Seq.{take-append_seam}
 use lib.Dec.{T, leb, ltb, eqb, leb→le}
 use borrow.Author.Tests.{lt-ltb, le-ltb}
-use Rattle.tokenizer.specs.Text.{bytes, same, if◌then◌else◌}
+use Rattle.tokenizer.specs.Text.{bytes, same}
 use Rattle.tokenizer.specs.Words.{words}
 use Rattle.tokenizer.specs.Answer.{Out, refused, done, refuse}
 use Rattle.tokenizer.specs.Utf8.{utf8_step, utf8_state, is_utf8}

@@ -70,13 +70,13 @@ module _ (text names table : List ℕ) where
           let f = w.flat in
           let k = w.few in
           let b = t.within in
-          let s = t.some-rows in
+          let s = t.some_rows in
           let fit = fits-turn text names table at end t place w.fit in
           record {
             some_level = omega arith;
             subtree = record {
               place = place;
-              some-rows = t.some-rows;
+              some_rows = t.some_rows;
               row = fits-row place (label_of text names (row_at table at)) (labels text names (forest_at table (at + 1) (at + rows_at table at - (at + 1)))) fit.0;
               below = record { upto = omega arith; few = omega arith; nests = t.kids; flat = omega arith; fit = fit.1 };
             };
@@ -99,13 +99,13 @@ module _ (text names table : List ℕ) where
 
   module _ (level i : ℕ) (w : Subtree text names table level i) where
     pub subtree-room : row_words * (i + 1) ≤ length table
-    subtree-room = let r = w.below.nests.room in let s = w.some-rows in omega arith
+    subtree-room = let r = w.below.nests.room in let s = w.some_rows in omega arith
 
     pub subtree-end : (size : ℕ) → size ≡ rows_at table i → i + size ≤ 1024
     subtree-end size is = rw is w.below.few
 
     pub subtree-next : i + 1 ≤ 1024
-    subtree-next = let f = w.below.few in let s = w.some-rows in omega arith
+    subtree-next = let f = w.below.few in let s = w.some_rows in omega arith
 
     pub fits-here : RowFits w.place (label_at text names table i) (kids_at text names table i)
     fits-here = row_fits_lem w.place (label_at text names table i) (kids_at text names table i) w.row

@@ -1,6 +1,5 @@
 -- The printer's answer and its buffer (document 01, 'Numbers a caller may get': 17, 18 and 19, in that order).
-use Rattle.std.specs.Prelude.{List, ◌++◌, ℕ, min, length, drop, leb}
-use Rattle.tokenizer.specs.Text.{if◌then◌else◌}
+use Rattle.std.specs.Prelude.{List, ◌++◌, ℕ, min, length, drop, leb, if◌then◌else◌}
 use Rattle.tokenizer.specs.Answer.{Out, refused, done, refuse}
 use Rattle.datatype.specs.Limits.{max_text}
 use Rattle.datatype.specs.Table.{tree_of}

@@ -18,7 +18,7 @@ mod words;
 mod write;
 
 // The printed length, or the refusal's number.
-#[derive(Drop)]
+#[derive(Clone, Copy)]
 pub enum Printed {
     Length(usize),
     Refused(u32),

@@ -1,4 +1,5 @@
 -- A type takes five bytes for each of its rows, but for one byte.
+use Rattle.std.specs.Prelude.{if◌then◌else◌}
 use mathlib.Core.Path.{◌≡◌, refl, sym, subst, ap}
 use mathlib.Core.Bool.{Bool, true, false}
 use mathlib.Core.List.{List, ◌∷◌, map}
@@ -7,7 +8,6 @@ use Prim.Native.Nat.{ℕ, zero, suc, ◌+◌, ◌*◌, ◌-◌, ◌≤◌, ◌<�
 use native.Mathlib.Omega.{arith}
 use lib.ListN.{length, drop, get_or}
 use lib.Dec.{T, leb, eqb, leb→le, eqb→eq}
-use Rattle.tokenizer.specs.Text.{if◌then◌else◌}
 use Rattle.tokenizer.specs.Answer.{Out, done, refuse, ◌>>=◌}
 use Rattle.tokenizer.specs.Words.{words}
 use Rattle.tokenizer.specs.Places.{after_spaces}

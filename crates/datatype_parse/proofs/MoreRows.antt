@@ -1,5 +1,6 @@
 -- Rows lent beyond those that a text needs change nothing: what is accepted stays accepted, with the same tree, and what
 -- is refused stays refused with the same number, but for 4.
+use Rattle.std.specs.Prelude.{if◌then◌else◌}
 use mathlib.Core.Path.{◌≡◌, refl, sym, ap, ◌∙◌, subst}
 use mathlib.Core.Bool.{Bool, true, false}
 use mathlib.Core.List.{List, ◌++◌}
@@ -8,7 +9,6 @@ use native.Mathlib.Omega.{arith}
 use lib.ListN.{length, take, drop}
 use lib.Seq.{take-append_seam}
 use lib.Dec.{leb, eqb}
-use Rattle.tokenizer.specs.Text.{if◌then◌else◌}
 use Rattle.tokenizer.specs.Answer.{Refusal, Out, refused, done, refuse, ◌>>=◌}
 use Rattle.tokenizer.specs.Utf8.{is_utf8}
 use Rattle.tokenizer.specs.Token.{value_of, double_quoted, colon, comma, lparen, rparen, x_word, union_mode, type_word}

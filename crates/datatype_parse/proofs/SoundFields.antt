@@ -1,10 +1,10 @@
 -- Fields: where types one level down are read soundly, the fields made of them are sound.
+use Rattle.std.specs.Prelude.{if◌then◌else◌}
 use mathlib.Core.Path.{◌≡◌, refl}
 use mathlib.Core.List.{List, [], ◌∷◌}
 use Prim.Native.Nat.{ℕ, zero, suc, ◌-◌}
 use lib.ListN.{length}
 use lib.Dec.{T, eqb}
-use Rattle.tokenizer.specs.Text.{if◌then◌else◌}
 use Rattle.tokenizer.specs.Answer.{Out, done, refuse}
 use Rattle.tokenizer.specs.Utf8.{is_utf8}
 use Rattle.tokenizer.specs.Token.{lparen, rparen, comma, colon, double_quoted, x_word}

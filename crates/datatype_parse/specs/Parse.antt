@@ -1,6 +1,5 @@
 -- The public reader (document 01, 'Types' and 'Numbers a caller may get'): a whole text, and the words lent for its rows.
-use Rattle.std.specs.Prelude.{Bool, ◌&&◌, List, ◌++◌, ℕ, length, drop, replicate, eqb}
-use Rattle.tokenizer.specs.Text.{if◌then◌else◌}
+use Rattle.std.specs.Prelude.{Bool, ◌&&◌, List, ◌++◌, ℕ, length, drop, replicate, eqb, if◌then◌else◌}
 use Rattle.tokenizer.specs.Answer.{Out, refused, done, refuse, ◌>>=◌}
 use Rattle.tokenizer.specs.Token.{token_at, value_of, no_token}
 use Rattle.datatype.specs.Tree.{Forest, count, Row}

@@ -12,7 +12,7 @@ use parser::Read;
 use tokenizer::refusal;
 
 // The rows that a text has filled, or the refusal's number.
-#[derive(Drop)]
+#[derive(Clone, Copy)]
 pub enum Parsed {
     Rows(usize),
     Refused(u32),

@@ -1,4 +1,5 @@
 -- What prints in double quotes is ASCII: what the functions of `ascii.rt` find, and what their loops hold.
+use Rattle.std.specs.Prelude.{if◌then◌else◌}
 use mathlib.Core.Path.{◌≡◌, refl, sym, ap, ◌∙◌}
 use mathlib.Core.Bool.{Bool, true, false, not, ◌&&◌, ◌||◌, and-true, and_assoc, or-true, false≢true}
 use mathlib.Core.List.{List, [], ◌∷◌}
@@ -9,7 +10,7 @@ use lib.ListN.{length, get_or, take, drop, drop_of_length-le}
 use lib.Seq.{drop-cons}
 use lib.Dec.{T, leb, eqb, leb→le, le→leb}
 use borrow.Author.Tests.{le-leb, not-true}
-use Rattle.tokenizer.specs.Text.{same, bytes, all, if◌then◌else◌}
+use Rattle.tokenizer.specs.Text.{same, bytes, all}
 use Rattle.tokenizer.proofs.Basics.{and_l, and_r, both, is_true, of_true, all_take, all_drop}
 use Rattle.datatype.specs.Kind.{Shape, leaf, timestamp, time, interval, fixed, list, fixed_list, struct, union, dictionary, decimal, mapping, run_end_encoded, kinds, shape_of, has}
 use Rattle.datatype.specs.Tree.{Forest, ∅, node, count, roots, depth, Row, Label, part, name_of, zone_of, label_of, labels}

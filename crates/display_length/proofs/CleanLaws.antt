@@ -1,4 +1,5 @@
 -- Parts of clean bytes are clean; and how long what is made of them can be.
+use Rattle.std.specs.Prelude.{if◌then◌else◌}
 use mathlib.Core.Path.{◌≡◌, sym, ◌∙◌, subst}
 use mathlib.Core.Bool.{Bool, true, false}
 use mathlib.Core.List.{List, []}
@@ -6,7 +7,7 @@ use Prim.Native.Nat.{ℕ, zero, suc, ◌+◌, ◌≤◌, ◌<◌}
 use native.Mathlib.Omega.{arith}
 use lib.ListN.{length, take, drop, length-take, length-drop}
 use lib.Dec.{leb, eqb}
-use Rattle.tokenizer.specs.Text.{all, if◌then◌else◌}
+use Rattle.tokenizer.specs.Text.{all}
 use Rattle.tokenizer.proofs.Basics.{of_true}
 use Rattle.datatype.specs.Kind.{Shape, leaf, timestamp, time, interval, fixed, list, fixed_list, struct, union, dictionary, decimal, mapping, run_end_encoded}
 use Rattle.datatype.specs.Tree.{part, name_of, zone_of, name_list, label_of}

@@ -1,4 +1,5 @@
 -- Printed lengths: a row's own bytes plus its children's are the length of its printed text.
+use Rattle.std.specs.Prelude.{if◌then◌else◌}
 use mathlib.Core.Path.{◌≡◌, refl, ap, ◌∙◌}
 use mathlib.Core.Bool.{Bool, true, false}
 use mathlib.Core.List.{List, [], ◌∷◌, ◌++◌, map}
@@ -6,7 +7,7 @@ use Prim.Native.Nat.{ℕ, suc, ◌+◌}
 use native.Mathlib.Omega.{arith}
 use lib.ListN.{length, length-append}
 use lib.Dec.{T}
-use Rattle.tokenizer.specs.Text.{bytes, if◌then◌else◌}
+use Rattle.tokenizer.specs.Text.{bytes}
 use Rattle.tokenizer.proofs.Basics.{and_l, and_r}
 use Rattle.datatype.specs.Kind.{Shape, leaf, timestamp, time, interval, fixed, list, fixed_list, struct, union, dictionary, decimal, mapping, run_end_encoded, shape_of}
 use Rattle.datatype.specs.Tree.{Forest, ∅, node, roots, Label}

@@ -1,6 +1,7 @@
 -- The parts in which the code counts a row's own bytes are together what `own_length` says.
 --   own-length      of one row over its children
 --   type-length     of a tree whose rows fit
+use Rattle.std.specs.Prelude.{if◌then◌else◌}
 use mathlib.Core.Path.{◌≡◌, refl}
 use mathlib.Core.Bool.{Bool, true, false, not}
 use mathlib.Core.List.{List, [], ◌∷◌, ◌++◌, map}
@@ -8,7 +9,7 @@ use Prim.Native.Nat.{ℕ, ◌+◌, ◌<◌}
 use native.Mathlib.Omega.{arith}
 use lib.ListN.{length, length-append}
 use lib.Dec.{T, eqb, eqb→eq}
-use Rattle.tokenizer.specs.Text.{bytes, if◌then◌else◌}
+use Rattle.tokenizer.specs.Text.{bytes}
 use Rattle.tokenizer.specs.Words.{words}
 use Rattle.datatype.specs.Kind.{Shape, leaf, timestamp, time, interval, fixed, list, fixed_list, struct, union, dictionary, decimal, mapping, run_end_encoded, kinds, shape_of}
 use Rattle.datatype.specs.Tree.{Forest, ∅, node, roots, Label}

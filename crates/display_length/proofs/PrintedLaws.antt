@@ -1,4 +1,5 @@
 -- The printed length, case by case; and what the printer knows from it.
+use Rattle.std.specs.Prelude.{if◌then◌else◌}
 use mathlib.Core.Path.{◌≡◌, refl, sym, ap, ◌∙◌}
 use mathlib.Core.Bool.{Bool, true, false}
 use mathlib.Core.Logic.{◌⊎◌, inl, inr}
@@ -7,7 +8,7 @@ use Prim.Native.Nat.{ℕ}
 use native.Mathlib.Omega.{arith}
 use lib.ListN.{length}
 use lib.Dec.{T}
-use Rattle.tokenizer.specs.Text.{all, if◌then◌else◌}
+use Rattle.tokenizer.specs.Text.{all}
 use Rattle.tokenizer.specs.Answer.{Out, refused, done, refuse}
 use Rattle.tokenizer.proofs.Basics.{of_true}
 use Rattle.datatype.specs.Tree.{label_of, labels}

@@ -1,4 +1,5 @@
 -- The lengths of double-quoted strings: what the functions of `strings.rt` count.
+use Rattle.std.specs.Prelude.{if◌then◌else◌}
 use mathlib.Core.Path.{◌≡◌, refl, sym, ap, ◌∙◌, subst}
 use mathlib.Core.Bool.{Bool, true, false, not, ◌&&◌, ◌||◌}
 use mathlib.Core.List.{List, [], ◌∷◌, ◌++◌}
@@ -8,7 +9,7 @@ use lib.ListN.{length, get_or, drop, drop_of_length-le, length-append}
 use lib.Seq.{drop-cons}
 use lib.Dec.{T, leb, ltb, eqb, leb→le}
 use borrow.Author.Tests.{lt-ltb, le-ltb, le-leb, lt-leb, eq-eqb, ne_eqb}
-use Rattle.tokenizer.specs.Text.{bytes, all, same, if◌then◌else◌}
+use Rattle.tokenizer.specs.Text.{bytes, all, same}
 use Rattle.tokenizer.proofs.Basics.{and_l, and_r, of_true}
 use Rattle.display_length.specs.Display.{hex_digit, escape, escaped, quoted, zone_text, list_name_text}
 use Rattle.display_length.specs.Internal.Steps.{is_clean, is_no_mark, Clean}

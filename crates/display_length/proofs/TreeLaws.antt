@@ -28,14 +28,14 @@ use Rattle.display_length.proofs.LengthLaws.{type_length_lem}
 
 module _ (table : List ℕ) (level i : ℕ) (w : Subtree table level i) where
   pub subtree-room : row_words * (i + 1) ≤ length table
-  subtree-room = let a = w.some-rows in let r = w.room in omega arith
+  subtree-room = let a = w.some_rows in let r = w.room in omega arith
 
   module _ (size : ℕ) (is : size ≡ rows_at table i) where
     pub subtree-end : i + size ≤ 1024
     subtree-end = rw is w.few
 
     pub quotes-call : Nests table (i + 1) (i + size - (i + 1)) × (i + 1 ≤ i + size)
-    quotes-call = let a = w.some-rows in (rw is w.nests, omega arith)
+    quotes-call = let a = w.some_rows in (rw is w.nests, omega arith)
 
 -- ---- the children's lengths
 
@@ -74,7 +74,7 @@ module _ (text names table : List ℕ) where
         → total ≡ own_at text table i
         → total ≤ 100000 → Counting (i + 1) total
     counting-start size kind is e w k sh quotes total own l =
-        let r = w.some-rows in
+        let r = w.some_rows in
         let f = w.few in
         let e' : end ≡ i + rows_at table i = e ∙ ap (λ (n : ℕ). i + n) is in
         record {
@@ -120,7 +120,7 @@ module _ (text names table : List ℕ) where
             let r = v.nests.room in
             let w = t.within in
             let k = v.few in
-            (omega arith, record { some-rows = t.some-rows; room = omega arith; nests = t.kids; few = omega arith; flat = omega arith })
+            (omega arith, record { some_rows = t.some_rows; room = omega arith; nests = t.kids; few = omega arith; flat = omega arith })
 
         module _ (f : Bool) (first : f ≡ eqb j (i + 1)) (a : ℕ) (l : a ≤ 100000) where
           -- the sums fit a number
@@ -138,7 +138,7 @@ module _ (text names table : List ℕ) where
                 go t =
                     let d = levels-here t in
                     let fl = v.flat in
-                    let r = t.some-rows in
+                    let r = t.some_rows in
                     let w = t.within in
                     let c = v.behind in
                     let m = v.most in
@@ -253,7 +253,7 @@ module _ (text names table : List ℕ) (sound : T (is_sound text names table)) w
       let d = ap depth kids-are in
       let l = tree.levels in
       let k = tree.rows in
-      record { some-rows = t.some-rows; room = omega arith; nests = t.kids; few = omega arith; flat = omega arith }
+      record { some_rows = t.some_rows; room = omega arith; nests = t.kids; few = omega arith; flat = omega arith }
 
   pub tree-length : length_at text names table 0 ≡ display_length (tree_of text names table)
   unfolding length_at label_at kids_at labels

@@ -1,6 +1,6 @@
 -- The printed text of a tree, and its length (document 01, 'Printing').
-use Rattle.std.specs.Prelude.{Bool, ◌&&◌, ◌||◌, List, [], ◌∷◌, ◌++◌, map, ℕ, zero, suc, ◌+◌, ◌-◌, ◌/◌, ◌%◌, length, get_or, ltb, eqb}
-use Rattle.tokenizer.specs.Text.{bytes, same, if◌then◌else◌}
+use Rattle.std.specs.Prelude.{Bool, ◌&&◌, ◌||◌, List, [], ◌∷◌, ◌++◌, map, ℕ, zero, suc, ◌+◌, ◌-◌, ◌/◌, ◌%◌, length, get_or, ltb, eqb, if◌then◌else◌}
+use Rattle.tokenizer.specs.Text.{bytes, same}
 use Rattle.tokenizer.specs.Words.{words, ◌is◌}
 use Rattle.tokenizer.specs.declared.TokenKind.TheVariants.{Refused}
 use Rattle.output.specs.Digits.{digits}

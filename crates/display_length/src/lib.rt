@@ -18,7 +18,7 @@ mod tree;
 mod words;
 
 // The printed length, or the refusal's number.
-#[derive(Drop)]
+#[derive(Clone, Copy)]
 pub enum PrintedLength {
     Length(usize),
     Refused(u32),

@@ -1,8 +1,8 @@
 -- The verdict of a tree depends on its kinds and its nesting alone.
+use Rattle.std.specs.Prelude.{if◌then◌else◌}
 use mathlib.Core.Path.{◌≡◌, refl, sym, ap, ◌∙◌}
 use mathlib.Core.Option.{Option, none, some}
 use Prim.Native.Nat.{ℕ, suc, ◌+◌}
-use Rattle.tokenizer.specs.Text.{if◌then◌else◌}
 use Rattle.datatype.specs.Kind.{shape_of}
 use Rattle.datatype.specs.Tree.{Forest, ∅, node, count, map_forest, Label}
 use Rattle.layout.specs.Layout.{Asked, anything, kind_allowed, asked_of_first, first, broken_row}

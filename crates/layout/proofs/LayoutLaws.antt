@@ -1,4 +1,5 @@
 -- The layout verdict: the scan over the rows finds the first row of the tree that breaks a rule.
+use Rattle.std.specs.Prelude.{if◌then◌else◌}
 use mathlib.Core.Path.{◌≡◌, refl, sym, ap, ◌∙◌, subst}
 use mathlib.Core.Bool.{Bool, true, false, ◌||◌, ◌&&◌}
 use mathlib.Core.List.{List, [], ◌++◌, append_assoc, append-nil}
@@ -9,7 +10,6 @@ use lib.ListN.{length, take, drop, get_or}
 use lib.Seq.{drop-drop}
 use lib.Dec.{T, leb, ltb, eqb}
 use borrow.Author.Tests.{ne_eqb, ltb-true, ltb-false}
-use Rattle.tokenizer.specs.Text.{if◌then◌else◌}
 use Rattle.tokenizer.specs.Answer.{done}
 use Rattle.tokenizer.proofs.Basics.{of_true}
 use Rattle.datatype.specs.Kind.{Shape, leaf, timestamp, time, interval, fixed, list, fixed_list, struct, union, dictionary, decimal, mapping, run_end_encoded, kinds, shape_of}

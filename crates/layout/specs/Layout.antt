@@ -1,7 +1,6 @@
 -- The layout verdict (document 01, 'The layout verdict').
-use Rattle.std.specs.Prelude.{Bool, true, ◌&&◌, List, ℕ, suc, ◌+◌, leb}
+use Rattle.std.specs.Prelude.{Bool, true, ◌&&◌, List, ℕ, suc, ◌+◌, leb, if◌then◌else◌}
 use Rattle.std.proofs.Math.Option.{Option, none, some}
-use Rattle.tokenizer.specs.Text.{if◌then◌else◌}
 use Rattle.tokenizer.specs.Answer.{Out, done, refuse}
 use Rattle.datatype.specs.Kind.{Shape, leaf, timestamp, time, interval, fixed, list, fixed_list, struct, union, dictionary, decimal, mapping, run_end_encoded, shape_of}
 use Rattle.datatype.specs.Tree.{Forest, ∅, node, count, Label}

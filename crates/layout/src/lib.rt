@@ -15,7 +15,7 @@ use row_table::is_sound;
 use tokenizer::refusal;
 
 // The layout verdict of a sound tree.
-#[derive(Drop)]
+#[derive(Clone, Copy)]
 pub enum Verdict {
     Yes,
     // The first row that breaks a rule.

@@ -1,6 +1,5 @@
 -- A number in decimal digits.
-use Rattle.std.specs.Prelude.{List, [], ◌∷◌, ◌++◌, ℕ, zero, suc, ◌+◌, ◌/◌, ◌%◌, ltb}
-use Rattle.tokenizer.specs.Text.{if◌then◌else◌}
+use Rattle.std.specs.Prelude.{List, [], ◌∷◌, ◌++◌, ℕ, zero, suc, ◌+◌, ◌/◌, ◌%◌, ltb, if◌then◌else◌}
 
 -- Decimal digits. The first number only falls, and never runs out where it is above the number printed.
 unfoldable pub digits_with : ℕ → ℕ → List ℕ

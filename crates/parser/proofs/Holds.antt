@@ -1,7 +1,7 @@
 -- What holds of every value that a reader answers, without taking its steps apart.
+use Rattle.std.specs.Prelude.{if◌then◌else◌}
 use mathlib.Core.Path.{◌≡◌, refl}
 use mathlib.Core.Bool.{Bool, true, false}
-use Rattle.tokenizer.specs.Text.{if◌then◌else◌}
 use Rattle.tokenizer.specs.Answer.{Out, refused, done, ◌>>=◌}
 
 -- a fact of the value, if there is one

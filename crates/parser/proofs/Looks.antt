@@ -1,11 +1,11 @@
 -- A token that is needed stands there, and one that is refused does not.
+use Rattle.std.specs.Prelude.{if◌then◌else◌}
 use mathlib.Core.Path.{◌≡◌, refl}
 use mathlib.Core.Bool.{Bool, true, false}
 use mathlib.Core.List.{List}
 use Prim.Native.Nat.{ℕ}
 use native.Mathlib.Omega.{arith}
 use lib.Dec.{eqb}
-use Rattle.tokenizer.specs.Text.{if◌then◌else◌}
 use Rattle.tokenizer.specs.Answer.{Refusal, refused, done, refuse}
 use Rattle.tokenizer.specs.Token.{token_at, sort_of}
 use Rattle.tokenizer.specs.declared.Token.{Token}

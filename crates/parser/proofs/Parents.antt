@@ -12,7 +12,6 @@ use Rattle.datatype.specs.Tree.{Forest, ∅, node, count, roots, Row}
 use Rattle.parser.specs.Parse.{Tree, bare_row, need, number_in, close_at, field_at, list_field, fixed_list_field, entries_at, run_end_fields, list_at, fixed_size_list_at, dictionary_at, map_at, run_end_encoded_at}
 use Rattle.parser.specs.Internal.Steps.{Stored, Meets, Closed}
 use Rattle.parser.specs.declared.Read.{Read}
-use Rattle.parser.specs.declared.Read.TheVariants as R
 use Rattle.parser.proofs.Stores.{written_behind}
 use Rattle.parser.proofs.Answers.{behind, GotValue, GotTree, GotFields}
 use Rattle.parser.proofs.Readers.{closes}

@@ -1,4 +1,5 @@
 -- Tokens where one is needed or looked for: each return of the small functions as a law.
+use Rattle.std.specs.Prelude.{if◌then◌else◌}
 use mathlib.Core.Path.{◌≡◌, refl, sym, ap, ◌∙◌, subst}
 use mathlib.Core.Bool.{Bool, true, false, not}
 use mathlib.Core.List.{List, [], ◌∷◌}
@@ -11,7 +12,6 @@ use types.Run.{OneOf, miss}
 use mir.Val.{has_key}
 use denote.Enum.Declared.{tag_of}
 use Rattle.tokenizer.specs.contracts.TokenKind.{the_type}
-use Rattle.tokenizer.specs.Text.{if◌then◌else◌}
 use Rattle.tokenizer.specs.Answer.{done, refuse}
 use Rattle.tokenizer.specs.Places.{after_spaces}
 use Rattle.tokenizer.specs.Token.{token, token_at, sort_of, value_of, no_token, integer, nullability}

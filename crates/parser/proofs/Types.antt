@@ -16,7 +16,6 @@ use Rattle.datatype.specs.Table.{row_words, table_of}
 use Rattle.parser.specs.Parse.{Tree, bare_row, need, field_at, items_by, struct_item, union_item, struct_at, union_at, shape_at, type_with, type_at}
 use Rattle.parser.specs.Internal.Steps.{Room, Stored, Meets, Put, Closed}
 use Rattle.parser.specs.declared.Read.{Read}
-use Rattle.parser.specs.declared.Read.TheVariants as R
 use Rattle.parser.proofs.Stores.{in_front}
 use Rattle.parser.proofs.Answers.{behind, GotValue, GotTree, GotFields}
 use Rattle.parser.proofs.Readers.{meets-lost, meets-done, meets-more}

@@ -1,8 +1,8 @@
 -- Signed bytes as the rows keep them, and the kinds of types.
+use Rattle.std.specs.Prelude.{if◌then◌else◌}
 use mathlib.Core.Path.{◌≡◌, sym}
 use mathlib.Core.Bool.{Bool, true, false}
 use Prim.Native.Nat.{ℕ, ◌+◌, ◌-◌, ◌%◌, ◌≤◌}
-use Rattle.tokenizer.specs.Text.{if◌then◌else◌}
 use Rattle.tokenizer.specs.Answer.{Out}
 use Rattle.tokenizer.specs.declared.Token.{Token}
 use Rattle.parser.specs.Parse.{id_of, scale_of}

@@ -1,4 +1,5 @@
 -- Units, lengths, zones and list names: each return of their functions as a law.
+use Rattle.std.specs.Prelude.{if◌then◌else◌}
 use mathlib.Core.Path.{◌≡◌, refl, sym, ap, ◌∙◌}
 use mathlib.Core.Bool.{Bool, true, false, not}
 use mathlib.Core.List.{List}
@@ -12,7 +13,6 @@ use mir.Val.{has_key, Fits}
 use mir.Syntax.{w32}
 use denote.Enum.Declared.{tag_of}
 use Rattle.tokenizer.specs.contracts.TokenKind.{the_type}
-use Rattle.tokenizer.specs.Text.{if◌then◌else◌}
 use Rattle.tokenizer.specs.Answer.{Refusal, Out, refused, done, refuse}
 use Rattle.tokenizer.specs.Token.{token_at, sort_of, value_of, is_negative, no_token, lparen, rparen, comma, colon, integer, double_quoted, single_quoted, field_word, time_unit, some_word, none_word}
 use Rattle.tokenizer.specs.declared.Token.{Token}

@@ -1,7 +1,6 @@
 -- The reader (document 01, 'Types' and 'Numbers a caller may get'). A definition for each `parse_` function of the Rust.
 -- A place is a number of bytes into the text. What is met first, from left to right, decides.
-use Rattle.std.specs.Prelude.{Bool, List, ◌++◌, map, ℕ, zero, suc, ◌+◌, ◌-◌, ◌%◌, ◌^◌, length, drop, replicate, leb, eqb}
-use Rattle.tokenizer.specs.Text.{if◌then◌else◌}
+use Rattle.std.specs.Prelude.{Bool, List, ◌++◌, map, ℕ, zero, suc, ◌+◌, ◌-◌, ◌%◌, ◌^◌, length, drop, replicate, leb, eqb, if◌then◌else◌}
 use Rattle.tokenizer.specs.Answer.{Out, refused, done, refuse, ◌>>=◌}
 use Rattle.tokenizer.specs.Utf8.{is_utf8}
 use Rattle.tokenizer.specs.Token.{token_at, sort_of, value_of, is_negative, no_token, lparen, rparen, comma, colon, integer, double_quoted, single_quoted, type_word, time_unit, interval_unit, union_mode, map_sorted, nullability, field_word, some_word, none_word, x_word}

@@ -1,7 +1,6 @@
 // Types without children, into lent rows. `row` is the next free row.
-ghost use Rattle.std.specs.Prelude.{◌≡◌, ◌+◌, ◌-◌, ◌≤◌};
+ghost use Rattle.std.specs.Prelude.{◌≡◌, ◌+◌, ◌-◌, ◌≤◌, if◌then◌else◌};
 ghost use Rattle.tokenizer.specs.Edges.{edges};
-ghost use Rattle.tokenizer.specs.Text.{if◌then◌else◌};
 ghost use Rattle.parser.specs.Parse.{unit_at, timestamp_at, time_at, interval_at, fixed_size_binary_at, scale_at, decimal_at};
 ghost use Rattle.parser.specs.Internal.Steps.{Room, Meets, valued_of};
 

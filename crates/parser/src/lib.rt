@@ -4,9 +4,8 @@
 
 #![tactic(auto)]
 
-ghost use Rattle.std.specs.Prelude.{◌≡◌, ◌+◌, ◌-◌, ◌%◌, ◌≤◌, length};
+ghost use Rattle.std.specs.Prelude.{◌≡◌, ◌+◌, ◌-◌, ◌%◌, ◌≤◌, length, if◌then◌else◌};
 ghost use Rattle.tokenizer.specs.Edges.{edges};
-ghost use Rattle.tokenizer.specs.Text.{if◌then◌else◌};
 ghost use Rattle.datatype.specs.Table.{rows_lent};
 ghost use Rattle.parser.specs.Parse.{field_at, list_field, list_name_at, named_run_ends, default_run_ends, list_at, fixed_size_list_at, struct_at, union_at, union_field, dictionary_at, map_at, run_end_encoded_at, type_at, first_type, read_of, read_means, rows_of};
 ghost use Rattle.parser.specs.Internal.Steps.{Room, Meets, MeetsFields, quoted_of};
@@ -95,7 +94,7 @@ pub(crate) enum Quoted {
 }
 
 // A type or a field, or some fields: the place behind it, and how many rows were filled.
-#[derive(Drop)]
+#[derive(Clone, Copy)]
 pub enum Read {
     Tree(usize, usize),
     Refused(u32),

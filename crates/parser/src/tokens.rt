@@ -1,6 +1,5 @@
 // One token where it is needed or looked for: the small functions of the Rust's `Parser`.
-ghost use Rattle.std.specs.Prelude.{◌≡◌, true, false, ◌≤◌, ◌<◌, length, get_or};
-ghost use Rattle.tokenizer.specs.Text.{if◌then◌else◌};
+ghost use Rattle.std.specs.Prelude.{◌≡◌, true, false, ◌≤◌, ◌<◌, length, get_or, if◌then◌else◌};
 ghost use Rattle.tokenizer.specs.Edges.{edges};
 ghost use Rattle.tokenizer.specs.Token.{token_at, double_quoted, single_quoted, type_word, time_unit, interval_unit, union_mode, map_sorted, field_word, x_word};
 ghost use Rattle.parser.specs.Parse.{refusal_of, need, role_at, after_role, number_in, length_at, precision_at, signed_byte_at, stands};

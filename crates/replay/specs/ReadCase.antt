@@ -1,8 +1,8 @@
 -- The stored sample of the reader: how many cases, then the cases. A case is the words lent, the text's length, the text,
 -- the status and the value (`arrow_types/Status`), and the words of as many rows as the value says. The words lent hold
 -- `unread` before; those behind the rows are to hold it still, or 0 where the text is refused.
-use Rattle.std.specs.Prelude.{Bool, ◌&&◌, List, ◌++◌, ℕ, zero, suc, ◌*◌, ◌-◌, min, replicate, eqb}
-use Rattle.tokenizer.specs.Text.{if◌then◌else◌, same}
+use Rattle.std.specs.Prelude.{Bool, ◌&&◌, List, ◌++◌, ℕ, zero, suc, ◌*◌, ◌-◌, min, replicate, eqb, if◌then◌else◌}
+use Rattle.tokenizer.specs.Text.{same}
 use Rattle.datatype.specs.Tree.{part}
 use Rattle.datatype.specs.Table.{row_words}
 use Rattle.datatype_parse.specs.Parse.{parse_answer, parse_rows}

@@ -1,7 +1,6 @@
 -- Stored samples: numbers in decimal, each with one byte behind it, and bytes with their count before them and one byte
 -- behind them. What stands past the end of a sample is empty.
-use Rattle.std.specs.Prelude.{Bool, true, false, List, [], ◌∷◌, ℕ, zero, suc, ◌+◌, ◌*◌, ◌-◌, min, length, drop, ltb}
-use Rattle.tokenizer.specs.Text.{if◌then◌else◌}
+use Rattle.std.specs.Prelude.{Bool, true, false, List, [], ◌∷◌, ℕ, zero, suc, ◌+◌, ◌*◌, ◌-◌, min, length, drop, ltb, if◌then◌else◌}
 use Rattle.replay.specs.declared.Number.{Number}
 use Rattle.replay.specs.declared.Tally.{Tally}
 

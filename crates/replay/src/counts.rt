@@ -4,6 +4,7 @@ ghost use Rattle.replay.specs.Sample.{one_more};
 ghost use Rattle.replay.specs.Sample.{counted as counted_of};
 
 use crate::Tally;
+use std::io;
 
 fn one_more(n: u32) -> u32
     ensures { result ≡ one_more n }
@@ -44,17 +45,13 @@ pub(crate) fn counted(t: Tally, alike: bool, next: usize) -> Tally
 }
 
 // Prints the counts of a sample of so many bytes, and what is wrong if anything is.
-pub(crate) fn print(what: &[u8], t: Tally, size: usize) {
-    io::print_decimal(1, t.all as u64);
-    io::write_all(1, what);
-    io::print_decimal(1, t.alike as u64);
-    io::write_all(1, b" alike\n");
+pub(crate) fn print(rt: &HostRuntime, what: &str, t: Tally, size: usize) -> io::Result<()> {
+    println!(rt; "{}{what}{} alike", t.all, t.alike)?;
     if 0 < t.first {
-        io::write_all(1, b"the first that is not: ");
-        io::print_decimal(1, t.first as u64);
-        io::write_all(1, b"\n");
+        println!(rt; "the first that is not: {}", t.first)?;
     }
     if t.next != size {
-        io::write_all(1, b"the sample does not end behind the last\n");
+        println!(rt; "the sample does not end behind the last")?;
     }
+    Ok(())
 }

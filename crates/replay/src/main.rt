@@ -3,8 +3,11 @@
 
 #![tactic(auto)]
 
-ghost use Rattle.std.specs.Prelude.{◌≡◌, length};
-ghost use Rattle.io.specs.Counts.{IsPrefixLen};
+ghost use Rattle.std.specs.Prelude.{◌≡◌, ◌≤◌, length, take};
+
+use std::fs::File;
+use std::io::Read;
+use std::{fs, io};
 
 mod counts;
 mod prints;
@@ -18,7 +21,7 @@ const MOST_WORDS: usize = 13000;
 const MOST_BYTES: usize = 20000;
 
 // A number, and the place behind it.
-#[derive(Drop)]
+#[derive(Clone, Copy)]
 struct Number {
     value: u32,
     next: usize,
@@ -26,7 +29,7 @@ struct Number {
 
 // How many cases were replayed, how many of them gave what is stored, the number of the first that did not (0 if none),
 // and the place behind the last.
-#[derive(Drop)]
+#[derive(Clone, Copy)]
 struct Tally {
     all: u32,
     alike: u32,
@@ -36,7 +39,7 @@ struct Tally {
 
 // A stored case of the reader, but for the rows' words: the words lent, where the text stands and how long it is, the
 // status, the value, and the place of the words.
-#[derive(Drop)]
+#[derive(Clone, Copy)]
 struct ReadCase {
     lent: u32,
     at: usize,
@@ -48,7 +51,7 @@ struct ReadCase {
 
 // A stored case of the printer, but for the rows' words: the bytes lent, the text, the name list, the status, the printed
 // bytes, how many words, and the place of the words. Of bytes, the value is their number and the next place is theirs.
-#[derive(Drop)]
+#[derive(Clone, Copy)]
 struct PrintCase {
     lent: u32,
     text: Number,
@@ -60,7 +63,7 @@ struct PrintCase {
 }
 
 // A stored table, but for its words: the text, the name list, how many words, and the place of the words.
-#[derive(Drop)]
+#[derive(Clone, Copy)]
 struct Table {
     text: Number,
     list: Number,
@@ -69,7 +72,7 @@ struct Table {
 }
 
 // A stored answer: the status, and the value.
-#[derive(Drop)]
+#[derive(Clone, Copy)]
 struct Answer {
     status: u32,
     value: u32,
@@ -77,7 +80,7 @@ struct Answer {
 
 // A stored case of a table: the word that is changed and its value; whether the table is then sound (1 or 0); the depth
 // and the verdict; whether it equals the other (1 or 0); the name and the zone of the row that has the word.
-#[derive(Drop)]
+#[derive(Clone, Copy)]
 struct TableCase {
     place: u32,
     value: u32,
@@ -90,45 +93,62 @@ struct TableCase {
     next: usize,
 }
 
-// Reads a file into a buffer: how many bytes of it are read.
-fn load(path: &[u8], sample: &mut [u8]) -> usize
-    ensures { IsPrefixLen result sample.new }
+// Reads until the buffer is full, the file ends or a read fails: how many bytes stand at the start of the buffer.
+fn read_full(mut file: File, sample: &mut [u8]) -> usize
+    ensures { (result ≤ length sample.new) × (result ≡ length (take result sample.new)) }
 {
-    let fd = os::open_read(path);
-    if fd < 0 {
-        os::fail(path);
-        return 0;
+    let mut done = 0;
+    while done < sample.len() {
+        let Ok(n) = file.read(&mut sample[done..]) else {
+            break;
+        };
+        if n == 0 {
+            break;
+        }
+        done += n;
     }
-    let n = io::read_full(fd, sample);
-    libc::close(fd);
-    n
+    done
 }
 
-fn replay_texts(sample: &[u8]) {
+// Reads a file into a buffer: how many bytes of it are read.
+fn load(rt: &HostRuntime, path: &str, sample: &mut [u8]) -> usize
+    ensures { (result ≤ length sample.new) × (result ≡ length (take result sample.new)) }
+{
+    match fs::open(rt, path) {
+        Ok(file) => read_full(file, sample),
+        Err(error) => {
+            let _ = eprintln!(rt; "{path}: {error}");
+            0
+        }
+    }
+}
+
+fn replay_texts(rt: &HostRuntime, sample: &[u8]) -> io::Result<()> {
     let mut rows = [0u32; MOST_WORDS];
     let mut left = [0u32; MOST_WORDS];
     let t = texts::read_all(sample, false, &mut rows, &mut left);
-    counts::print(b" texts, ", t, sample.len());
+    counts::print(rt, " texts, ", t, sample.len())?;
     let again = texts::read_all(sample, true, &mut rows, &mut left);
     counts::print(
-        b" texts again, accepted ones with rows to lend, ",
+        rt,
+        " texts again, accepted ones with rows to lend, ",
         again,
         sample.len(),
-    );
+    )
 }
 
-fn replay_tables(sample: &[u8]) {
+fn replay_tables(rt: &HostRuntime, sample: &[u8]) -> io::Result<()> {
     let mut words = [0u32; MOST_WORDS];
     let mut others = [0u32; MOST_WORDS];
     let t = tables::all(sample, &mut words, &mut others);
-    counts::print(b" tables, ", t, sample.len());
+    counts::print(rt, " tables, ", t, sample.len())
 }
 
-fn replay_prints(sample: &[u8]) {
+fn replay_prints(rt: &HostRuntime, sample: &[u8]) -> io::Result<()> {
     let mut words = [0u32; MOST_WORDS];
     let mut out = [0u8; MOST_BYTES];
     let t = prints::print_all(sample, &mut words, &mut out);
-    counts::print(b" prints, ", t, sample.len());
+    counts::print(rt, " prints, ", t, sample.len())
 }
 
 // Room for a sample.
@@ -138,12 +158,12 @@ fn room() -> [u8; 1000000]
     [0; 1000000]
 }
 
-fn main() {
+fn main(rt: HostRuntime) -> io::Result<()> {
     let mut sample = room();
-    let n = load(b"texts", &mut sample);
-    replay_texts(&sample[..n]);
-    let m = load(b"tables", &mut sample);
-    replay_tables(&sample[..m]);
-    let k = load(b"prints", &mut sample);
-    replay_prints(&sample[..k]);
+    let n = load(&rt, "texts", &mut sample);
+    replay_texts(&rt, &sample[..n])?;
+    let m = load(&rt, "tables", &mut sample);
+    replay_tables(&rt, &sample[..m])?;
+    let k = load(&rt, "prints", &mut sample);
+    replay_prints(&rt, &sample[..k])
 }

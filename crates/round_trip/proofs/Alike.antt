@@ -5,6 +5,7 @@
 --   decimal-text    and the text of a precision and a scale is what such a row prints
 --   lists-read      over the kind: the four plain lists are read alike, but for the kind in the row
 --   list-text       and printed alike, but for the kind's word
+use Rattle.std.specs.Prelude.{if◌then◌else◌}
 use mathlib.Core.Path.{◌≡◌, refl, sym, ap, ◌∙◌}
 use mathlib.Core.Bool.{Bool, true, false}
 use mathlib.Core.List.{List, [], ◌∷◌, ◌++◌, append-nil}
@@ -12,7 +13,7 @@ use Prim.Native.Nat.{ℕ, zero, suc, ◌+◌, ◌≤◌, ◌<◌}
 use native.Mathlib.Omega.{arith}
 use lib.ListN.{length, length-append}
 use lib.Dec.{T, leb, leb→le}
-use Rattle.tokenizer.specs.Text.{bytes, if◌then◌else◌}
+use Rattle.tokenizer.specs.Text.{bytes}
 use Rattle.tokenizer.specs.Answer.{Out, refused, done, refuse, ◌>>=◌}
 use Rattle.tokenizer.specs.Words.{words}
 use Rattle.tokenizer.specs.Utf8.{utf8_step, utf8_state, is_utf8}

@@ -1,11 +1,12 @@
 -- Fields, read back: a field with a quoted name, a field of a default name, a list's field.
+use Rattle.std.specs.Prelude.{if◌then◌else◌}
 use mathlib.Core.Path.{◌≡◌, refl, sym, ap, ◌∙◌}
 use mathlib.Core.Bool.{Bool, true, false}
 use mathlib.Core.List.{List, [], ◌∷◌, ◌++◌, append_assoc}
 use Prim.Native.Nat.{ℕ, suc, ◌+◌, ◌≤◌}
 use lib.ListN.{drop}
 use lib.Dec.{T}
-use Rattle.tokenizer.specs.Text.{bytes, all, same, if◌then◌else◌}
+use Rattle.tokenizer.specs.Text.{bytes, all, same}
 use Rattle.tokenizer.specs.Answer.{Out, done}
 use Rattle.tokenizer.specs.Words.{words}
 use Rattle.tokenizer.specs.Token.{is_separator, is_digit, token_at, sort_of, double_quoted, single_quoted, comma, field_word}

@@ -1,4 +1,5 @@
 -- Types without children, read back: leaves, timestamps, times, intervals, fixed-size binaries, decimals.
+use Rattle.std.specs.Prelude.{if◌then◌else◌}
 use mathlib.Core.Path.{◌≡◌, refl, ap, ◌∙◌}
 use mathlib.Core.Bool.{Bool, true, false}
 use mathlib.Core.List.{List, [], ◌∷◌, ◌++◌, append_assoc}
@@ -7,7 +8,7 @@ use native.Mathlib.Omega.{arith}
 use lib.ListN.{length, drop}
 use lib.Dec.{T, ltb}
 use borrow.Author.Tests.{ltb-true, ltb-false}
-use Rattle.tokenizer.specs.Text.{bytes, all, if◌then◌else◌}
+use Rattle.tokenizer.specs.Text.{bytes, all}
 use Rattle.tokenizer.specs.Answer.{Out, done, refuse}
 use Rattle.tokenizer.specs.Words.{words}
 use Rattle.tokenizer.specs.Token.{is_separator, is_digit, value_of, time_unit, interval_unit, double_quoted, rparen, none_word, some_word}

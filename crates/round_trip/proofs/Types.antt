@@ -1,11 +1,12 @@
 -- What it means that a printed type is read back, and a type behind an optional nullability word.
+use Rattle.std.specs.Prelude.{if◌then◌else◌}
 use mathlib.Core.Path.{◌≡◌, refl, sym, ap, ◌∙◌, subst}
 use mathlib.Core.Bool.{Bool, true, false, ◌||◌}
 use mathlib.Core.List.{List, [], ◌∷◌, ◌++◌, map, append_assoc}
 use Prim.Native.Nat.{ℕ, suc, ◌+◌, ◌≤◌, ◌<◌}
 use lib.ListN.{length, drop}
 use lib.Dec.{T, eqb, eqb→eq, leb-zero}
-use Rattle.tokenizer.specs.Text.{bytes, if◌then◌else◌}
+use Rattle.tokenizer.specs.Text.{bytes}
 use Rattle.tokenizer.specs.Answer.{Out, done}
 use Rattle.tokenizer.specs.Words.{words}
 use Rattle.tokenizer.specs.Token.{is_separator, is_digit, type_word, nullability}

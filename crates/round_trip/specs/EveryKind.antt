@@ -1,7 +1,7 @@
 -- Demand 3's conditions can be met, by computation: the bytes that they allow are the 92 that the demand says, and a tree
 -- that has every one of the 41 kinds, and names and a zone of all these bytes, meets them.
-use Rattle.std.specs.Prelude.{◌≡◌, refl, Bool, true, false, ◌&&◌, ◌||◌, List, [], ◌∷◌, ◌++◌, ℕ, zero, suc, length, eqb}
-use Rattle.tokenizer.specs.Text.{bytes, if◌then◌else◌}
+use Rattle.std.specs.Prelude.{◌≡◌, refl, Bool, true, false, ◌&&◌, ◌||◌, List, [], ◌∷◌, ◌++◌, ℕ, zero, suc, length, eqb, if◌then◌else◌}
+use Rattle.tokenizer.specs.Text.{bytes}
 use Rattle.tokenizer.specs.Answer.{Out, refused, done}
 use Rattle.datatype.specs.Limits.{max_rows}
 use Rattle.datatype.specs.Kind.{kinds}

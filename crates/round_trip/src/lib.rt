@@ -5,7 +5,7 @@
 
 #![tactic(auto)]
 
-#[derive(Drop)]
+#[derive(Clone, Copy)]
 pub enum PrintedAndRead {
     Tree(usize, usize),
     NotPrinted(u32),

@@ -1,4 +1,5 @@
 -- The clauses of soundness as `is_sound` looks at them (specs/Check.antt) are those of its definition (specs/Sound.antt).
+use Rattle.std.specs.Prelude.{if◌then◌else◌}
 use mathlib.Core.Path.{◌≡◌, refl, sym, ap}
 use mathlib.Core.Bool.{Bool, true, false, ◌&&◌, ◌||◌, and-true, true≢false}
 use mathlib.Core.List.{List, [], ◌∷◌, map}
@@ -9,7 +10,7 @@ use lib.ListN.{length, take, drop, length-drop}
 use lib.Seq.{length-take-le}
 use lib.Dec.{T, leb, ltb, eqb, leb→le, le→leb, ltb→lt, lt→ltb, eqb→eq}
 use borrow.Author.Tests.{le-leb, ne_eqb, eqb-true}
-use Rattle.tokenizer.specs.Text.{if◌then◌else◌, is_empty}
+use Rattle.tokenizer.specs.Text.{is_empty}
 use Rattle.tokenizer.specs.Utf8.{is_utf8, utf8_state, utf8_step}
 use Rattle.tokenizer.proofs.Basics.{and_l, and_r, both, is_true, if_same}
 use Rattle.datatype.specs.Kind.{Shape, leaf, timestamp, time, interval, fixed, list, fixed_list, struct, union, dictionary, decimal, mapping, run_end_encoded, kinds, shape_of, ids_fit, entries_refusal}

@@ -1,7 +1,7 @@
 -- Sound trees, clause by clause (document 01, 'The row table'), and the depth of one.
-use Rattle.std.specs.Prelude.{Bool, true, false, ◌&&◌, ◌||◌, List, [], ◌∷◌, map, ℕ, zero, suc, ◌+◌, ◌^◌, length, leb, ltb, eqb}
+use Rattle.std.specs.Prelude.{Bool, true, false, ◌&&◌, ◌||◌, List, [], ◌∷◌, map, ℕ, zero, suc, ◌+◌, ◌^◌, length, leb, ltb, eqb, if◌then◌else◌}
 use Rattle.std.proofs.Math.Option.{Option, none, some}
-use Rattle.tokenizer.specs.Text.{if◌then◌else◌, same, is_empty}
+use Rattle.tokenizer.specs.Text.{same, is_empty}
 use Rattle.tokenizer.specs.Answer.{Out, done, refuse}
 use Rattle.tokenizer.specs.Utf8.{is_utf8}
 use Rattle.datatype.specs.Limits.{max_text, max_rows, max_levels}

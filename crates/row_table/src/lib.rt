@@ -13,7 +13,7 @@ pub use levels::depth_of;
 pub use sound::is_sound;
 
 // The depth of a sound tree.
-#[derive(Drop)]
+#[derive(Clone, Copy)]
 pub enum Depth {
     Levels(usize),
     Refused(u32),

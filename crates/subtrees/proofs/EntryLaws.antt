@@ -1,4 +1,5 @@
 -- Map's entries: each return of `map_entries.rt` as a law, and what is refused where the rows nest.
+use Rattle.std.specs.Prelude.{if◌then◌else◌}
 use mathlib.Core.Path.{◌≡◌, refl, sym, ap, ◌∙◌}
 use mathlib.Core.Bool.{Bool, true, false, ◌&&◌, false≢true}
 use mathlib.Core.List.{List, [], ◌∷◌, map}
@@ -10,7 +11,6 @@ use lib.ListN.{length, get_or}
 use lib.Dec.{leb, ltb, eqb, leb→le}
 use borrow.Author.Tests.{le-leb, lt-leb, lt-ltb, le-ltb, eq-eqb, ne_eqb, eqb-true, leb-true, leb-false, ltb-true, ltb-false}
 use Rattle.tokenizer.proofs.Basics.{and_l, and_r, of_true}
-use Rattle.tokenizer.specs.Text.{if◌then◌else◌}
 use Rattle.datatype.specs.Kind.{key_refusal, entries_refusal}
 use Rattle.datatype.specs.Tree.{roots}
 use Rattle.datatype.specs.Table.{row_words, rows_at}

@@ -1,4 +1,5 @@
 -- Union ids: the bits that are kept are the ids that were met, and no id was met twice where all ids are distinct.
+use Rattle.std.specs.Prelude.{if◌then◌else◌}
 use mathlib.Core.Path.{◌≡◌, refl, sym, ap, ◌∙◌}
 use mathlib.Core.Bool.{Bool, true, false, not, ◌&&◌, ◌||◌, and-true}
 use mathlib.Core.List.{List, [], ◌∷◌}
@@ -8,7 +9,6 @@ use lib.ListN.{length, get_or, set, replicate, length-set, get_or-replicate, get
 use lib.Seq.{get_or-set_same, get_or-set_other}
 use lib.Dec.{T, ltb, eqb, eqb→eq, ltb→lt}
 use borrow.Author.Tests.{eq-eqb, ne_eqb, eqb-true, eqb-false, ltb-false}
-use Rattle.tokenizer.specs.Text.{if◌then◌else◌}
 use Rattle.tokenizer.proofs.Basics.{and_l, and_r, of_true}
 use Rattle.datatype.specs.Kind.{has, ids_fit}
 use Rattle.subtrees.specs.Internal.Ids.{bit, is_kept, keep_id, fresh_ids}

@@ -5,6 +5,7 @@
 --   no_rows, forest-none   the run of no rows
 --   Is, is-run, run_is, nests-is, forest-is    rows i to i + n are the table of a forest, and what that says of the run
 --   nests-all, forest-all                      the whole table
+use Rattle.std.specs.Prelude.{if◌then◌else◌}
 use mathlib.Core.Path.{◌≡◌, refl, sym, ap, ◌∙◌, subst}
 use mathlib.Core.Bool.{Bool, true, false, ◌&&◌, true≢false}
 use mathlib.Core.List.{List, [], ◌∷◌}
@@ -15,7 +16,6 @@ use lib.ListN.{length, take, drop, get_or, length-take, length-drop}
 use lib.Seq.{drop-drop, take-take, take_all, take-nil, get_or-take, get_or-drop, length-take-le}
 use lib.Dec.{T, leb, leb→le}
 use borrow.Author.Tests.{le-leb}
-use Rattle.tokenizer.specs.Text.{if◌then◌else◌}
 use Rattle.tokenizer.proofs.Basics.{and_l, and_r, of_true}
 use Rattle.datatype.specs.Tree.{Forest, ∅, node, count, Row}
 use Rattle.datatype.specs.Table.{row_words, row_of, rows_word, table_of, join, view_with, view_of, rows_at}

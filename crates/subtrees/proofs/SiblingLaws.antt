@@ -1,6 +1,7 @@
 -- Rows that stand side by side: the first of them and the rest, and what they are where the rows nest.
 --   sibling-end, sibling-turn   no row before the end; one, and those behind its subtree
 --   sibling-roots               where the rows nest they are the roots of their trees
+use Rattle.std.specs.Prelude.{if◌then◌else◌}
 use mathlib.Core.Path.{◌≡◌, ap, ◌∙◌}
 use mathlib.Core.Bool.{◌&&◌}
 use mathlib.Core.List.{List, [], ◌∷◌, map}
@@ -12,7 +13,6 @@ use native.Mathlib.Omega.{arith}
 use lib.ListN.{length, get_or}
 use lib.Dec.{leb}
 use borrow.Author.Tests.{le-leb, lt-leb}
-use Rattle.tokenizer.specs.Text.{if◌then◌else◌}
 use Rattle.datatype.specs.Tree.{roots, Row}
 use Rattle.datatype.specs.Table.{row_words, rows_at}
 use Rattle.subtrees.specs.Siblings.{siblings}

@@ -1,4 +1,5 @@
 -- Union ids of rows that stand side by side: what the loop over them holds, and what they are where the rows nest.
+use Rattle.std.specs.Prelude.{if◌then◌else◌}
 use mathlib.Core.Path.{◌≡◌, refl, sym, ◌∙◌}
 use mathlib.Core.Bool.{Bool, true, false, not, ◌&&◌, and-false}
 use mathlib.Core.List.{List, [], ◌∷◌, map}
@@ -9,7 +10,6 @@ use native.Mathlib.Omega.{arith}
 use lib.ListN.{length, get_or}
 use lib.Dec.{leb, ltb}
 use borrow.Author.Tests.{le-leb, lt-leb, lt-ltb, le-ltb}
-use Rattle.tokenizer.specs.Text.{if◌then◌else◌}
 use Rattle.datatype.specs.Kind.{has, ids_fit}
 use Rattle.datatype.specs.Tree.{roots}
 use Rattle.datatype.specs.Table.{row_words, rows_at}

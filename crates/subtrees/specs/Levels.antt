@@ -1,7 +1,6 @@
 -- How many levels rows have (document 01, 'The row table'), by their subtrees alone.
-use Rattle.std.specs.Prelude.{List, ℕ, suc, min, leb}
+use Rattle.std.specs.Prelude.{List, ℕ, suc, min, leb, if◌then◌else◌}
 use Rattle.std.proofs.Math.Option.{Option, none, some}
-use Rattle.tokenizer.specs.Text.{if◌then◌else◌}
 use Rattle.datatype.specs.Limits.{max_levels}
 use Rattle.datatype.specs.Tree.{Forest, depth, Row}
 use Rattle.datatype.specs.Table.{view_of}

@@ -1,7 +1,6 @@
 -- Map's entries (document 01, 'The row table'), as a row of any table with its subtree.
-use Rattle.std.specs.Prelude.{List, [], ℕ, ◌+◌, ◌*◌, ◌-◌, length, get_or, leb}
+use Rattle.std.specs.Prelude.{List, [], ℕ, ◌+◌, ◌*◌, ◌-◌, length, get_or, leb, if◌then◌else◌}
 use Rattle.std.proofs.Math.Option.{Option, none, some}
-use Rattle.tokenizer.specs.Text.{if◌then◌else◌}
 use Rattle.datatype.specs.Kind.{entries_refusal}
 use Rattle.datatype.specs.Table.{row_words, rows_at}
 use Rattle.subtrees.specs.Siblings.{siblings}

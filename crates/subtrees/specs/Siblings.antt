@@ -1,7 +1,6 @@
 -- Rows that stand side by side in any table, sound or not: each behind the subtree of the one before.
-use Rattle.std.specs.Prelude.{◌&&◌, List, [], ◌∷◌, ℕ, zero, suc, ◌+◌, ◌*◌, length, get_or, leb}
+use Rattle.std.specs.Prelude.{◌&&◌, List, [], ◌∷◌, ℕ, zero, suc, ◌+◌, ◌*◌, length, get_or, leb, if◌then◌else◌}
 use Rattle.std.proofs.Math.Option.{Option, none, some, map}
-use Rattle.tokenizer.specs.Text.{if◌then◌else◌}
 use Rattle.datatype.specs.Table.{row_words, rows_at}
 
 -- Word k of the rows that stand side by side from row `at` up to row `end`: none where one is not in the table, or has

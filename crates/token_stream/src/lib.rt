@@ -10,7 +10,7 @@ ghost use Rattle.token_stream.specs.Count.{count_tokens};
 
 use tokenizer::{Token, TokenKind, next_token};
 
-#[derive(Drop)]
+#[derive(Clone, Copy)]
 pub struct Tokenizer<'a> {
     pub text: &'a [u8],
     pub at: usize,
@@ -63,7 +63,7 @@ pub fn token_from(text: &[u8], at: usize) -> Token
 
 // How many tokens are read one behind another, and what ends them: 5 at the text's end, else what the next token is
 // refused with.
-#[derive(Drop)]
+#[derive(Clone, Copy)]
 pub struct TokenCount {
     pub tokens: usize,
     pub refusal: u32,

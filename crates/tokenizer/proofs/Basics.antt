@@ -1,4 +1,5 @@
 -- Tests, choices and parts of lists: what the laws of every crate lean on.
+use Rattle.std.specs.Prelude.{if◌then◌else◌}
 use mathlib.Core.Path.{◌≡◌, refl, sym, ap, ◌∙◌, subst}
 use mathlib.Core.Bool.{Bool, true, false, not, ◌&&◌}
 use mathlib.Core.List.{List, [], ◌∷◌, ◌++◌}
@@ -6,7 +7,7 @@ use Prim.Native.Nat.{ℕ, zero, suc, ◌+◌}
 use lib.ListN.{length, take, drop}
 use lib.Seq.{drop-drop, drop-append_seam}
 use lib.Dec.{T}
-use Rattle.tokenizer.specs.Text.{all, if◌then◌else◌}
+use Rattle.tokenizer.specs.Text.{all}
 
 pub and_l : (a b : Bool) → T (a && b) → T a
 and_l true b t = tt

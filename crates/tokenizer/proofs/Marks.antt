@@ -1,4 +1,5 @@
 -- What callers know of the token at a place, from the definitions alone: by its first byte, its bounds and its values.
+use Rattle.std.specs.Prelude.{if◌then◌else◌}
 use mathlib.Core.Path.{◌≡◌, refl, sym, ap, ◌∙◌, subst}
 use mathlib.Core.Bool.{Bool, true, false, ◌&&◌, ◌||◌}
 use mathlib.Core.List.{List, [], ◌∷◌}
@@ -10,7 +11,7 @@ use lib.ListN.{length, drop, get_or, length-drop}
 use lib.Seq.{drop-cons}
 use lib.Dec.{T, leb, ltb, eqb, ltb→lt, leb→le, eqb→eq}
 use borrow.Author.Tests.{eqb-true, eqb-false, eq-eqb, ne_eqb, le-leb}
-use Rattle.tokenizer.specs.Text.{if◌then◌else◌, all, same}
+use Rattle.tokenizer.specs.Text.{all, same}
 use Rattle.tokenizer.specs.Words.{Listed, words, find}
 use Rattle.tokenizer.specs.Token.{lparen, rparen, comma, colon, integer, double_quoted, single_quoted, type_word, time_unit, interval_unit, union_mode, map_sorted, nullability, no_token, sort_of, value_of, token, is_separator, word_of, is_digit, number_from, is_number, number_kind, word_kind, until_quote, string_token, token_at}
 use Rattle.tokenizer.specs.Places.{after_spaces}

@@ -1,4 +1,5 @@
 -- Spaces, words and quoted strings at a place of a text: what a loop meets there.
+use Rattle.std.specs.Prelude.{if◌then◌else◌}
 use mathlib.Core.Path.{◌≡◌, refl, sym, ap, ◌∙◌}
 use mathlib.Core.Bool.{Bool, true, false}
 use mathlib.Core.List.{List, [], ◌∷◌}
@@ -10,7 +11,6 @@ use lib.ListN.{length, take, drop, get_or, drop_of_length-le, length-drop}
 use lib.Seq.{drop-cons}
 use lib.Dec.{eqb}
 use borrow.Author.Tests.{eq-eqb, ne_eqb, eqb-false}
-use Rattle.tokenizer.specs.Text.{if◌then◌else◌}
 use Rattle.tokenizer.specs.Token.{token, is_separator, word_of, word_kind, escaped_after, until_quote, string_token}
 use Rattle.tokenizer.specs.Places.{spaces_from, after_spaces}
 use Rattle.tokenizer.specs.Internal.Ends.{word_end, closes, place_or, quote_end}

@@ -1,4 +1,5 @@
 -- Strings: bytes that are passed over, and the mark that ends a string.
+use Rattle.std.specs.Prelude.{if◌then◌else◌}
 use mathlib.Core.Path.{◌≡◌, refl, sym, ap, ◌∙◌}
 use mathlib.Core.Bool.{Bool, true, false}
 use mathlib.Core.List.{List}
@@ -6,7 +7,6 @@ use Prim.Native.Nat.{ℕ, ◌+◌, ◌≤◌, ◌<◌}
 use native.Mathlib.Omega.{arith}
 use lib.ListN.{length, get_or}
 use borrow.Author.Tests.{eq-eqb, ne_eqb}
-use Rattle.tokenizer.specs.Text.{if◌then◌else◌}
 use Rattle.tokenizer.specs.Token.{escaped_after}
 use Rattle.tokenizer.specs.Internal.Ends.{closes, quote_end}
 use Rattle.tokenizer.proofs.Runs.{quote-stop, quote-go}

@@ -1,4 +1,5 @@
 -- A walk through the table of the listed words: every word ends at the token that `find` gives it.
+use Rattle.std.specs.Prelude.{if◌then◌else◌}
 use mathlib.Core.Path.{◌≡◌, refl, sym, ap, ◌∙◌}
 use mathlib.Core.Bool.{Bool, true, false, not, ◌&&◌, ◌||◌}
 use mathlib.Core.List.{List, [], ◌∷◌}
@@ -10,7 +11,7 @@ use lib.ListN.{length, drop, get_or, get_or-eq_default}
 use lib.Seq.{get_or-drop}
 use lib.Dec.{T, eqb}
 use borrow.Author.Tests.{eq-eqb, eqb-true, lt-ltb, le-ltb}
-use Rattle.tokenizer.specs.Text.{if◌then◌else◌, same}
+use Rattle.tokenizer.specs.Text.{same}
 use Rattle.tokenizer.specs.Words.{Listed, words, find}
 use Rattle.tokenizer.specs.Edges.{places, edges}
 use Rattle.tokenizer.specs.WordTable.{edge_of, leads_on, step, ending, walk, token_of_number, walk_kind}

@@ -1,6 +1,5 @@
 -- Places of a text: where the spaces end.
-use Rattle.std.specs.Prelude.{List, [], ◌∷◌, ℕ, ◌+◌, drop, eqb}
-use Rattle.tokenizer.specs.Text.{if◌then◌else◌}
+use Rattle.std.specs.Prelude.{List, [], ◌∷◌, ℕ, ◌+◌, drop, eqb, if◌then◌else◌}
 
 -- The first place that holds no space, in a text whose part from the place `at` on is the list.
 unfoldable pub spaces_from : ℕ → List ℕ → ℕ

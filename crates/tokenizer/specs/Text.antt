@@ -1,14 +1,8 @@
 -- Texts as lists of bytes, and tests on them.
-use Rattle.std.specs.Prelude.{Bool, true, false, ◌&&◌, List, [], ◌∷◌, ◌++◌, ℕ, ◌+◌, ◌/◌, ◌%◌, leb, ltb, eqb}
+use Rattle.std.specs.Prelude.{if◌then◌else◌, Bool, true, false, ◌&&◌, List, [], ◌∷◌, ◌++◌, ℕ, ◌+◌, ◌/◌, ◌%◌, leb, ltb, eqb}
 use Prim.Native.Char.{code}
 use Prim.Native.String.{String}
 use Prim.Native.String as S
-
--- One of two values, by a test. Both are computed: a recursive call stands in a `let`, which waits.
-infix 20 if◌then◌else◌
-abbrev pub if◌then◌else◌ : {X : Type 0} → Bool → X → X → X
-if◌then◌else◌ true x y = x
-if◌then◌else◌ false x y = y
 
 -- The UTF-8 bytes of a scalar value.
 abbrev pub utf8 : ℕ → List ℕ

@@ -1,7 +1,7 @@
 -- Tokens (document 01, 'Tokens').
-use Rattle.std.specs.Prelude.{Bool, true, false, not, ◌&&◌, ◌||◌, List, [], ◌∷◌, ℕ, zero, suc, ◌+◌, ◌*◌, ◌-◌, ◌^◌, length, drop, leb, eqb}
+use Rattle.std.specs.Prelude.{Bool, true, false, not, ◌&&◌, ◌||◌, List, [], ◌∷◌, ℕ, zero, suc, ◌+◌, ◌*◌, ◌-◌, ◌^◌, length, drop, leb, eqb, if◌then◌else◌}
 use Rattle.std.proofs.Math.Option.{Option, none, some, map}
-use Rattle.tokenizer.specs.Text.{if◌then◌else◌, all}
+use Rattle.tokenizer.specs.Text.{all}
 use Rattle.tokenizer.specs.Words.{words, find}
 use Rattle.tokenizer.specs.declared.Token.{Token}
 use Rattle.tokenizer.specs.declared.TokenKind.{TokenKind}

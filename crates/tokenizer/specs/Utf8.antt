@@ -1,7 +1,6 @@
 -- UTF-8 as a Rust `&str` has it: no surrogates, no overlong forms, nothing above U+10FFFF.
 -- An automaton over the bytes, so that what is UTF-8 in two parts is UTF-8 when they are joined.
-use Rattle.std.specs.Prelude.{Bool, ◌&&◌, List, [], ◌∷◌, ℕ, leb, ltb, eqb}
-use Rattle.tokenizer.specs.Text.{if◌then◌else◌}
+use Rattle.std.specs.Prelude.{Bool, ◌&&◌, List, [], ◌∷◌, ℕ, leb, ltb, eqb, if◌then◌else◌}
 
 -- The states: between characters; one, two or three more bytes of any value; the byte behind E0, ED, F0 or F4, whose
 -- range is narrower; and no UTF-8 any more.

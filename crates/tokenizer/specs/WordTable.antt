@@ -3,8 +3,7 @@
 -- Each number of a table is an edge. That of a state and a byte stands at the place that is their sum, as 256 * d + byte, and
 -- leads to the state d + byte. A word's end is the edge of a space, which no word holds: there d is the number of the
 -- word's token. A place without an edge has 32, the space's edge to no token, and so has every place behind the table.
-use Rattle.std.specs.Prelude.{Bool, true, false, not, ◌&&◌, ◌||◌, List, [], ◌∷◌, ℕ, ◌+◌, ◌-◌, ◌/◌, ◌%◌, length, drop, get_or, ltb, eqb}
-use Rattle.tokenizer.specs.Text.{if◌then◌else◌}
+use Rattle.std.specs.Prelude.{Bool, true, false, not, ◌&&◌, ◌||◌, List, [], ◌∷◌, ℕ, ◌+◌, ◌-◌, ◌/◌, ◌%◌, length, drop, get_or, ltb, eqb, if◌then◌else◌}
 use Rattle.tokenizer.specs.Edges.{places}
 use Rattle.tokenizer.specs.Token.{token, is_separator, word_of, is_digit, number_kind, token_at}
 use Rattle.tokenizer.specs.Places.{after_spaces}

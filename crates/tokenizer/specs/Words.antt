@@ -1,7 +1,7 @@
 -- The listed words: those in the Rust's `parse_word`, in one list.
-use Rattle.std.specs.Prelude.{List, [], ◌∷◌, ℕ}
+use Rattle.std.specs.Prelude.{List, [], ◌∷◌, ℕ, if◌then◌else◌}
 use Prim.Native.String.{String}
-use Rattle.tokenizer.specs.Text.{bytes, same, if◌then◌else◌}
+use Rattle.tokenizer.specs.Text.{bytes, same}
 use Rattle.tokenizer.specs.declared.TokenKind.{TokenKind}
 use Rattle.tokenizer.specs.declared.TokenKind.TheVariants.{DataType, TimeUnit, IntervalUnit, UnionMode, MapSorted, Nullability, Field, Some, None, X, Refused}
 

@@ -14,7 +14,7 @@ pub use tokenizer::{is_separator, next_token, next_token_by, skip_spaces};
 pub use utf8::is_utf8;
 
 // What a token is.
-#[derive(Drop)]
+#[derive(Clone, Copy)]
 pub enum TokenKind {
     LParen,
     RParen,
@@ -42,7 +42,7 @@ pub enum TokenKind {
 
 // A token, where it starts, how long it is, and the place behind it. Start and length of a quoted string are those of
 // the bytes between its marks.
-#[derive(Drop)]
+#[derive(Clone, Copy)]
 pub struct Token {
     pub kind: TokenKind,
     pub start: usize,

@@ -1,4 +1,5 @@
 -- Answering lines: whatever follows in the input, what is printed at last stays the same.
+use Rattle.std.specs.Prelude.{if◌then◌else◌}
 use mathlib.Core.Path.{◌≡◌, refl, sym, ap, ◌∙◌, subst}
 use mathlib.Core.Bool.{Bool, true, false, ◌&&◌}
 use mathlib.Core.List.{List, [], ◌∷◌, ◌++◌, append_assoc, append-nil}
@@ -11,7 +12,7 @@ use lib.Dec.{eqb, leb}
 use types.Run.{OneOf}
 use denote.Enum.Declared.{tag_of}
 use borrow.Author.Tests.{le-leb}
-use Rattle.tokenizer.specs.Text.{bytes, if◌then◌else◌}
+use Rattle.tokenizer.specs.Text.{bytes}
 use Rattle.answer_line.specs.Line.{line_answer, line_words, lines_of, answers, output, before_newline, line_end, line_answered, line_out, answered_means, answer_bytes}
 use Rattle.answer_line.specs.declared.Answered.{Answered}
 use Rattle.answer_line.specs.declared.Answered.TheVariants.{Bytes, NoRoom}

@@ -11,6 +11,8 @@ ghost use Rattle.type_lines.specs.Turns.{Handed, ReadOn, Running, GoesOn, LastLi
 ghost use Rattle.datatype.specs.Limits.{max_text};
 
 use answer_line::{ANSWER_BYTES, LINE_WORDS};
+use std::io;
+use std::io::{Cursor, Read, Write};
 
 mod lines;
 
@@ -66,29 +68,66 @@ fn row_words() -> [u32; LINE_WORDS]
     [0; LINE_WORDS]
 }
 
+// 65,536 zeros, for the input or the output.
+fn large_buffer() -> [u8; 65536]
+    ensures { 65536 ≡ length result }
+{
+    [0; 65536]
+}
+
+// How many bytes of an error's text say why: the error's number stands behind them in brackets.
+fn reason_length(text: &[u8]) -> usize
+    ensures { result ≤ length text.now }
+{
+    for i in (1..text.len()).rev() {
+        if text[i] == b'(' {
+            return i - 1;
+        }
+    }
+    text.len()
+}
+
+// Writes a line to standard error: what failed, a colon and why.
+fn fail(rt: &HostRuntime, what: &str, error: io::Error) -> io::Result<()> {
+    let mut text = Cursor::new([0u8; 320]);
+    text.write_fmt(error)?;
+    let size = text.position();
+    let bytes = text.into_inner();
+    let mut stderr = rt.stderr();
+    stderr.write_fmt(what)?;
+    stderr.write_fmt(": ")?;
+    if size <= 320 {
+        stderr.write_all(&bytes[..reason_length(&bytes[..size as usize])])?;
+    }
+    stderr.write_fmt("\n")
+}
+
 // Writes so many bytes at the front of the output to standard output; where that fails, says so.
-fn flush(out: &[u8], n: usize) -> Written
+fn flush(rt: &HostRuntime, out: &[u8], n: usize) -> Written
     requires { n ≤ length out.now }
     ensures { Handed result n }
 {
-    if io::write_all(libc::STDOUT_FILENO, &out[..n]) {
-        return Written::All(n);
+    match rt.write_all(&out[..n]) {
+        Ok(()) => Written::All(n),
+        Err(error) => {
+            let _ = fail(rt, "type_lines: writing standard output", error);
+            Written::NotAll
+        }
     }
-    os::fail(b"type_lines: writing standard output");
-    Written::NotAll
 }
 
 // Reads more behind so many bytes of the input, an unfinished line.
-fn read_on(input: &mut [u8], left: usize, skip: bool, wrote: usize) -> After
+fn read_on(rt: &HostRuntime, input: &mut [u8], left: usize, skip: bool, wrote: usize) -> After
     requires { left < length input.old }
     ensures { ReadOn result input.old left skip wrote input.new }
 {
-    let got = libc::read(libc::STDIN_FILENO, &mut input[left..]);
-    if got < 0 {
-        os::fail(b"type_lines: reading standard input");
-        return After::Failed;
-    }
-    let n = io::count(got, &input[left..]);
+    let n = match rt.stdin().read(&mut input[left..]) {
+        Ok(n) => n,
+        Err(error) => {
+            let _ = fail(rt, "type_lines: reading standard input", error);
+            return After::Failed;
+        }
+    };
     let next = Turn {
         filled: left + n,
         from: 0,
@@ -103,7 +142,7 @@ fn read_on(input: &mut [u8], left: usize, skip: bool, wrote: usize) -> After
 }
 
 // One turn: answers what can be answered and writes the answers; then reads more, unless the output was short of room.
-fn take_turn(input: &mut [u8], t: Turn, rows: &mut [u32], out: &mut [u8]) -> After
+fn take_turn(rt: &HostRuntime, input: &mut [u8], t: Turn, rows: &mut [u32], out: &mut [u8]) -> After
     requires { Running input.old t rows.old out.old }
     ensures { GoesOn t input.old out.old result input.new out.new }
 {
@@ -114,12 +153,12 @@ fn take_turn(input: &mut [u8], t: Turn, rows: &mut [u32], out: &mut [u8]) -> Aft
         skip: t.skip,
     };
     let q = lines::answer_lines(&input[..filled], p, rows, out);
-    let Written::All(wrote) = flush(out, q.wrote) else {
+    let Written::All(wrote) = flush(rt, out, q.wrote) else {
         return After::Failed;
     };
     if wrote <= out.len() - ANSWER_BYTES {
         let left = lines::move_left(input, q.from, filled);
-        return read_on(input, left, q.skip, wrote);
+        return read_on(rt, input, left, q.skip, wrote);
     }
     After::More(Turn {
         filled: filled,
@@ -131,19 +170,19 @@ fn take_turn(input: &mut [u8], t: Turn, rows: &mut [u32], out: &mut [u8]) -> Aft
 }
 
 // Answers what is left at the end of the input, and writes the answer.
-fn finish(line: &[u8], skip: bool, rows: &mut [u32], out: &mut [u8]) -> Ending
+fn finish(rt: &HostRuntime, line: &[u8], skip: bool, rows: &mut [u32], out: &mut [u8]) -> Ending
     requires { Room rows.old out.old × Unfinished line.now }
     ensures { LastLine line.now skip result out.new }
 {
     let n = lines::answer_last(line, skip, rows, out);
-    let Written::All(wrote) = flush(out, n) else {
+    let Written::All(wrote) = flush(rt, out, n) else {
         return Ending::Broken;
     };
     Ending::Done(wrote)
 }
 
 // Turns until the input ends. Each reads or writes a byte, so that their number never runs out.
-fn run(input: &mut [u8], rows: &mut [u32], out: &mut [u8]) -> Ending
+fn run(rt: &HostRuntime, input: &mut [u8], rows: &mut [u32], out: &mut [u8]) -> Ending
     requires { (max_text < length input.old) × Room rows.old out.old }
     ensures { Ran result out.new }
 {
@@ -156,10 +195,10 @@ fn run(input: &mut [u8], rows: &mut [u32], out: &mut [u8]) -> Ending
     };
     let mut turns: u64 = 0;
     while turns < u64::MAX {
-        let after = take_turn(input, t, rows, out);
+        let after = take_turn(rt, input, t, rows, out);
         if let After::End(last) = after {
             let left = last.filled;
-            return finish(&input[..left], last.skip, rows, out);
+            return finish(rt, &input[..left], last.skip, rows, out);
         }
         let After::More(next) = after else {
             return Ending::Broken;
@@ -170,9 +209,9 @@ fn run(input: &mut [u8], rows: &mut [u32], out: &mut [u8]) -> Ending
     Ending::Limit(turns)
 }
 
-fn main() {
-    let mut input = io::large_buffer();
+fn main(rt: HostRuntime) {
+    let mut input = large_buffer();
     let mut rows = row_words();
-    let mut out = io::large_buffer();
-    run(&mut input, &mut rows, &mut out);
+    let mut out = large_buffer();
+    run(&rt, &mut input, &mut rows, &mut out);
 }

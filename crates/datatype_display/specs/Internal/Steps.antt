@@ -1,8 +1,8 @@
 -- What the printer's private functions promise; nothing here has to be believed, since no public function's contract
 -- cites it.
-use Rattle.std.specs.Prelude.{◌≡◌, Bool, true, false, not, ◌&&◌, ◌||◌, List, [], ◌∷◌, ◌++◌, ℕ, ◌+◌, ◌-◌, ◌*◌, ◌/◌, ◌%◌, ◌≤◌, ◌<◌, length, get_or, take, drop, T, leb, ltb, eqb}
+use Rattle.std.specs.Prelude.{◌≡◌, Bool, true, false, not, ◌&&◌, ◌||◌, List, [], ◌∷◌, ◌++◌, ℕ, ◌+◌, ◌-◌, ◌*◌, ◌/◌, ◌%◌, ◌≤◌, ◌<◌, length, get_or, take, drop, T, leb, ltb, eqb, if◌then◌else◌}
 use Rattle.std.proofs.lemmas.List.Edits.{sets}
-use Rattle.tokenizer.specs.Text.{bytes, if◌then◌else◌}
+use Rattle.tokenizer.specs.Text.{bytes}
 use Rattle.datatype.specs.Limits.{max_rows}
 use Rattle.datatype.specs.Kind.{Shape, kinds, shape_of}
 use Rattle.datatype.specs.Tree.{Forest, depth, Label, label_of, labels}
@@ -121,7 +121,7 @@ pub record Trees (text names table : List ℕ) (place : Standing) (level at end 
 -- Row i is there with its subtree and fits in its place; there are at most so many levels below it.
 pub record Subtree (text names table : List ℕ) (level i : ℕ) : Type 0 where
   pub place : Standing
-  pub some-rows : 1 ≤ rows_at table i
+  pub some_rows : 1 ≤ rows_at table i
   pub row : T (row_fits place (label_at text names table i) (kids_at text names table i))
   pub below : Trees text names table (place_below (label_at text names table i)) level (i + 1) (i + rows_at table i)
 

@@ -1,7 +1,7 @@
 -- What private functions of this crate promise; nothing here has to be believed, since no public function's contract
 -- cites it.
-use Rattle.std.specs.Prelude.{◌≡◌, Bool, true, false, not, ◌&&◌, ◌||◌, List, [], ◌∷◌, ℕ, ◌+◌, ◌-◌, ◌*◌, ◌≤◌, ◌<◌, length, get_or, T, leb, eqb}
-use Rattle.tokenizer.specs.Text.{all, if◌then◌else◌}
+use Rattle.std.specs.Prelude.{◌≡◌, Bool, true, false, not, ◌&&◌, ◌||◌, List, [], ◌∷◌, ℕ, ◌+◌, ◌-◌, ◌*◌, ◌≤◌, ◌<◌, length, get_or, T, leb, eqb, if◌then◌else◌}
+use Rattle.tokenizer.specs.Text.{all}
 use Rattle.datatype.specs.Limits.{max_text, max_rows}
 use Rattle.datatype.specs.Kind.{Shape, leaf, timestamp, time, interval, fixed, list, fixed_list, struct, union, dictionary, decimal, mapping, run_end_encoded, shape_of}
 use Rattle.datatype.specs.Tree.{Forest, ∅, node, roots, depth, Label, zone_of, label_of, labels}
@@ -26,7 +26,7 @@ depth_below table i = depth (forest_at table (i + 1) (i + rows_at table i - (i +
 
 -- Row i is there with its subtree, which nests and has fewer than so many levels below it.
 pub record Subtree (table : List ℕ) (level i : ℕ) : Type 0 where
-  pub some-rows : 1 ≤ rows_at table i
+  pub some_rows : 1 ≤ rows_at table i
   pub room : row_words * (i + rows_at table i) ≤ length table
   pub nests : Nests table (i + 1) (i + rows_at table i - (i + 1))
   pub few : i + rows_at table i ≤ max_rows

@@ -1,8 +1,7 @@
 -- How `verdict` finds its way: one scan over the rows in their order, with what is asked of the next row. Contracts of
 -- private functions cite these; nothing here has to be believed, since `verdict`'s own contract does not.
-use Rattle.std.specs.Prelude.{List, [], ◌∷◌, ℕ, zero, suc, get_or}
+use Rattle.std.specs.Prelude.{List, [], ◌∷◌, ℕ, zero, suc, get_or, if◌then◌else◌}
 use Rattle.std.proofs.Math.Option.{Option, none, some}
-use Rattle.tokenizer.specs.Text.{if◌then◌else◌}
 use Rattle.datatype.specs.Kind.{shape_of}
 use Rattle.layout.specs.Layout.{Asked, anything, key, run_end, kind_allowed, asked_of_first}
 

@@ -1,4 +1,3 @@
-use Prim.Native.Nat.{◌-◌}
 use mathlib.Core.Path.{sym}
 use native.Mathlib.Omega.{arith}
 use Rattle.output.proofs.Writes.{sets_out, copied-start, copied-length, copied-read, copied-room, copied_more, copied_all}

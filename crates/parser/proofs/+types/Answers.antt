@@ -1,77 +1,22 @@
-use Rattle.parser.proofs.+types.Proof.ParseDictionary as parse-dictionary-proof
-use Rattle.parser.proofs.+types.Proof.ParseField as parse-field-proof
-use Rattle.parser.proofs.+types.Proof.ParseFixedSizeList as parse-fixed-size-list-proof
-use Rattle.parser.proofs.+types.Proof.ParseList as parse-list-proof
-use Rattle.parser.proofs.+types.Proof.ParseListField as parse-list-field-proof
-use Rattle.parser.proofs.+types.Proof.ParseMap as parse-map-proof
-use Rattle.parser.proofs.+types.Proof.ParseNextType as parse-next-type-proof
-use Rattle.parser.proofs.+types.Proof.ParseRunEndEncoded as parse-run-end-encoded-proof
-use Rattle.parser.proofs.+types.Proof.ParseStruct as parse-struct-proof
-use Rattle.parser.proofs.+types.Proof.ParseUnion as parse-union-proof
-use Rattle.parser.proofs.+types.Proof.ParseUnionField as parse-union-field-proof
-use Rattle.parser.proofs.+types.Proof.ReeFields as ree-fields-proof
-use Rattle.parser.proofs.+types.Proof.ReeTypes as ree-types-proof
-use Rattle.parser.proofs.Readers.{room_below}
-use Rattle.parser.proofs.Answers.{got_step, got-tree, lost_step, lost-tree}
-use Rattle.parser.proofs.Parents.{dictionary-1, dictionary-2, dictionary-3, dictionary-4, dictionary-5}
-use Rattle.parser.proofs.Readers.{meets-lost, meets-refused, room-front, room-more, tree-most}
+use Rattle.parser.proofs.Readers.{room_below, meets-lost, meets-refused, room-front, room-more, tree-most, field-1, field-2, field-3, field-5, row_inside, tree-some, list-field-1, list-field-2, list-field-3, list-field-4, fields_most, room-behind, default-1, default-tree}
+use Rattle.parser.proofs.Answers.{got_step, got-tree, lost_step, lost-tree, got_quoted, lost_quoted, got_look, got_value, lost_look, lost_value, got-fields, lost-fields, got_number, lost_number}
+use Rattle.parser.proofs.Parents.{dictionary-1, dictionary-2, dictionary-3, dictionary-4, dictionary-5, fixed-list-1, fixed-list-2, fixed-list-3, fixed-list-4, list-1, list-2, list-3, map-1, map-2, map-3, map-4, map-5, map-6, run-end-1, run-end-2, run-end-3}
 use borrow.Author.Rules.{rules}
-use mathlib.Core.Path.{◌∙◌, sym}
+use mathlib.Core.Path.{◌∙◌, sym, refl, ap}
 use native.Mathlib.Omega.{arith}
-use Rattle.parser.proofs.Answers.{got_quoted, got_step, got-tree, lost_quoted, lost_step, lost-tree}
-use Rattle.parser.proofs.Readers.{field-1, field-2, field-3, field-5, meets-lost, meets-refused, row_inside, tree-most, tree-some}
-use Rattle.parser.proofs.ZoneLaws.{name-fits}
-use Rattle.parser.proofs.Answers.{got_look, got_step, got-tree, got_value, lost_look, lost_step, lost-tree, lost_value}
-use Rattle.parser.proofs.FieldLaws.{fixed-comma, fixed-other, fixed_plain, fixed-x}
-use Rattle.parser.proofs.Looks.{refused-stands}
-use Rattle.parser.proofs.Parents.{fixed-list-1, fixed-list-2, fixed-list-3, fixed-list-4}
-use Rattle.parser.proofs.Readers.{meets-lost, meets-refused, room-front, row_inside, tree-most, tree-some}
-use mathlib.Core.Path.{◌∙◌, refl, sym}
-use Rattle.parser.proofs.Parents.{list-1, list-2, list-3}
-use Rattle.parser.proofs.Readers.{meets-lost, meets-refused, room-front, tree-most}
-use Rattle.parser.proofs.Answers.{got_look, got_quoted, got-tree, lost_look, lost_quoted, lost-tree}
-use Rattle.parser.proofs.Looks.{needed-stands, refused-stands}
-use Rattle.parser.proofs.Readers.{list-field-1, list-field-2, list-field-3, list-field-4, meets-lost, meets-refused, row_inside, tree-most, tree-some}
-use Rattle.parser.proofs.ZoneLaws.{list-name-fits}
-use Rattle.parser.proofs.Answers.{got_step, got-tree, got_value, lost_step, lost-tree, lost_value}
-use Rattle.parser.proofs.Entries.{below-fits, entries-are}
-use Rattle.parser.proofs.Parents.{map-1, map-2, map-3, map-4, map-5, map-6}
+use Rattle.parser.proofs.ZoneLaws.{name-fits, list-name-fits, number-limit}
+use Rattle.parser.proofs.FieldLaws.{fixed-comma, fixed-other, fixed_plain, fixed-x, run-ends-long, run-ends-short, struct-end, struct-field-1, struct_more, union-end, union-lost, union_more, union-open, union-1, union-2, union-3, union-4, union-5, union-6, fields-lost, fields-refused, long-1, long-2, long-3, long-4, long-5, short-1, short-2, short-3, short-4, short-5}
+use Rattle.parser.proofs.Looks.{refused-stands, needed-stands}
+use Rattle.parser.proofs.Entries.{below-fits, entries-are, ids-read, role-are, tree-asks}
 use Rattle.datatype.proofs.ShapeLaws.{shapes_of}
 use Rattle.datatype.specs.Kind.{decimal, dictionary, fixed, fixed_list, interval, list, mapping, run_end_encoded, shape_of, struct, time, timestamp, union}
-use Rattle.parser.proofs.Answers.{got_value, lost_value}
-use Rattle.parser.proofs.Readers.{meets-refused}
-use Rattle.parser.proofs.Types.{decimal_kind, leaf_asks, leaf_high, leaf_low, leaf_mid, list_kind, room_less, room_one, time_kind, type-childless, type-deep, type-full, type-leaf, type-parent, type-word}
+use Rattle.parser.proofs.Types.{decimal_kind, leaf_asks, leaf_high, leaf_low, leaf_mid, list_kind, room_less, room_one, time_kind, type-childless, type-deep, type-full, type-leaf, type-parent, type-word, struct-1, struct-2, struct-3, struct-4, union-at-1, union-at-2, union-at-3, union-at-4, union-at-5}
 use Rattle.parser.specs.Parse.{shape_at}
-use mathlib.Core.Logic.{⊎_elim}
-use mathlib.Core.Path.{◌∙◌, ap, sym}
-use Rattle.parser.proofs.Answers.{got-fields, got_step, lost-fields, lost_step}
-use Rattle.parser.proofs.FieldLaws.{run-ends-long, run-ends-short}
-use Rattle.parser.proofs.Parents.{run-end-1, run-end-2, run-end-3}
-use Rattle.parser.proofs.Readers.{fields_most, meets-lost, meets-refused, room-front}
-use Prim.Native.Nat.{◌-◌}
-use Rattle.parser.proofs.Answers.{got_look, got_step, got-tree, lost_look, lost_step, lost-tree}
-use Rattle.parser.proofs.FieldLaws.{struct-end, struct-field-1, struct_more}
 use Rattle.parser.proofs.Loops.{grown-most, loop-end, loop_front, loop-length, loop-lost, loop-more, loop-room, loop-start, turn-less}
-use Rattle.parser.proofs.Readers.{meets-lost, meets-refused, room_below, room-front}
-use Rattle.parser.proofs.Types.{struct-1, struct-2, struct-3, struct-4}
-use Rattle.parser.proofs.Entries.{below-fits, ids-read}
-use Rattle.parser.proofs.FieldLaws.{union-end, union-lost, union_more, union-open}
-use Rattle.parser.proofs.Readers.{meets-lost, meets-refused, room_below}
-use Rattle.parser.proofs.Types.{union-at-1, union-at-2, union-at-3, union-at-4, union-at-5}
 use borrow.Author.Tests.{not-false, not-true}
-use Rattle.parser.proofs.Answers.{got_number, got_step, got-tree, lost_number, lost_step, lost-tree}
-use Rattle.parser.proofs.FieldLaws.{union-1, union-2, union-3, union-4, union-5, union-6}
-use Rattle.parser.proofs.Readers.{meets-lost, meets-refused}
 use Rattle.parser.proofs.Values.{id-is}
-use Rattle.parser.proofs.ZoneLaws.{number-limit}
-use Rattle.parser.proofs.Entries.{role-are, tree-asks}
-use Rattle.parser.proofs.FieldLaws.{fields-lost, fields-refused, long-1, long-2, long-3, long-4, long-5}
-use Rattle.parser.proofs.Readers.{room-behind, tree-most}
-use Rattle.parser.proofs.FieldLaws.{fields-lost, fields-refused, short-1, short-2, short-3, short-4, short-5}
-use Rattle.parser.proofs.Readers.{default-1, default-tree, room-behind, row_inside, tree-most, tree-some}
+use Rattle.parser.proofs.+types.Goals.{parse_next_type-in_default-via-then-kind-lt16, parse_next_type-in_default-via-else-kind-lt16+else-kind-lt19+then-kind-lt27, parse_next_type-in_default-via-else-kind-lt16+else-kind-lt19+else-kind-lt27+else-kind-lt32+else-kind-lt39}
 use Rattle.parser.proofs.+types.Goals as goal
-
--- MEASURES: see the old Frame
 
 pub parse_dictionary-returns-in-Refused : goal.parse_dictionary-returns-in-Refused
 parse_dictionary-returns-in-Refused t c = meets-refused _ _ _ _ _ _ (dictionary-1 _ _ _ _ _ _ (lost_step _ _ (sym c.in-Refused.is ∙ c.expect_token.ensures)))
@@ -92,7 +37,7 @@ pub parse_dictionary-overflow_sub-left : goal.parse_dictionary-overflow_sub-left
 parse_dictionary-overflow_sub-left t c = tree-most _ _ _ _ _ _ _ (got-tree _ _ _ _ _ _ _ _ c.parse_next_type-key.ensures c.in-Tree.is)
 
 pub parse_dictionary-parse_next_type-value-requires : goal.parse_dictionary-parse_next_type-value-requires
-parse_dictionary-parse_next_type-value-requires t c = (omega arith, (room-more _ _ _ _ _ c.requires.room c.parse_next_type-key.auto.1.1.0 _ (tree-most _ _ _ _ _ _ _ (got-tree _ _ _ _ _ _ _ _ c.parse_next_type-key.ensures c.in-Tree.is)), c.requires.words_value))
+parse_dictionary-parse_next_type-value-requires t c = (omega arith, (room-more _ _ _ _ _ c.requires.room c.parse_next_type-key.auto.rows _ (tree-most _ _ _ _ _ _ _ (got-tree _ _ _ _ _ _ _ _ c.parse_next_type-key.ensures c.in-Tree.is)), c.requires.words_value))
 
 pub parse_dictionary-returns-in_default-value : goal.parse_dictionary-returns-in_default-value
 parse_dictionary-returns-in_default-value t c = let o = got_step _ _ (sym c.in-Next.is ∙ c.expect_token.ensures) in let d = got_step _ _ (sym c.in-Next-expect_token.is ∙ c.expect_token-2.ensures) in meets-lost _ _ _ _ _ _ _ c.in_default-value.is (dictionary-4 _ _ _ _ _ o.0 _ o.1 _ _ _ _ _ (got-tree _ _ _ _ _ _ _ _ c.parse_next_type-key.ensures c.in-Tree.is) d.0 _ d.1 _ (lost-tree _ _ _ _ _ _ _ c.parse_next_type-value.ensures c.in_default-value.is))
@@ -101,7 +46,7 @@ pub parse_dictionary-overflow_add-used : goal.parse_dictionary-overflow_add-used
 parse_dictionary-overflow_add-used t c = omega (arith, tree-most _ _ _ _ _ _ _ (got-tree _ _ _ _ _ _ _ _ c.parse_next_type-key.ensures c.in-Tree.is), tree-most _ _ _ _ _ _ _ (got-tree _ _ _ _ _ _ _ _ c.parse_next_type-value.ensures c.in-Tree-value.is), c.requires.room.small)
 
 pub parse_dictionary-close-requires : goal.parse_dictionary-close-requires
-parse_dictionary-close-requires t c = record { room = room-front _ _ _ _ _ c.requires.room (c.parse_next_type-value.auto.1.1.0 ∙ c.parse_next_type-key.auto.1.1.0) _ (omega (arith, tree-most _ _ _ _ _ _ _ (got-tree _ _ _ _ _ _ _ _ c.parse_next_type-key.ensures c.in-Tree.is), tree-most _ _ _ _ _ _ _ (got-tree _ _ _ _ _ _ _ _ c.parse_next_type-value.ensures c.in-Tree-value.is))); words_value = c.requires.words_value }
+parse_dictionary-close-requires t c = record { room = room-front _ _ _ _ _ c.requires.room (c.parse_next_type-value.auto.rows ∙ c.parse_next_type-key.auto.rows) _ (omega (arith, tree-most _ _ _ _ _ _ _ (got-tree _ _ _ _ _ _ _ _ c.parse_next_type-key.ensures c.in-Tree.is), tree-most _ _ _ _ _ _ _ (got-tree _ _ _ _ _ _ _ _ c.parse_next_type-value.ensures c.in-Tree-value.is))); words_value = c.requires.words_value }
 
 pub parse_dictionary-returns : goal.parse_dictionary-returns
 parse_dictionary-returns t c = let o = got_step _ _ (sym c.in-Next.is ∙ c.expect_token.ensures) in let d = got_step _ _ (sym c.in-Next-expect_token.is ∙ c.expect_token-2.ensures) in dictionary-5 _ _ _ _ _ o.0 _ o.1 _ _ _ _ _ (got-tree _ _ _ _ _ _ _ _ c.parse_next_type-key.ensures c.in-Tree.is) d.0 _ d.1 _ _ _ _ _ (got-tree _ _ _ _ _ _ _ _ c.parse_next_type-value.ensures c.in-Tree-value.is) c.close.ensures
@@ -122,13 +67,13 @@ pub parse_field-overflow_cast-name-2 : goal.parse_field-overflow_cast-name-2
 parse_field-overflow_cast-name-2 t c = let q = got_quoted _ _ (sym c.in-String.is ∙ c.parse_double_quoted_string.ensures) in (name-fits _ _ _ _ _ c.requires.room.short q.0 q.1).1
 
 pub parse_field-put_field-requires : goal.parse_field-put_field-requires
-parse_field-put_field-requires t c = row_inside _ _ c.parse_next_type-tree.new.1.1.0 _ _ c.requires.room c.parse_next_type-tree.auto.1.1.0 _ (tree-some _ _ _ _ _ _ _ (got-tree _ _ _ _ _ _ _ _ c.parse_next_type-tree.ensures c.in-Tree.is)) (tree-most _ _ _ _ _ _ _ (got-tree _ _ _ _ _ _ _ _ c.parse_next_type-tree.ensures c.in-Tree.is))
+parse_field-put_field-requires t c = row_inside _ _ c.parse_next_type-tree.new.rows _ _ c.requires.room c.parse_next_type-tree.auto.rows _ (tree-some _ _ _ _ _ _ _ (got-tree _ _ _ _ _ _ _ _ c.parse_next_type-tree.ensures c.in-Tree.is)) (tree-most _ _ _ _ _ _ _ (got-tree _ _ _ _ _ _ _ _ c.parse_next_type-tree.ensures c.in-Tree.is))
 
 pub parse_field-rows_of-requires : goal.parse_field-rows_of-requires
-parse_field-rows_of-requires t c = let h = row_inside _ _ c.parse_next_type-tree.new.1.1.0 _ _ c.requires.1.0 c.parse_next_type-tree.auto.1.1.0 _ (tree-some _ _ _ _ _ _ _ (got-tree _ _ _ _ _ _ _ _ c.parse_next_type-tree.ensures c.in-Tree.is)) (tree-most _ _ _ _ _ _ _ (got-tree _ _ _ _ _ _ _ _ c.parse_next_type-tree.ensures c.in-Tree.is)) in let l = c.put_field.auto.0 in omega arith
+parse_field-rows_of-requires t c = let h = row_inside _ _ c.parse_next_type-tree.new.rows _ _ c.requires.room c.parse_next_type-tree.auto.rows _ (tree-some _ _ _ _ _ _ _ (got-tree _ _ _ _ _ _ _ _ c.parse_next_type-tree.ensures c.in-Tree.is)) (tree-most _ _ _ _ _ _ _ (got-tree _ _ _ _ _ _ _ _ c.parse_next_type-tree.ensures c.in-Tree.is)) in let l = c.put_field.auto.rows in omega arith
 
 pub parse_field-returns : goal.parse_field-returns
-parse_field-returns t c = let q = got_quoted _ _ (sym c.in-String.is ∙ c.parse_double_quoted_string.ensures) in let c0 = got_step _ _ (sym c.in-Next.is ∙ c.expect_token.ensures) in field-5 _ _ _ _ _ q.0 _ _ _ q.1 c0.0 _ _ _ c0.1 c.parse_opt_nullable-null.ensures.role c.parse_opt_nullable-null.ensures.next _ _ _ _ _ _ _ c.requires.1.0 (got-tree _ _ _ _ _ _ _ _ c.parse_next_type-tree.ensures c.in-Tree.is) c.put_field.ensures c.rows_of_lem.ensures
+parse_field-returns t c = let q = got_quoted _ _ (sym c.in-String.is ∙ c.parse_double_quoted_string.ensures) in let c0 = got_step _ _ (sym c.in-Next.is ∙ c.expect_token.ensures) in field-5 _ _ _ _ _ q.0 _ _ _ q.1 c0.0 _ _ _ c0.1 c.parse_opt_nullable-null.ensures.role c.parse_opt_nullable-null.ensures.next _ _ _ _ _ _ _ c.requires.room (got-tree _ _ _ _ _ _ _ _ c.parse_next_type-tree.ensures c.in-Tree.is) c.put_field.ensures c.rows_of.ensures
 
 pub parse_fixed_size_list-returns-in-Refused : goal.parse_fixed_size_list-returns-in-Refused
 parse_fixed_size_list-returns-in-Refused t c = meets-refused _ _ _ _ _ _ (fixed-list-1 _ _ _ _ _ _ (lost_step _ _ (sym c.in-Refused.is ∙ c.expect_token.ensures)))
@@ -143,7 +88,7 @@ pub parse_fixed_size_list-returns-in_default-field : goal.parse_fixed_size_list-
 parse_fixed_size_list-returns-in_default-field t c = let o = got_step _ _ (sym c.in-Next.is ∙ c.expect_token.ensures) in let x0 = got_look _ _ (sym c.in-Next-next_if_x.is ∙ c.next_if_x.ensures) in meets-lost _ _ _ _ _ _ _ c.in_default-field.is (fixed-list-3 _ _ _ _ _ o.0 _ o.1 _ _ (got_value _ _ (sym c.in-Value.is ∙ c.parse_length.ensures)) _ (lost-tree _ _ _ _ _ _ _ (fixed-x _ _ _ _ x0.0 _ _ _ _ _ x0.1 c.parse_list_field-field.ensures) c.in_default-field.is))
 
 pub parse_fixed_size_list-close-requires : goal.parse_fixed_size_list-close-requires
-parse_fixed_size_list-close-requires t c = record { room = room-front _ _ _ _ _ c.requires.room c.parse_list_field-field.auto.1.1.0 _ (tree-most _ _ _ _ _ _ _ (got-tree _ _ _ _ _ _ _ _ c.parse_list_field-field.ensures c.in-Tree.is)); words_value = c.requires.words_value }
+parse_fixed_size_list-close-requires t c = record { room = room-front _ _ _ _ _ c.requires.room c.parse_list_field-field.auto.rows _ (tree-most _ _ _ _ _ _ _ (got-tree _ _ _ _ _ _ _ _ c.parse_list_field-field.ensures c.in-Tree.is)); words_value = c.requires.words_value }
 
 pub parse_fixed_size_list-returns-in-Next-next_if_x : goal.parse_fixed_size_list-returns-in-Next-next_if_x
 parse_fixed_size_list-returns-in-Next-next_if_x t c = let o = got_step _ _ (sym c.in-Next.is ∙ c.expect_token.ensures) in let x0 = got_look _ _ (sym c.in-Next-next_if_x.is ∙ c.next_if_x.ensures) in fixed-list-4 _ _ _ _ _ o.0 _ o.1 _ _ (got_value _ _ (sym c.in-Value.is ∙ c.parse_length.ensures)) _ _ _ _ _ _ _ (got-tree _ _ _ _ _ _ _ _ (fixed-x _ _ _ _ x0.0 _ _ _ _ _ x0.1 c.parse_list_field-field.ensures) c.in-Tree.is) c.close.ensures
@@ -161,10 +106,10 @@ pub parse_fixed_size_list-overflow_add-row-3 : goal.parse_fixed_size_list-overfl
 parse_fixed_size_list-overflow_add-row-3 t c = omega (arith, c.requires.room.small)
 
 pub parse_fixed_size_list-put_list_field-requires : goal.parse_fixed_size_list-put_list_field-requires
-parse_fixed_size_list-put_list_field-requires t c = row_inside _ _ c.parse_next_type-item.new.1.1.0 _ _ (room_below _ _ _ _ c.requires.room) c.parse_next_type-item.auto.1.1.0 _ (tree-some _ _ _ _ _ _ _ (got-tree _ _ _ _ _ _ _ _ c.parse_next_type-item.ensures c.in-Tree-item.is)) (tree-most _ _ _ _ _ _ _ (got-tree _ _ _ _ _ _ _ _ c.parse_next_type-item.ensures c.in-Tree-item.is))
+parse_fixed_size_list-put_list_field-requires t c = row_inside _ _ c.parse_next_type-item.new.rows _ _ (room_below _ _ _ _ c.requires.room) c.parse_next_type-item.auto.rows _ (tree-some _ _ _ _ _ _ _ (got-tree _ _ _ _ _ _ _ _ c.parse_next_type-item.ensures c.in-Tree-item.is)) (tree-most _ _ _ _ _ _ _ (got-tree _ _ _ _ _ _ _ _ c.parse_next_type-item.ensures c.in-Tree-item.is))
 
 pub parse_fixed_size_list-close-requires-2 : goal.parse_fixed_size_list-close-requires-2
-parse_fixed_size_list-close-requires-2 t c = record { room = room-front _ _ _ _ _ c.requires.room (c.put_list_field.auto.0 ∙ c.parse_next_type-item.auto.1.1.0) _ (tree-most _ _ _ _ _ _ _ (got-tree _ _ _ _ _ _ _ _ c.parse_next_type-item.ensures c.in-Tree-item.is)); words_value = c.requires.words_value }
+parse_fixed_size_list-close-requires-2 t c = record { room = room-front _ _ _ _ _ c.requires.room (c.put_list_field.auto.rows ∙ c.parse_next_type-item.auto.rows) _ (tree-most _ _ _ _ _ _ _ (got-tree _ _ _ _ _ _ _ _ c.parse_next_type-item.ensures c.in-Tree-item.is)); words_value = c.requires.words_value }
 
 pub parse_fixed_size_list-returns : goal.parse_fixed_size_list-returns
 parse_fixed_size_list-returns t c = let o = got_step _ _ (sym c.in-Next.is ∙ c.expect_token.ensures) in let l = lost_look _ (sym c.in_default.is ∙ c.next_if_x.ensures) in let k = got_step _ _ (sym c.in-Next-expect_token.is ∙ c.expect_token-2.ensures) in fixed-list-4 _ _ _ _ _ o.0 _ o.1 _ _ (got_value _ _ (sym c.in-Value.is ∙ c.parse_length.ensures)) _ _ _ _ _ _ _ (got-tree _ _ _ _ _ _ _ _ (fixed_plain _ _ _ _ (refused-stands _ _ _ l.0 l.1) k.0 _ k.1 _ _ _ _ _ _ (got-tree _ _ _ _ _ _ _ _ c.parse_next_type-item.ensures c.in-Tree-item.is) c.put_list_field.ensures) refl) c.close-2.ensures
@@ -179,7 +124,7 @@ pub parse_list-returns-in_default : goal.parse_list-returns-in_default
 parse_list-returns-in_default t c = let o = got_step _ _ (sym c.in-Next.is ∙ c.expect_token.ensures) in meets-lost _ _ _ _ _ _ _ c.in_default.is (list-2 _ _ _ _ _ o.0 _ o.1 _ (lost-tree _ _ _ _ _ _ _ c.parse_list_field-field.ensures c.in_default.is))
 
 pub parse_list-close-requires : goal.parse_list-close-requires
-parse_list-close-requires t c = record { room = room-front _ _ _ _ _ c.requires.room c.parse_list_field-field.auto.1.1.0 _ (tree-most _ _ _ _ _ _ _ (got-tree _ _ _ _ _ _ _ _ c.parse_list_field-field.ensures c.in-Tree.is)); words_value = c.requires.words_value }
+parse_list-close-requires t c = record { room = room-front _ _ _ _ _ c.requires.room c.parse_list_field-field.auto.rows _ (tree-most _ _ _ _ _ _ _ (got-tree _ _ _ _ _ _ _ _ c.parse_list_field-field.ensures c.in-Tree.is)); words_value = c.requires.words_value }
 
 pub parse_list-returns : goal.parse_list-returns
 parse_list-returns t c = let o = got_step _ _ (sym c.in-Next.is ∙ c.expect_token.ensures) in list-3 _ _ _ _ _ o.0 _ o.1 _ _ _ _ _ _ _ (got-tree _ _ _ _ _ _ _ _ c.parse_list_field-field.ensures c.in-Tree.is) c.close.ensures
@@ -188,7 +133,7 @@ pub parse_list_field-returns-in_default : goal.parse_list_field-returns-in_defau
 parse_list_field-returns-in_default t c = meets-lost _ _ _ _ _ _ _ c.in_default.is (list-field-1 _ _ _ _ _ _ c.parse_opt_nullable-null.ensures.role c.parse_opt_nullable-null.ensures.next _ (lost-tree _ _ _ _ _ _ _ c.parse_next_type-item.ensures c.in_default.is))
 
 pub parse_list_field-put_list_field-requires : goal.parse_list_field-put_list_field-requires
-parse_list_field-put_list_field-requires t c = row_inside _ _ c.parse_next_type-item.new.1.1.0 _ _ c.requires.room c.parse_next_type-item.auto.1.1.0 _ (tree-some _ _ _ _ _ _ _ (got-tree _ _ _ _ _ _ _ _ c.parse_next_type-item.ensures c.in-Tree.is)) (tree-most _ _ _ _ _ _ _ (got-tree _ _ _ _ _ _ _ _ c.parse_next_type-item.ensures c.in-Tree.is))
+parse_list_field-put_list_field-requires t c = row_inside _ _ c.parse_next_type-item.new.rows _ _ c.requires.room c.parse_next_type-item.auto.rows _ (tree-some _ _ _ _ _ _ _ (got-tree _ _ _ _ _ _ _ _ c.parse_next_type-item.ensures c.in-Tree.is)) (tree-most _ _ _ _ _ _ _ (got-tree _ _ _ _ _ _ _ _ c.parse_next_type-item.ensures c.in-Tree.is))
 
 pub parse_list_field-returns-in_default-next_if : goal.parse_list_field-returns-in_default-next_if
 parse_list_field-returns-in_default-next_if t c = let l = lost_look _ (sym c.in_default-next_if.is ∙ c.next_if.ensures) in list-field-2 _ _ _ _ _ _ c.parse_opt_nullable-null.ensures.role c.parse_opt_nullable-null.ensures.next _ _ _ _ _ (got-tree _ _ _ _ _ _ _ _ c.parse_next_type-item.ensures c.in-Tree.is) _ (refused-stands _ _ _ l.0 l.1) c.put_list_field.ensures
@@ -203,7 +148,7 @@ pub parse_list_field-overflow_cast-name-2 : goal.parse_list_field-overflow_cast-
 parse_list_field-overflow_cast-name-2 t c = let m = got_quoted _ _ (sym c.in-String.is ∙ c.parse_list_name.ensures) in (list-name-fits _ _ _ _ _ c.requires.room.short m.0 m.1).1
 
 pub parse_list_field-put_field-requires : goal.parse_list_field-put_field-requires
-parse_list_field-put_field-requires t c = row_inside _ _ c.parse_next_type-item.new.1.1.0 _ _ c.requires.room c.parse_next_type-item.auto.1.1.0 _ (tree-some _ _ _ _ _ _ _ (got-tree _ _ _ _ _ _ _ _ c.parse_next_type-item.ensures c.in-Tree.is)) (tree-most _ _ _ _ _ _ _ (got-tree _ _ _ _ _ _ _ _ c.parse_next_type-item.ensures c.in-Tree.is))
+parse_list_field-put_field-requires t c = row_inside _ _ c.parse_next_type-item.new.rows _ _ c.requires.room c.parse_next_type-item.auto.rows _ (tree-some _ _ _ _ _ _ _ (got-tree _ _ _ _ _ _ _ _ c.parse_next_type-item.ensures c.in-Tree.is)) (tree-most _ _ _ _ _ _ _ (got-tree _ _ _ _ _ _ _ _ c.parse_next_type-item.ensures c.in-Tree.is))
 
 pub parse_list_field-returns : goal.parse_list_field-returns
 parse_list_field-returns t c = let l = got_look _ _ (sym c.in-Next.is ∙ c.next_if.ensures) in let m = got_quoted _ _ (sym c.in-String.is ∙ c.parse_list_name.ensures) in list-field-4 _ _ _ _ _ _ c.parse_opt_nullable-null.ensures.role c.parse_opt_nullable-null.ensures.next _ _ _ _ _ (got-tree _ _ _ _ _ _ _ _ c.parse_next_type-item.ensures c.in-Tree.is) l.0 _ (needed-stands _ _ _ _ l.1) l.1 m.0 _ _ _ _ m.1 c.put_field.ensures
@@ -218,19 +163,19 @@ pub parse_map-returns-in_default : goal.parse_map-returns-in_default
 parse_map-returns-in_default t c = let o = got_step _ _ (sym c.in-Next.is ∙ c.expect_token.ensures) in meets-lost _ _ _ _ _ _ _ c.in_default.is (map-2 _ _ _ _ _ o.0 _ o.1 _ (lost-tree _ _ _ _ _ _ _ c.parse_field-entries.ensures c.in_default.is))
 
 pub parse_map-returns-then-number-ne0 : goal.parse_map-returns-then-number-ne0
-parse_map-returns-then-number-ne0 t c = let o = got_step _ _ (sym c.in-Next.is ∙ c.expect_token.ensures) in meets-refused _ _ _ _ _ _ (map-3 _ _ _ _ _ o.0 _ o.1 _ _ _ _ _ (got-tree _ _ _ _ _ _ _ _ c.parse_field-entries.ensures c.in-Tree.is) _ (c.entries_refusal-number.ensures ∙ entries-are _ _ _ _ _ _ _ (got-tree _ _ _ _ _ _ _ _ c.parse_field-entries.ensures c.in-Tree.is) (below-fits _ _ _ _ c.requires.1.0)) c.if-number-ne0.true)
+parse_map-returns-then-number-ne0 t c = let o = got_step _ _ (sym c.in-Next.is ∙ c.expect_token.ensures) in meets-refused _ _ _ _ _ _ (map-3 _ _ _ _ _ o.0 _ o.1 _ _ _ _ _ (got-tree _ _ _ _ _ _ _ _ c.parse_field-entries.ensures c.in-Tree.is) _ (c.entries_refusal-number.ensures ∙ entries-are _ _ _ _ _ _ _ (got-tree _ _ _ _ _ _ _ _ c.parse_field-entries.ensures c.in-Tree.is) (below-fits _ _ _ _ c.requires.room)) c.if-number-ne0.true)
 
 pub parse_map-returns-in-Refused-expect_token : goal.parse_map-returns-in-Refused-expect_token
-parse_map-returns-in-Refused-expect_token t c = let o = got_step _ _ (sym c.in-Next.is ∙ c.expect_token.ensures) in meets-refused _ _ _ _ _ _ (map-4 _ _ _ _ _ o.0 _ o.1 _ _ _ _ _ (got-tree _ _ _ _ _ _ _ _ c.parse_field-entries.ensures c.in-Tree.is) _ (c.entries_refusal-number.ensures ∙ entries-are _ _ _ _ _ _ _ (got-tree _ _ _ _ _ _ _ _ c.parse_field-entries.ensures c.in-Tree.is) (below-fits _ _ _ _ c.requires.1.0)) c.if-number-ne0.false _ (lost_step _ _ (sym c.in-Refused-expect_token.is ∙ c.expect_token-2.ensures)))
+parse_map-returns-in-Refused-expect_token t c = let o = got_step _ _ (sym c.in-Next.is ∙ c.expect_token.ensures) in meets-refused _ _ _ _ _ _ (map-4 _ _ _ _ _ o.0 _ o.1 _ _ _ _ _ (got-tree _ _ _ _ _ _ _ _ c.parse_field-entries.ensures c.in-Tree.is) _ (c.entries_refusal-number.ensures ∙ entries-are _ _ _ _ _ _ _ (got-tree _ _ _ _ _ _ _ _ c.parse_field-entries.ensures c.in-Tree.is) (below-fits _ _ _ _ c.requires.room)) c.if-number-ne0.false _ (lost_step _ _ (sym c.in-Refused-expect_token.is ∙ c.expect_token-2.ensures)))
 
 pub parse_map-returns-in-Refused-parse_map_sorted : goal.parse_map-returns-in-Refused-parse_map_sorted
-parse_map-returns-in-Refused-parse_map_sorted t c = let o = got_step _ _ (sym c.in-Next.is ∙ c.expect_token.ensures) in let d = got_step _ _ (sym c.in-Next-expect_token.is ∙ c.expect_token-2.ensures) in meets-refused _ _ _ _ _ _ (map-5 _ _ _ _ _ o.0 _ o.1 _ _ _ _ _ (got-tree _ _ _ _ _ _ _ _ c.parse_field-entries.ensures c.in-Tree.is) _ (c.entries_refusal-number.ensures ∙ entries-are _ _ _ _ _ _ _ (got-tree _ _ _ _ _ _ _ _ c.parse_field-entries.ensures c.in-Tree.is) (below-fits _ _ _ _ c.requires.1.0)) c.if-number-ne0.false d.0 _ d.1 _ (lost_value _ _ (sym c.in-Refused-parse_map_sorted.is ∙ c.parse_map_sorted.ensures)))
+parse_map-returns-in-Refused-parse_map_sorted t c = let o = got_step _ _ (sym c.in-Next.is ∙ c.expect_token.ensures) in let d = got_step _ _ (sym c.in-Next-expect_token.is ∙ c.expect_token-2.ensures) in meets-refused _ _ _ _ _ _ (map-5 _ _ _ _ _ o.0 _ o.1 _ _ _ _ _ (got-tree _ _ _ _ _ _ _ _ c.parse_field-entries.ensures c.in-Tree.is) _ (c.entries_refusal-number.ensures ∙ entries-are _ _ _ _ _ _ _ (got-tree _ _ _ _ _ _ _ _ c.parse_field-entries.ensures c.in-Tree.is) (below-fits _ _ _ _ c.requires.room)) c.if-number-ne0.false d.0 _ d.1 _ (lost_value _ _ (sym c.in-Refused-parse_map_sorted.is ∙ c.parse_map_sorted.ensures)))
 
 pub parse_map-close-requires : goal.parse_map-close-requires
-parse_map-close-requires t c = record { room = room-front _ _ _ _ _ c.requires.1.0 c.parse_field-entries.auto.1.1.0 _ (tree-most _ _ _ _ _ _ _ (got-tree _ _ _ _ _ _ _ _ c.parse_field-entries.ensures c.in-Tree.is)); words_value = c.requires.1.1 }
+parse_map-close-requires t c = record { room = room-front _ _ _ _ _ c.requires.room c.parse_field-entries.auto.rows _ (tree-most _ _ _ _ _ _ _ (got-tree _ _ _ _ _ _ _ _ c.parse_field-entries.ensures c.in-Tree.is)); words_value = c.requires.words_value }
 
 pub parse_map-returns : goal.parse_map-returns
-parse_map-returns t c = let o = got_step _ _ (sym c.in-Next.is ∙ c.expect_token.ensures) in let d = got_step _ _ (sym c.in-Next-expect_token.is ∙ c.expect_token-2.ensures) in map-6 _ _ _ _ _ o.0 _ o.1 _ _ _ _ _ (got-tree _ _ _ _ _ _ _ _ c.parse_field-entries.ensures c.in-Tree.is) _ (c.entries_refusal-number.ensures ∙ entries-are _ _ _ _ _ _ _ (got-tree _ _ _ _ _ _ _ _ c.parse_field-entries.ensures c.in-Tree.is) (below-fits _ _ _ _ c.requires.1.0)) c.if-number-ne0.false d.0 _ d.1 _ _ _ _ (got_value _ _ (sym c.in-Value.is ∙ c.parse_map_sorted.ensures)) c.close.ensures
+parse_map-returns t c = let o = got_step _ _ (sym c.in-Next.is ∙ c.expect_token.ensures) in let d = got_step _ _ (sym c.in-Next-expect_token.is ∙ c.expect_token-2.ensures) in map-6 _ _ _ _ _ o.0 _ o.1 _ _ _ _ _ (got-tree _ _ _ _ _ _ _ _ c.parse_field-entries.ensures c.in-Tree.is) _ (c.entries_refusal-number.ensures ∙ entries-are _ _ _ _ _ _ _ (got-tree _ _ _ _ _ _ _ _ c.parse_field-entries.ensures c.in-Tree.is) (below-fits _ _ _ _ c.requires.room)) c.if-number-ne0.false d.0 _ d.1 _ _ _ _ (got_value _ _ (sym c.in-Value.is ∙ c.parse_map_sorted.ensures)) c.close.ensures
 
 pub parse_next_type-returns-then-level-eq0 : goal.parse_next_type-returns-then-level-eq0
 parse_next_type-returns-then-level-eq0 t c = meets-refused _ _ _ _ _ _ (type-deep _ _ _ _ c.if-level-eq0.true)
@@ -331,9 +276,11 @@ parse_next_type-returns-in-35 t c = type-childless _ _ _ _ c.if-level-eq0.false 
 pub parse_next_type-returns-in_default : goal.parse_next_type-returns-in_default
 parse_next_type-returns-in_default t c =
     type-leaf _ _ _ _ c.if-level-eq0.false c.if-left-eq0.false _ _ _ _ _ _ (got_value _ _ (sym c.in-Value.is ∙ c.parse_type_word.ensures))
-    (⊎_elim (λ w. leaf_low _ w.taken c.in_default-1.rest.0.0.0.0.0.0.0.0.1)
-    (λ v. ⊎_elim (λ w. leaf_mid _ w.1.left w.2.taken c.in_default-1.rest.0.0.0.0.0.0.0.1 c.in_default-1.rest.0.0.0.0.0.0.1) (λ w. leaf_high _ w.4.left c.in_default-1.rest.0.1 c.in_default-1.rest.1) v)
-    c.in_default.branch) c.put_parent.ensures
+    (elim c.in_default.branch [
+      | parse_next_type-in_default-via-then-kind-lt16 w ↦ leaf_low _ w.if-kind-lt16-1.true c.in_default-1.rest.0.0.0.0.0.0.0.0.1
+      | parse_next_type-in_default-via-else-kind-lt16+else-kind-lt19+then-kind-lt27 w ↦ leaf_mid _ w.if-kind-lt19-1.false w.if-kind-lt27-1.true c.in_default-1.rest.0.0.0.0.0.0.0.1 c.in_default-1.rest.0.0.0.0.0.0.1
+      | parse_next_type-in_default-via-else-kind-lt16+else-kind-lt19+else-kind-lt27+else-kind-lt32+else-kind-lt39 w ↦ leaf_high _ w.if-kind-lt39-1.false c.in_default-1.rest.0.1 c.in_default-1.rest.1
+    ]) c.put_parent.ensures
 
 pub parse_run_end_encoded-returns-in-Refused : goal.parse_run_end_encoded-returns-in-Refused
 parse_run_end_encoded-returns-in-Refused t c = meets-refused _ _ _ _ _ _ (run-end-1 _ _ _ _ _ _ (lost_step _ _ (sym c.in-Refused.is ∙ c.expect_token.ensures)))
@@ -345,7 +292,7 @@ pub parse_run_end_encoded-returns-in_default : goal.parse_run_end_encoded-return
 parse_run_end_encoded-returns-in_default t c = let o = got_step _ _ (sym c.in-Next.is ∙ c.expect_token.ensures) in meets-lost _ _ _ _ _ _ _ c.in_default.is (run-end-2 _ _ _ _ _ o.0 _ o.1 _ (lost-fields _ _ _ _ _ _ _ (run-ends-long _ _ _ _ _ _ _ _ (sym c.peek_double_quoted.ensures ∙ c.if-peek_double_quoted.true) c.ree_fields-fields.ensures) c.in_default.is))
 
 pub parse_run_end_encoded-close-requires : goal.parse_run_end_encoded-close-requires
-parse_run_end_encoded-close-requires t c = record { room = room-front _ _ _ _ _ c.requires.room c.ree_fields-fields.auto.1.1.0 _ (fields_most _ _ _ _ _ _ _ (got-fields _ _ _ _ _ _ _ _ c.ree_fields-fields.ensures c.in-Tree.is)); words_value = c.requires.words_value }
+parse_run_end_encoded-close-requires t c = record { room = room-front _ _ _ _ _ c.requires.room c.ree_fields-fields.auto.rows _ (fields_most _ _ _ _ _ _ _ (got-fields _ _ _ _ _ _ _ _ c.ree_fields-fields.ensures c.in-Tree.is)); words_value = c.requires.words_value }
 
 pub parse_run_end_encoded-returns-then-peek_double_quoted : goal.parse_run_end_encoded-returns-then-peek_double_quoted
 parse_run_end_encoded-returns-then-peek_double_quoted t c = let o = got_step _ _ (sym c.in-Next.is ∙ c.expect_token.ensures) in run-end-3 _ _ _ _ _ o.0 _ o.1 _ _ _ _ _ _ _ (got-fields _ _ _ _ _ _ _ _ (run-ends-long _ _ _ _ _ _ _ _ (sym c.peek_double_quoted.ensures ∙ c.if-peek_double_quoted.true) c.ree_fields-fields.ensures) c.in-Tree.is) c.close.ensures
@@ -357,7 +304,7 @@ pub parse_run_end_encoded-returns-in_default-fields : goal.parse_run_end_encoded
 parse_run_end_encoded-returns-in_default-fields t c = let o = got_step _ _ (sym c.in-Next.is ∙ c.expect_token.ensures) in meets-lost _ _ _ _ _ _ _ c.in_default-fields.is (run-end-2 _ _ _ _ _ o.0 _ o.1 _ (lost-fields _ _ _ _ _ _ _ (run-ends-short _ _ _ _ _ _ _ _ (sym c.peek_double_quoted.ensures ∙ c.if-peek_double_quoted.false) c.ree_types-fields.ensures) c.in_default-fields.is))
 
 pub parse_run_end_encoded-close-requires-2 : goal.parse_run_end_encoded-close-requires-2
-parse_run_end_encoded-close-requires-2 t c = record { room = room-front _ _ _ _ _ c.requires.room c.ree_types-fields.auto.1.1.0 _ (fields_most _ _ _ _ _ _ _ (got-fields _ _ _ _ _ _ _ _ c.ree_types-fields.ensures c.in-Tree-fields.is)); words_value = c.requires.words_value }
+parse_run_end_encoded-close-requires-2 t c = record { room = room-front _ _ _ _ _ c.requires.room c.ree_types-fields.auto.rows _ (fields_most _ _ _ _ _ _ _ (got-fields _ _ _ _ _ _ _ _ c.ree_types-fields.ensures c.in-Tree-fields.is)); words_value = c.requires.words_value }
 
 pub parse_run_end_encoded-returns : goal.parse_run_end_encoded-returns
 parse_run_end_encoded-returns t c = let o = got_step _ _ (sym c.in-Next.is ∙ c.expect_token.ensures) in run-end-3 _ _ _ _ _ o.0 _ o.1 _ _ _ _ _ _ _ (got-fields _ _ _ _ _ _ _ _ (run-ends-short _ _ _ _ _ _ _ _ (sym c.peek_double_quoted.ensures ∙ c.if-peek_double_quoted.false) c.ree_types-fields.ensures) c.in-Tree-fields.is) c.close-2.ensures
@@ -372,7 +319,7 @@ pub parse_struct-put_parent-requires : goal.parse_struct-put_parent-requires
 parse_struct-put_parent-requires t c = loop_front _ _ _ _ _ _ _ _ c.loop-end.invariant _ c.requires.room
 
 pub parse_struct-shape_of-rows-in-Next-next_if : goal.parse_struct-shape_of-rows-in-Next-next_if
-parse_struct-shape_of-rows-in-Next-next_if t c = c.put_parent.auto.0 ∙ loop-length _ _ _ _ _ _ _ _ c.loop-end.invariant
+parse_struct-shape_of-rows-in-Next-next_if t c = c.put_parent.auto.rows ∙ loop-length _ _ _ _ _ _ _ _ c.loop-end.invariant
 
 pub parse_struct-returns-in-Next-next_if : goal.parse_struct-returns-in-Next-next_if
 parse_struct-returns-in-Next-next_if t c = let o = got_step _ _ (sym c.in-Next.is ∙ c.expect_token.ensures) in let e = got_look _ _ (sym c.in-Next-next_if.is ∙ c.next_if.ensures) in struct-3 _ _ _ _ _ o.0 _ o.1 _ _ _ _ _ _ _ (loop-end _ _ _ _ _ _ _ _ c.loop-end.invariant _ (struct-end _ _ _ _ e.0 _ e.1)) c.put_parent.ensures
@@ -387,7 +334,7 @@ pub parse_struct-parse_field-field-requires : goal.parse_struct-parse_field-fiel
 parse_struct-parse_field-field-requires t c = (omega arith, (loop-room _ _ _ _ _ _ _ _ c.loop-end.invariant _ (room_below _ _ _ _ c.requires.room), c.requires.words_value))
 
 pub parse_struct-shape_of-rows-in_default-field : goal.parse_struct-shape_of-rows-in_default-field
-parse_struct-shape_of-rows-in_default-field t c = c.parse_field-field.auto.1.1.0 ∙ loop-length _ _ _ _ _ _ _ _ c.loop-end.invariant
+parse_struct-shape_of-rows-in_default-field t c = c.parse_field-field.auto.rows ∙ loop-length _ _ _ _ _ _ _ _ c.loop-end.invariant
 
 pub parse_struct-returns-in_default-field : goal.parse_struct-returns-in_default-field
 parse_struct-returns-in_default-field t c = let o = got_step _ _ (sym c.in-Next.is ∙ c.expect_token.ensures) in let l = lost_look _ (sym c.in_default.is ∙ c.next_if.ensures) in meets-lost _ _ _ _ _ _ _ c.in_default-field.is (struct-2 _ _ _ _ _ o.0 _ o.1 _ (loop-lost _ _ _ _ _ _ _ _ c.loop-end.invariant _ (struct-field-1 _ _ _ _ l.0 l.1 _ (lost-tree _ _ _ _ _ _ _ c.parse_field-field.ensures c.in_default-field.is))))
@@ -402,10 +349,10 @@ pub parse_struct-loop-end-preserved : goal.parse_struct-loop-end-preserved
 parse_struct-loop-end-preserved t c = let l = lost_look _ (sym c.in_default.is ∙ c.next_if.ensures) in let m = got_look _ _ (sym c.in-Next-next_if-2.is ∙ c.next_if-in-loop-end.ensures) in loop-more _ _ _ _ _ _ _ _ c.loop-end.invariant _ _ _ _ (got-tree _ _ _ _ _ _ _ _ c.parse_field-field.ensures c.in-Tree.is) _ (struct_more _ _ _ _ l.0 l.1 _ _ _ _ _ (got-tree _ _ _ _ _ _ _ _ c.parse_field-field.ensures c.in-Tree.is) m.0 _ m.1)
 
 pub parse_struct-close-requires : goal.parse_struct-close-requires
-parse_struct-close-requires t c = record { room = room-front _ _ _ _ _ c.requires.room (c.parse_field-field.auto.1.1.0 ∙ loop-length _ _ _ _ _ _ _ _ c.loop-end.invariant) _ (grown-most _ _ _ _ _ _ _ _ c.loop-end.invariant _ _ _ _ (got-tree _ _ _ _ _ _ _ _ c.parse_field-field.ensures c.in-Tree.is)); words_value = c.requires.words_value }
+parse_struct-close-requires t c = record { room = room-front _ _ _ _ _ c.requires.room (c.parse_field-field.auto.rows ∙ loop-length _ _ _ _ _ _ _ _ c.loop-end.invariant) _ (grown-most _ _ _ _ _ _ _ _ c.loop-end.invariant _ _ _ _ (got-tree _ _ _ _ _ _ _ _ c.parse_field-field.ensures c.in-Tree.is)); words_value = c.requires.words_value }
 
 pub parse_struct-shape_of-rows-in-Other : goal.parse_struct-shape_of-rows-in-Other
-parse_struct-shape_of-rows-in-Other t c = c.close.auto.1.1.0 ∙ c.parse_field-field.auto.1.1.0 ∙ loop-length _ _ _ _ _ _ _ _ c.loop-end.invariant
+parse_struct-shape_of-rows-in-Other t c = c.close.auto.rows ∙ c.parse_field-field.auto.rows ∙ loop-length _ _ _ _ _ _ _ _ c.loop-end.invariant
 
 pub parse_struct-returns-in-Other : goal.parse_struct-returns-in-Other
 parse_struct-returns-in-Other t c = let o = got_step _ _ (sym c.in-Next.is ∙ c.expect_token.ensures) in let l = lost_look _ (sym c.in_default.is ∙ c.next_if.ensures) in let m = lost_look _ (sym c.in-Other.is ∙ c.next_if-in-loop-end.ensures) in struct-4 _ _ _ _ _ o.0 _ o.1 _ _ _ _ _ c.loop-end.invariant l.0 l.1 _ _ _ (got-tree _ _ _ _ _ _ _ _ c.parse_field-field.ensures c.in-Tree.is) m.0 m.1 _ _ c.close.ensures
@@ -420,22 +367,22 @@ pub parse_union-loop-end-init : goal.parse_union-loop-end-init
 parse_union-loop-end-init t c = loop-start _ _ _ _ _
 
 pub parse_union-overflow_add-row-in-Next-next_if-2 : goal.parse_union-overflow_add-row-in-Next-next_if-2
-parse_union-overflow_add-row-in-Next-next_if-2 t c = omega (arith, c.loop-end.invariant.within, c.requires.1.0.small)
+parse_union-overflow_add-row-in-Next-next_if-2 t c = omega (arith, c.loop-end.invariant.within, c.requires.room.small)
 
 pub parse_union-shape_of-rows-then-not-try_new : goal.parse_union-shape_of-rows-then-not-try_new
 parse_union-shape_of-rows-then-not-try_new t c = loop-length _ _ _ _ _ _ _ _ c.loop-end.invariant
 
 pub parse_union-returns-then-not-try_new : goal.parse_union-returns-then-not-try_new
-parse_union-returns-then-not-try_new t c = let o = got_step _ _ (sym c.in-Next.is ∙ c.expect_token.ensures) in let e = got_look _ _ (sym c.in-Next-next_if.is ∙ c.next_if.ensures) in meets-refused _ _ _ _ _ _ (union-at-4 _ _ _ _ _ o.0 _ o.1 _ _ (got_value _ _ (sym c.in-Value.is ∙ c.parse_union_mode.ensures)) _ _ _ _ _ (loop-end _ _ _ _ _ _ _ _ c.loop-end.invariant _ (union-end _ _ _ _ e.0 _ e.1)) _ (c.try_new.ensures ∙ ids-read _ _ _ _ _ _ _ (loop-end _ _ _ _ _ _ _ _ c.loop-end.invariant _ (union-end _ _ _ _ e.0 _ e.1)) (below-fits _ _ _ _ c.requires.1.0)) (not-true _ c.if-not-try_new.true-raw))
+parse_union-returns-then-not-try_new t c = let o = got_step _ _ (sym c.in-Next.is ∙ c.expect_token.ensures) in let e = got_look _ _ (sym c.in-Next-next_if.is ∙ c.next_if.ensures) in meets-refused _ _ _ _ _ _ (union-at-4 _ _ _ _ _ o.0 _ o.1 _ _ (got_value _ _ (sym c.in-Value.is ∙ c.parse_union_mode.ensures)) _ _ _ _ _ (loop-end _ _ _ _ _ _ _ _ c.loop-end.invariant _ (union-end _ _ _ _ e.0 _ e.1)) _ (c.try_new.ensures ∙ ids-read _ _ _ _ _ _ _ (loop-end _ _ _ _ _ _ _ _ c.loop-end.invariant _ (union-end _ _ _ _ e.0 _ e.1)) (below-fits _ _ _ _ c.requires.room)) (not-true _ c.if-not-try_new.true-raw))
 
 pub parse_union-put_parent-requires : goal.parse_union-put_parent-requires
-parse_union-put_parent-requires t c = loop_front _ _ _ _ _ _ _ _ c.loop-end.invariant _ c.requires.1.0
+parse_union-put_parent-requires t c = loop_front _ _ _ _ _ _ _ _ c.loop-end.invariant _ c.requires.room
 
 pub parse_union-shape_of-rows-in-Next-next_if : goal.parse_union-shape_of-rows-in-Next-next_if
-parse_union-shape_of-rows-in-Next-next_if t c = c.put_parent.auto.0 ∙ loop-length _ _ _ _ _ _ _ _ c.loop-end.invariant
+parse_union-shape_of-rows-in-Next-next_if t c = c.put_parent.auto.rows ∙ loop-length _ _ _ _ _ _ _ _ c.loop-end.invariant
 
 pub parse_union-returns-in-Next-next_if : goal.parse_union-returns-in-Next-next_if
-parse_union-returns-in-Next-next_if t c = let o = got_step _ _ (sym c.in-Next.is ∙ c.expect_token.ensures) in let e = got_look _ _ (sym c.in-Next-next_if.is ∙ c.next_if.ensures) in union-at-5 _ _ _ _ _ o.0 _ o.1 _ _ (got_value _ _ (sym c.in-Value.is ∙ c.parse_union_mode.ensures)) _ _ _ _ _ (loop-end _ _ _ _ _ _ _ _ c.loop-end.invariant _ (union-end _ _ _ _ e.0 _ e.1)) _ (c.try_new.ensures ∙ ids-read _ _ _ _ _ _ _ (loop-end _ _ _ _ _ _ _ _ c.loop-end.invariant _ (union-end _ _ _ _ e.0 _ e.1)) (below-fits _ _ _ _ c.requires.1.0)) _ _ (not-false _ c.if-not-try_new.false-raw) c.put_parent.ensures
+parse_union-returns-in-Next-next_if t c = let o = got_step _ _ (sym c.in-Next.is ∙ c.expect_token.ensures) in let e = got_look _ _ (sym c.in-Next-next_if.is ∙ c.next_if.ensures) in union-at-5 _ _ _ _ _ o.0 _ o.1 _ _ (got_value _ _ (sym c.in-Value.is ∙ c.parse_union_mode.ensures)) _ _ _ _ _ (loop-end _ _ _ _ _ _ _ _ c.loop-end.invariant _ (union-end _ _ _ _ e.0 _ e.1)) _ (c.try_new.ensures ∙ ids-read _ _ _ _ _ _ _ (loop-end _ _ _ _ _ _ _ _ c.loop-end.invariant _ (union-end _ _ _ _ e.0 _ e.1)) (below-fits _ _ _ _ c.requires.room)) _ _ (not-false _ c.if-not-try_new.false-raw) c.put_parent.ensures
 
 pub parse_union-shape_of-rows-in-Refused-expect_token : goal.parse_union-shape_of-rows-in-Refused-expect_token
 parse_union-shape_of-rows-in-Refused-expect_token t c = loop-length _ _ _ _ _ _ _ _ c.loop-end.invariant
@@ -456,7 +403,7 @@ pub parse_union-parse_union_field-field-requires : goal.parse_union-parse_union_
 parse_union-parse_union_field-field-requires t c = (omega arith, (loop-room _ _ _ _ _ _ _ _ c.loop-end.invariant _ (room_below _ _ _ _ c.requires.room), c.requires.words_value))
 
 pub parse_union-shape_of-rows-in_default-field : goal.parse_union-shape_of-rows-in_default-field
-parse_union-shape_of-rows-in_default-field t c = c.parse_union_field-field.auto.1.1.0 ∙ loop-length _ _ _ _ _ _ _ _ c.loop-end.invariant
+parse_union-shape_of-rows-in_default-field t c = c.parse_union_field-field.auto.rows ∙ loop-length _ _ _ _ _ _ _ _ c.loop-end.invariant
 
 pub parse_union-returns-in_default-field : goal.parse_union-returns-in_default-field
 parse_union-returns-in_default-field t c = let o = got_step _ _ (sym c.in-Next.is ∙ c.expect_token.ensures) in let l = lost_look _ (sym c.in_default.is ∙ c.next_if.ensures) in let c0 = got_step _ _ (sym c.in-Next-expect_token.is ∙ c.expect_token-in-loop-end.ensures) in meets-lost _ _ _ _ _ _ _ c.in_default-field.is (union-at-3 _ _ _ _ _ o.0 _ o.1 _ _ (got_value _ _ (sym c.in-Value.is ∙ c.parse_union_mode.ensures)) _ (loop-lost _ _ _ _ _ _ _ _ c.loop-end.invariant _ (union-lost _ _ _ _ l.0 l.1 c0.0 _ c0.1 _ (lost-tree _ _ _ _ _ _ _ c.parse_union_field-field.ensures c.in_default-field.is))))
@@ -498,34 +445,34 @@ pub ree_fields-returns-in_default : goal.ree_fields-returns-in_default
 ree_fields-returns-in_default t c = fields-lost _ _ _ _ _ _ _ c.in_default.is (long-1 _ _ _ _ _ (lost-tree _ _ _ _ _ _ _ c.parse_field-run_ends.ensures c.in_default.is))
 
 pub ree_fields-overflow_add-row : goal.ree_fields-overflow_add-row
-ree_fields-overflow_add-row t c = omega (arith, tree-most _ _ _ _ _ _ _ (got-tree _ _ _ _ _ _ _ _ c.parse_field-run_ends.ensures c.in-Tree.is), c.requires.1.0.small)
+ree_fields-overflow_add-row t c = omega (arith, tree-most _ _ _ _ _ _ _ (got-tree _ _ _ _ _ _ _ _ c.parse_field-run_ends.ensures c.in-Tree.is), c.requires.room.small)
 
 pub ree_fields-role_of-requires : goal.ree_fields-role_of-requires
-ree_fields-role_of-requires t c = tree-asks _ _ _ _ _ _ _ (got-tree _ _ _ _ _ _ _ _ c.parse_field-run_ends.ensures c.in-Tree.is) c.requires.1.0.fits
+ree_fields-role_of-requires t c = tree-asks _ _ _ _ _ _ _ (got-tree _ _ _ _ _ _ _ _ c.parse_field-run_ends.ensures c.in-Tree.is) c.requires.room.fits
 
 pub ree_fields-returns-then-role_of : goal.ree_fields-returns-then-role_of
-ree_fields-returns-then-role_of t c = fields-refused _ _ _ _ _ _ (long-2 _ _ _ _ _ _ _ _ _ (got-tree _ _ _ _ _ _ _ _ c.parse_field-run_ends.ensures c.in-Tree.is) (λ y. c.if-role_of.true (c.role_of.ensures ∙ role-are _ _ _ _ _ _ _ (got-tree _ _ _ _ _ _ _ _ c.parse_field-run_ends.ensures c.in-Tree.is) c.requires.1.0.fits ∙ y)))
+ree_fields-returns-then-role_of t c = fields-refused _ _ _ _ _ _ (long-2 _ _ _ _ _ _ _ _ _ (got-tree _ _ _ _ _ _ _ _ c.parse_field-run_ends.ensures c.in-Tree.is) (λ y. c.if-role_of.true (c.role_of.ensures ∙ role-are _ _ _ _ _ _ _ (got-tree _ _ _ _ _ _ _ _ c.parse_field-run_ends.ensures c.in-Tree.is) c.requires.room.fits ∙ y)))
 
 pub ree_fields-returns-in-Refused : goal.ree_fields-returns-in-Refused
-ree_fields-returns-in-Refused t c = fields-refused _ _ _ _ _ _ (long-3 _ _ _ _ _ _ _ _ _ (got-tree _ _ _ _ _ _ _ _ c.parse_field-run_ends.ensures c.in-Tree.is) (sym (c.role_of.ensures ∙ role-are _ _ _ _ _ _ _ (got-tree _ _ _ _ _ _ _ _ c.parse_field-run_ends.ensures c.in-Tree.is) c.requires.1.0.fits) ∙ c.if-role_of.false) _ (lost_step _ _ (sym c.in-Refused.is ∙ c.expect_token.ensures)))
+ree_fields-returns-in-Refused t c = fields-refused _ _ _ _ _ _ (long-3 _ _ _ _ _ _ _ _ _ (got-tree _ _ _ _ _ _ _ _ c.parse_field-run_ends.ensures c.in-Tree.is) (sym (c.role_of.ensures ∙ role-are _ _ _ _ _ _ _ (got-tree _ _ _ _ _ _ _ _ c.parse_field-run_ends.ensures c.in-Tree.is) c.requires.room.fits) ∙ c.if-role_of.false) _ (lost_step _ _ (sym c.in-Refused.is ∙ c.expect_token.ensures)))
 
 pub ree_fields-overflow_add-row-2 : goal.ree_fields-overflow_add-row-2
-ree_fields-overflow_add-row-2 t c = omega (arith, tree-most _ _ _ _ _ _ _ (got-tree _ _ _ _ _ _ _ _ c.parse_field-run_ends.ensures c.in-Tree.is), c.requires.1.0.small)
+ree_fields-overflow_add-row-2 t c = omega (arith, tree-most _ _ _ _ _ _ _ (got-tree _ _ _ _ _ _ _ _ c.parse_field-run_ends.ensures c.in-Tree.is), c.requires.room.small)
 
 pub ree_fields-overflow_sub-left : goal.ree_fields-overflow_sub-left
 ree_fields-overflow_sub-left t c = tree-most _ _ _ _ _ _ _ (got-tree _ _ _ _ _ _ _ _ c.parse_field-run_ends.ensures c.in-Tree.is)
 
 pub ree_fields-parse_field-values-requires : goal.ree_fields-parse_field-values-requires
-ree_fields-parse_field-values-requires t c = (omega arith, (room-behind _ _ _ _ _ c.requires.1.0 c.parse_field-run_ends.auto.1.1.0 _ (tree-most _ _ _ _ _ _ _ (got-tree _ _ _ _ _ _ _ _ c.parse_field-run_ends.ensures c.in-Tree.is)), c.requires.1.1))
+ree_fields-parse_field-values-requires t c = (omega arith, (room-behind _ _ _ _ _ c.requires.room c.parse_field-run_ends.auto.rows _ (tree-most _ _ _ _ _ _ _ (got-tree _ _ _ _ _ _ _ _ c.parse_field-run_ends.ensures c.in-Tree.is)), c.requires.words_value))
 
 pub ree_fields-returns-in_default-values : goal.ree_fields-returns-in_default-values
-ree_fields-returns-in_default-values t c = let c1 = got_step _ _ (sym c.in-Next.is ∙ c.expect_token.ensures) in fields-lost _ _ _ _ _ _ _ c.in_default-values.is (long-4 _ _ _ _ _ _ _ _ _ (got-tree _ _ _ _ _ _ _ _ c.parse_field-run_ends.ensures c.in-Tree.is) (sym (c.role_of.ensures ∙ role-are _ _ _ _ _ _ _ (got-tree _ _ _ _ _ _ _ _ c.parse_field-run_ends.ensures c.in-Tree.is) c.requires.1.0.fits) ∙ c.if-role_of.false) c1.0 _ c1.1 _ (lost-tree _ _ _ _ _ _ _ c.parse_field-values.ensures c.in_default-values.is))
+ree_fields-returns-in_default-values t c = let c1 = got_step _ _ (sym c.in-Next.is ∙ c.expect_token.ensures) in fields-lost _ _ _ _ _ _ _ c.in_default-values.is (long-4 _ _ _ _ _ _ _ _ _ (got-tree _ _ _ _ _ _ _ _ c.parse_field-run_ends.ensures c.in-Tree.is) (sym (c.role_of.ensures ∙ role-are _ _ _ _ _ _ _ (got-tree _ _ _ _ _ _ _ _ c.parse_field-run_ends.ensures c.in-Tree.is) c.requires.room.fits) ∙ c.if-role_of.false) c1.0 _ c1.1 _ (lost-tree _ _ _ _ _ _ _ c.parse_field-values.ensures c.in_default-values.is))
 
 pub ree_fields-overflow_add-result : goal.ree_fields-overflow_add-result
-ree_fields-overflow_add-result t c = omega (arith, tree-most _ _ _ _ _ _ _ (got-tree _ _ _ _ _ _ _ _ c.parse_field-run_ends.ensures c.in-Tree.is), tree-most _ _ _ _ _ _ _ (got-tree _ _ _ _ _ _ _ _ c.parse_field-values.ensures c.in-Tree-values.is), c.requires.1.0.small)
+ree_fields-overflow_add-result t c = omega (arith, tree-most _ _ _ _ _ _ _ (got-tree _ _ _ _ _ _ _ _ c.parse_field-run_ends.ensures c.in-Tree.is), tree-most _ _ _ _ _ _ _ (got-tree _ _ _ _ _ _ _ _ c.parse_field-values.ensures c.in-Tree-values.is), c.requires.room.small)
 
 pub ree_fields-returns : goal.ree_fields-returns
-ree_fields-returns t c = let c1 = got_step _ _ (sym c.in-Next.is ∙ c.expect_token.ensures) in long-5 _ _ _ _ _ _ _ _ _ (got-tree _ _ _ _ _ _ _ _ c.parse_field-run_ends.ensures c.in-Tree.is) (sym (c.role_of.ensures ∙ role-are _ _ _ _ _ _ _ (got-tree _ _ _ _ _ _ _ _ c.parse_field-run_ends.ensures c.in-Tree.is) c.requires.1.0.fits) ∙ c.if-role_of.false) c1.0 _ c1.1 _ _ _ (got-tree _ _ _ _ _ _ _ _ c.parse_field-values.ensures c.in-Tree-values.is)
+ree_fields-returns t c = let c1 = got_step _ _ (sym c.in-Next.is ∙ c.expect_token.ensures) in long-5 _ _ _ _ _ _ _ _ _ (got-tree _ _ _ _ _ _ _ _ c.parse_field-run_ends.ensures c.in-Tree.is) (sym (c.role_of.ensures ∙ role-are _ _ _ _ _ _ _ (got-tree _ _ _ _ _ _ _ _ c.parse_field-run_ends.ensures c.in-Tree.is) c.requires.room.fits) ∙ c.if-role_of.false) c1.0 _ c1.1 _ _ _ (got-tree _ _ _ _ _ _ _ _ c.parse_field-values.ensures c.in-Tree-values.is)
 
 pub ree_types-returns-then-sure-ne-NON_NULL : goal.ree_types-returns-then-sure-ne-NON_NULL
 ree_types-returns-then-sure-ne-NON_NULL t c = fields-refused _ _ _ _ _ _ (short-1 _ _ _ _ _ c.parse_opt_nullable-sure.ensures.role c.if-sure-ne-NON_NULL.true)
@@ -534,7 +481,7 @@ pub ree_types-returns-in_default : goal.ree_types-returns-in_default
 ree_types-returns-in_default t c = fields-lost _ _ _ _ _ _ _ c.in_default.is (short-2 _ _ _ _ _ c.parse_opt_nullable-sure.ensures.role c.if-sure-ne-NON_NULL.false _ (default-1 _ _ _ _ _ _ _ c.parse_opt_nullable-sure.ensures.role c.parse_opt_nullable-sure.ensures.next _ (lost-tree _ _ _ _ _ _ _ c.parse_next_type-run_ends.ensures c.in_default.is)))
 
 pub ree_types-put_run_ends_field-requires : goal.ree_types-put_run_ends_field-requires
-ree_types-put_run_ends_field-requires t c = row_inside _ _ c.parse_next_type-run_ends.new.1.1.0 _ _ c.requires.room c.parse_next_type-run_ends.auto.1.1.0 _ (tree-some _ _ _ _ _ _ _ (got-tree _ _ _ _ _ _ _ _ c.parse_next_type-run_ends.ensures c.in-Tree.is)) (tree-most _ _ _ _ _ _ _ (got-tree _ _ _ _ _ _ _ _ c.parse_next_type-run_ends.ensures c.in-Tree.is))
+ree_types-put_run_ends_field-requires t c = row_inside _ _ c.parse_next_type-run_ends.new.rows _ _ c.requires.room c.parse_next_type-run_ends.auto.rows _ (tree-some _ _ _ _ _ _ _ (got-tree _ _ _ _ _ _ _ _ c.parse_next_type-run_ends.ensures c.in-Tree.is)) (tree-most _ _ _ _ _ _ _ (got-tree _ _ _ _ _ _ _ _ c.parse_next_type-run_ends.ensures c.in-Tree.is))
 
 pub ree_types-returns-in-Refused : goal.ree_types-returns-in-Refused
 ree_types-returns-in-Refused t c = fields-refused _ _ _ _ _ _ (short-3 _ _ _ _ _ c.parse_opt_nullable-sure.ensures.role c.if-sure-ne-NON_NULL.false _ _ _ _ _ (default-tree _ _ _ _ _ _ _ (sym c.if-sure-ne-NON_NULL.false ∙ c.parse_opt_nullable-sure.ensures.role) c.parse_opt_nullable-sure.ensures.next _ _ _ _ _ (got-tree _ _ _ _ _ _ _ _ c.parse_next_type-run_ends.ensures c.in-Tree.is) _ c.put_run_ends_field.ensures) _ (lost_step _ _ (sym c.in-Refused.is ∙ c.expect_token.ensures)))
@@ -549,7 +496,7 @@ pub ree_types-overflow_sub-left : goal.ree_types-overflow_sub-left
 ree_types-overflow_sub-left t c = tree-most _ _ _ _ _ _ _ (got-tree _ _ _ _ _ _ _ _ c.parse_next_type-run_ends.ensures c.in-Tree.is)
 
 pub ree_types-parse_next_type-values-requires : goal.ree_types-parse_next_type-values-requires
-ree_types-parse_next_type-values-requires t c = (omega (arith, c.requires.room), ((room-behind _ _ _ _ _ c.requires.room (c.put_run_ends_field.auto.0 ∙ c.parse_next_type-run_ends.auto.1.1.0) _ (tree-most _ _ _ _ _ _ _ (got-tree _ _ _ _ _ _ _ _ c.parse_next_type-run_ends.ensures c.in-Tree.is))), c.requires.words_value))
+ree_types-parse_next_type-values-requires t c = (omega (arith, c.requires.room), ((room-behind _ _ _ _ _ c.requires.room (c.put_run_ends_field.auto.rows ∙ c.parse_next_type-run_ends.auto.rows) _ (tree-most _ _ _ _ _ _ _ (got-tree _ _ _ _ _ _ _ _ c.parse_next_type-run_ends.ensures c.in-Tree.is))), c.requires.words_value))
 
 pub ree_types-returns-in_default-values : goal.ree_types-returns-in_default-values
 ree_types-returns-in_default-values t c = let c1 = got_step _ _ (sym c.in-Next.is ∙ c.expect_token.ensures) in fields-lost _ _ _ _ _ _ _ c.in_default-values.is (short-4 _ _ _ _ _ c.parse_opt_nullable-sure.ensures.role c.if-sure-ne-NON_NULL.false _ _ _ _ _ (default-tree _ _ _ _ _ _ _ (sym c.if-sure-ne-NON_NULL.false ∙ c.parse_opt_nullable-sure.ensures.role) c.parse_opt_nullable-sure.ensures.next _ _ _ _ _ (got-tree _ _ _ _ _ _ _ _ c.parse_next_type-run_ends.ensures c.in-Tree.is) _ c.put_run_ends_field.ensures) c1.0 _ c1.1 _ (default-1 _ _ _ _ _ _ _ c.parse_opt_nullable-null.ensures.role c.parse_opt_nullable-null.ensures.next _ (lost-tree _ _ _ _ _ _ _ c.parse_next_type-values.ensures c.in_default-values.is)))
@@ -558,13 +505,13 @@ pub ree_types-overflow_add-row-2 : goal.ree_types-overflow_add-row-2
 ree_types-overflow_add-row-2 t c = omega (arith, tree-most _ _ _ _ _ _ _ (got-tree _ _ _ _ _ _ _ _ c.parse_next_type-run_ends.ensures c.in-Tree.is), c.requires.room.small)
 
 pub ree_types-put_values_field-requires : goal.ree_types-put_values_field-requires
-ree_types-put_values_field-requires t c = row_inside _ c.put_run_ends_field.new.0 c.parse_next_type-values.new.1.1.0 _ _ (room-behind _ _ _ _ _ c.requires.room (c.put_run_ends_field.auto.0 ∙ c.parse_next_type-run_ends.auto.1.1.0) _ (tree-most _ _ _ _ _ _ _ (got-tree _ _ _ _ _ _ _ _ c.parse_next_type-run_ends.ensures c.in-Tree.is))) c.parse_next_type-values.auto.1.1.0 _ (tree-some _ _ _ _ _ _ _ (got-tree _ _ _ _ _ _ _ _ c.parse_next_type-values.ensures c.in-Tree-values.is)) (tree-most _ _ _ _ _ _ _ (got-tree _ _ _ _ _ _ _ _ c.parse_next_type-values.ensures c.in-Tree-values.is))
+ree_types-put_values_field-requires t c = row_inside _ c.put_run_ends_field.new.rows c.parse_next_type-values.new.rows _ _ (room-behind _ _ _ _ _ c.requires.room (c.put_run_ends_field.auto.rows ∙ c.parse_next_type-run_ends.auto.rows) _ (tree-most _ _ _ _ _ _ _ (got-tree _ _ _ _ _ _ _ _ c.parse_next_type-run_ends.ensures c.in-Tree.is))) c.parse_next_type-values.auto.rows _ (tree-some _ _ _ _ _ _ _ (got-tree _ _ _ _ _ _ _ _ c.parse_next_type-values.ensures c.in-Tree-values.is)) (tree-most _ _ _ _ _ _ _ (got-tree _ _ _ _ _ _ _ _ c.parse_next_type-values.ensures c.in-Tree-values.is))
 
 pub ree_types-overflow_add-result : goal.ree_types-overflow_add-result
 ree_types-overflow_add-result t c = omega (arith, tree-most _ _ _ _ _ _ _ (got-tree _ _ _ _ _ _ _ _ c.parse_next_type-run_ends.ensures c.in-Tree.is), tree-most _ _ _ _ _ _ _ (got-tree _ _ _ _ _ _ _ _ c.parse_next_type-values.ensures c.in-Tree-values.is), c.requires.room.small)
 
 pub ree_types-shape_of-rows : goal.ree_types-shape_of-rows
-ree_types-shape_of-rows t c = c.put_values_field.auto.0 ∙ c.parse_next_type-values.auto.1.1.0 ∙ c.put_run_ends_field.auto.0 ∙ c.parse_next_type-run_ends.auto.1.1.0
+ree_types-shape_of-rows t c = c.put_values_field.auto.rows ∙ c.parse_next_type-values.auto.rows ∙ c.put_run_ends_field.auto.rows ∙ c.parse_next_type-run_ends.auto.rows
 
 pub ree_types-returns : goal.ree_types-returns
 ree_types-returns t c = let c1 = got_step _ _ (sym c.in-Next.is ∙ c.expect_token.ensures) in short-5 _ _ _ _ _ c.parse_opt_nullable-sure.ensures.role c.if-sure-ne-NON_NULL.false _ _ _ _ _ (default-tree _ _ _ _ _ _ _ (sym c.if-sure-ne-NON_NULL.false ∙ c.parse_opt_nullable-sure.ensures.role) c.parse_opt_nullable-sure.ensures.next _ _ _ _ _ (got-tree _ _ _ _ _ _ _ _ c.parse_next_type-run_ends.ensures c.in-Tree.is) _ c.put_run_ends_field.ensures) c1.0 _ c1.1 _ _ _ (default-tree _ _ _ _ _ _ _ c.parse_opt_nullable-null.ensures.role c.parse_opt_nullable-null.ensures.next _ _ _ _ _ (got-tree _ _ _ _ _ _ _ _ c.parse_next_type-values.ensures c.in-Tree-values.is) _ c.put_values_field.ensures)

@@ -1,31 +1,56 @@
-use Rattle.parser.proofs.+types.Proof.ParseDictionary as parse-dictionary-proof
-use Rattle.parser.proofs.+types.Proof.ParseField as parse-field-proof
-use Rattle.parser.proofs.+types.Proof.ParseFixedSizeList as parse-fixed-size-list-proof
-use Rattle.parser.proofs.+types.Proof.ParseList as parse-list-proof
-use Rattle.parser.proofs.+types.Proof.ParseListField as parse-list-field-proof
-use Rattle.parser.proofs.+types.Proof.ParseMap as parse-map-proof
-use Rattle.parser.proofs.+types.Proof.ParseNextType as parse-next-type-proof
-use Rattle.parser.proofs.+types.Proof.ParseRunEndEncoded as parse-run-end-encoded-proof
-use Rattle.parser.proofs.+types.Proof.ParseStruct as parse-struct-proof
-use Rattle.parser.proofs.+types.Proof.ParseUnion as parse-union-proof
-use Rattle.parser.proofs.+types.Proof.ParseUnionField as parse-union-field-proof
-use Rattle.parser.proofs.+types.Proof.ReeFields as ree-fields-proof
-use Rattle.parser.proofs.+types.Proof.ReeTypes as ree-types-proof
-use Prim.Native.Nat.{◌+◌}
-use Prim.Native.Nat.{◌+◌, ◌-◌}
+use Prim.Native.Nat.{◌+◌, ◌-◌, ◌*◌}
 use Rattle.parser.proofs.Loops.{Loop}
-use Rattle.parser.specs.Parse.{struct_item, type_at}
-use Rattle.parser.specs.Parse.{type_at, union_item}
+use Rattle.parser.specs.Parse.{struct_item, type_at, union_item}
 use Rattle.parser.proofs.+types.Given as goal
 
-abbrev pub parse_struct-invariant-loop-end : goal.parse_struct-invariant-loop-end
-parse_struct-invariant-loop-end l = Loop (struct_item l.text (type_at l.text l.level)) «open» l.left (l.row + 1) l.initial.rows l.rows l.next l.used
+-- the level falls with each type; within one, a reader calls only those of a lower number
+abbrev pub decreases-parse_dictionary : goal.decreases-parse_dictionary
+decreases-parse_dictionary l = 4 * l.level + 1
 
-abbrev pub parse_struct-decreases-loop-end : goal.parse_struct-decreases-loop-end
-parse_struct-decreases-loop-end l = l.left - l.used
+abbrev pub decreases-parse_field : goal.decreases-parse_field
+decreases-parse_field l = 4 * l.level + 1
 
-abbrev pub parse_union-invariant-loop-end : goal.parse_union-invariant-loop-end
-parse_union-invariant-loop-end l = Loop (union_item l.text (type_at l.text l.level)) l.mode.next l.left (l.row + 1) l.initial.rows l.rows l.next l.used
+abbrev pub decreases-parse_fixed_size_list : goal.decreases-parse_fixed_size_list
+decreases-parse_fixed_size_list l = 4 * l.level + 2
 
-abbrev pub parse_union-decreases-loop-end : goal.parse_union-decreases-loop-end
-parse_union-decreases-loop-end l = l.left - l.used
+abbrev pub decreases-parse_list : goal.decreases-parse_list
+decreases-parse_list l = 4 * l.level + 2
+
+abbrev pub decreases-parse_list_field : goal.decreases-parse_list_field
+decreases-parse_list_field l = 4 * l.level + 1
+
+abbrev pub decreases-parse_map : goal.decreases-parse_map
+decreases-parse_map l = 4 * l.level + 2
+
+abbrev pub decreases-parse_next_type : goal.decreases-parse_next_type
+decreases-parse_next_type l = 4 * l.level
+
+abbrev pub decreases-parse_run_end_encoded : goal.decreases-parse_run_end_encoded
+decreases-parse_run_end_encoded l = 4 * l.level + 3
+
+abbrev pub decreases-parse_struct : goal.decreases-parse_struct
+decreases-parse_struct l = 4 * l.level + 2
+
+abbrev pub decreases-parse_union : goal.decreases-parse_union
+decreases-parse_union l = 4 * l.level + 3
+
+abbrev pub decreases-parse_union_field : goal.decreases-parse_union_field
+decreases-parse_union_field l = 4 * l.level + 2
+
+abbrev pub decreases-ree_fields : goal.decreases-ree_fields
+decreases-ree_fields l = 4 * l.level + 2
+
+abbrev pub decreases-ree_types : goal.decreases-ree_types
+decreases-ree_types l = 4 * l.level + 1
+
+abbrev pub invariant-parse_struct-loop-end : goal.invariant-parse_struct-loop-end
+invariant-parse_struct-loop-end l = Loop (struct_item l.text (type_at l.text l.level)) l.open l.left (l.row + 1) l.initial.rows l.rows l.next l.used
+
+abbrev pub decreases-parse_struct-loop-end : goal.decreases-parse_struct-loop-end
+decreases-parse_struct-loop-end l = l.left - l.used
+
+abbrev pub invariant-parse_union-loop-end : goal.invariant-parse_union-loop-end
+invariant-parse_union-loop-end l = Loop (union_item l.text (type_at l.text l.level)) l.mode.next l.left (l.row + 1) l.initial.rows l.rows l.next l.used
+
+abbrev pub decreases-parse_union-loop-end : goal.decreases-parse_union-loop-end
+decreases-parse_union-loop-end l = l.left - l.used

@@ -1,8 +1,7 @@
 -- What the answers of the reader's own functions mean, and how they and the rows match the definitions. This is how the
 -- code finds its way; what must be believed is in Parse.antt.
-use Rattle.std.specs.Prelude.{◌≡◌, Bool, ◌||◌, List, [], ◌∷◌, ℕ, ◌+◌, ◌*◌, ◌≤◌, length, eqb}
+use Rattle.std.specs.Prelude.{◌≡◌, Bool, ◌||◌, List, [], ◌∷◌, ℕ, ◌+◌, ◌*◌, ◌≤◌, length, eqb, if◌then◌else◌}
 use Rattle.std.proofs.lemmas.List.Edits.{sets}
-use Rattle.tokenizer.specs.Text.{if◌then◌else◌}
 use Rattle.tokenizer.specs.Answer.{Out, refused, done}
 use Rattle.tokenizer.specs.Token.{value_of, is_negative, lparen, rparen, comma, colon}
 use Rattle.tokenizer.specs.declared.Token.{Token}

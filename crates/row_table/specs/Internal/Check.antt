@@ -1,8 +1,7 @@
 -- How `is_sound` finds its way: the clauses of soundness, in the order and the parts in which the code looks at them.
 -- Contracts of private functions cite these; nothing here has to be believed, since `is_sound`'s own contract does not.
-use Rattle.std.specs.Prelude.{Bool, true, false, ◌&&◌, ◌||◌, List, map, ℕ, zero, suc, ◌+◌, length, take, leb, ltb, eqb}
+use Rattle.std.specs.Prelude.{Bool, true, false, ◌&&◌, ◌||◌, List, map, ℕ, zero, suc, ◌+◌, length, take, leb, ltb, eqb, if◌then◌else◌}
 use Rattle.std.proofs.Math.Option.{Option, none, some}
-use Rattle.tokenizer.specs.Text.{if◌then◌else◌}
 use Rattle.tokenizer.specs.Utf8.{utf8_state, is_utf8}
 use Rattle.datatype.specs.Kind.{Shape, leaf, timestamp, time, interval, fixed, list, fixed_list, struct, union, dictionary, decimal, mapping, run_end_encoded, kinds, shape_of, unit_fits, decimal_fits, ids_fit}
 use Rattle.datatype.specs.Tree.{Forest, ∅, node, roots, depth, Row, name_list, part, labels}

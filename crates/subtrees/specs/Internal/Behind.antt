@@ -1,7 +1,6 @@
 -- The row behind a subtree, as the code steps from sibling to sibling. Contracts of private functions cite this; nothing
 -- here has to be believed, since no public function's contract does.
-use Rattle.std.specs.Prelude.{◌&&◌, List, ℕ, ◌+◌, ◌*◌, length, leb, ltb}
-use Rattle.tokenizer.specs.Text.{if◌then◌else◌}
+use Rattle.std.specs.Prelude.{◌&&◌, List, ℕ, ◌+◌, ◌*◌, length, leb, ltb, if◌then◌else◌}
 use Rattle.datatype.specs.Table.{row_words, rows_at}
 
 -- The row behind the subtree of row `at`, which stands before row `end`: 0 where it does not, is not in the table or has

@@ -1,4 +1,3 @@
-use Prim.Native.Nat.{◌-◌}
 use borrow.Author.Rules.{rules}
 use Rattle.token_stream.proofs.CountLaws.{turn_start, turn-stop, turn_step, step-moves, turn_end, other_kind}
 use Rattle.token_stream.proofs.count_tokens.Goals as goal

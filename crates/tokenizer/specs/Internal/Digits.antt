@@ -1,6 +1,6 @@
 -- How the code finds its way through a number; nothing here has to be believed.
-use Rattle.std.specs.Prelude.{Bool, ◌&&◌, List, ℕ, ◌-◌, ◌^◌, leb}
-use Rattle.tokenizer.specs.Text.{if◌then◌else◌, all}
+use Rattle.std.specs.Prelude.{Bool, ◌&&◌, List, ℕ, ◌-◌, ◌^◌, leb, if◌then◌else◌}
+use Rattle.tokenizer.specs.Text.{all}
 use Rattle.tokenizer.specs.Token.{is_digit, number_from}
 use Rattle.tokenizer.specs.declared.TokenKind.{TokenKind}
 use Rattle.tokenizer.specs.declared.TokenKind.TheVariants.{Integer, Refused}

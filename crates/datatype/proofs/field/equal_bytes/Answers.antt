@@ -1,5 +1,4 @@
 use mathlib.Core.Path.{refl}
-use Prim.Native.Nat.{◌-◌}
 use Rattle.datatype.proofs.Same.{same_length, same-differ, same-go, same_end}
 use borrow.Author.Rules.{rules}
 use Rattle.datatype.proofs.field.equal_bytes.Goals as goal

@@ -1,5 +1,4 @@
 use Rattle.datatype.proofs.Cleared.{cleared-start, cleared_more, cleared-length, cleared-all}
-use Prim.Native.Nat.{◌-◌}
 use Rattle.datatype.proofs.words.clear_words.Goals as goal
 
 pub loop-at-init : goal.loop-at-init

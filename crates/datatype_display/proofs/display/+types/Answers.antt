@@ -1,59 +1,16 @@
-use Rattle.datatype_display.proofs.display.+types.Proof.PutDictionary as put-dictionary-proof
-use Rattle.datatype_display.proofs.display.+types.Proof.PutField as put-field-proof
-use Rattle.datatype_display.proofs.display.+types.Proof.PutFixedSizeList as put-fixed-size-list-proof
-use Rattle.datatype_display.proofs.display.+types.Proof.PutList as put-list-proof
-use Rattle.datatype_display.proofs.display.+types.Proof.PutListField as put-list-field-proof
-use Rattle.datatype_display.proofs.display.+types.Proof.PutMap as put-map-proof
-use Rattle.datatype_display.proofs.display.+types.Proof.PutNested as put-nested-proof
-use Rattle.datatype_display.proofs.display.+types.Proof.PutNullable as put-nullable-proof
-use Rattle.datatype_display.proofs.display.+types.Proof.PutRunEndEncoded as put-run-end-encoded-proof
-use Rattle.datatype_display.proofs.display.+types.Proof.PutStruct as put-struct-proof
-use Rattle.datatype_display.proofs.display.+types.Proof.PutType as put-type-proof
-use Rattle.datatype_display.proofs.display.+types.Proof.PutUnion as put-union-proof
-use Rattle.datatype_display.proofs.display.+types.Proof.PutUnionField as put-union-field-proof
-use mathlib.Core.Path.{refl}
-use Rattle.datatype_display.proofs.Writes.{rest_start, rest_fits, rest_step, rest_last}
-use Rattle.datatype_display.proofs.Rows.{subtree-room, subtree-next, dictionary-children}
+use mathlib.Core.Path.{refl, ap, ◌∙◌, sym}
+use Rattle.datatype_display.proofs.Writes.{rest_start, rest_fits, rest_step, rest_last, fits_as, wrote_as, wrote_came, wrote_kept}
+use Rattle.datatype_display.proofs.Rows.{subtree-room, subtree-next, dictionary-children, fixed-list-child, list-child, map-child, subtree-kind, run-end-children, subtree-end, first-turn, first-room, first-child}
 use native.Mathlib.Omega.{arith}
-use Rattle.datatype_display.proofs.Texts.{dictionary-parts}
-use borrow.Author.Rules.{rules}
-use Rattle.datatype_display.proofs.Rows.{subtree-room}
-use Rattle.datatype_display.proofs.Texts.{field-parts}
-use Rattle.datatype_display.proofs.Rows.{subtree-room, subtree-next, fixed-list-child}
-use Rattle.datatype_display.proofs.Texts.{fixed-list-parts}
-use Rattle.datatype_display.proofs.Rows.{subtree-next, list-child}
-use Rattle.datatype_display.proofs.Texts.{list-parts}
-use Rattle.datatype_display.proofs.Texts.{list-field-parts}
-use Rattle.datatype_display.proofs.Rows.{subtree-room, subtree-next, map-child}
-use Rattle.datatype_display.proofs.Texts.{map-parts}
-use Rattle.datatype_display.proofs.Rows.{subtree-room, subtree-kind}
-use Rattle.datatype_display.proofs.Texts.{nested-kind, shape-here, type-parts}
+use Rattle.datatype_display.proofs.Texts.{dictionary-parts, field-parts, fixed-list-parts, list-parts, list-field-parts, map-parts, nested-kind, shape-here, type-parts, nullable-parts, short-parts, long-parts, word-text, alone-text, nested-here, fields_start, struct_parts, struct-here, struct-field, struct-again, struct-end, union-parts, union-field, union-again, union-end, union-field-parts}
 use Rattle.datatype_display.proofs.Shapes.{list_kind}
 use Rattle.datatype.proofs.ShapeLaws.{shapes_of}
 use Rattle.datatype.specs.Kind.{shape_of}
-use mathlib.Core.Path.{ap, ◌∙◌, refl}
-use Rattle.datatype_display.proofs.Texts.{nullable-parts}
-use Rattle.datatype_display.proofs.Rows.{subtree-room, subtree-next, run-end-children}
-use Rattle.datatype_display.proofs.Texts.{short-parts, long-parts}
-use Rattle.datatype_display.proofs.Writes.{fits_as, wrote_as, wrote_came, wrote_kept, rest_start, rest_fits, rest_step, rest_last}
-use Rattle.datatype_display.proofs.Rows.{subtree-room, subtree-kind, subtree-end, subtree-next, first-turn, first-room, first-child}
-use Rattle.datatype_display.proofs.Texts.{field-parts, word-text, alone-text, nested-here}
 use Rattle.tokenizer.proofs.Basics.{of_true}
-use mathlib.Core.Path.{sym, ◌∙◌}
-use mathlib.Core.Logic.{⊎_elim}
-use Prim.Native.Nat.{◌-◌}
-use Rattle.display_length.specs.Display.{struct_text}
-use Rattle.datatype_display.proofs.Texts.{fields_start, struct_parts, struct-here, struct-field, struct-again, struct-end}
-use Rattle.datatype_display.proofs.Writes.{fits_as, wrote_as}
-use Rattle.datatype_display.proofs.Texts.{word-text, alone-text, nested-here}
-use Rattle.datatype_display.proofs.Writes.{wrote_kept, rest_start, rest_fits, rest_step, rest_last}
-use Rattle.datatype_display.proofs.Rows.{subtree-room, subtree-end, subtree-next, first-turn, first-room, first-child}
-use Rattle.display_length.specs.Display.{union_text}
-use Rattle.datatype_display.proofs.Texts.{fields_start, union-parts, union-field, union-again, union-end}
-use Rattle.datatype_display.proofs.Texts.{union-field-parts}
+use Rattle.display_length.specs.Display.{field_text, struct_text, union_text}
+use Rattle.datatype_display.specs.Internal.Steps.{Wrote, shown_at}
+use Rattle.datatype_display.proofs.display.+types.Goals.{put_struct-then-is_word, put_struct-else-is_word+then-is_alone, put_struct-else-is_word+else-is_alone}
 use Rattle.datatype_display.proofs.display.+types.Goals as goal
-
--- MEASURES: see the old Frame
 
 pub put_dictionary-overflow_add-value : goal.put_dictionary-overflow_add-value
 put_dictionary-overflow_add-value t c = omega (arith, subtree-next _ _ _ _ _ c.requires.0.subtree)
@@ -74,17 +31,13 @@ pub put_dictionary-overflow_add-i-2 : goal.put_dictionary-overflow_add-i-2
 put_dictionary-overflow_add-i-2 t c = omega (arith, subtree-next _ _ _ _ _ c.requires.0.subtree)
 
 pub put_dictionary-put_type-next-requires : goal.put_dictionary-put_type-next-requires
-put_dictionary-put_type-next-requires t c = (omega (arith, c.requires.0), ((dictionary-children _ _ _ _ _ c.requires.0 _ c.subtree.ensures).first, (rest_fits (rest_step (rest_start (dictionary-parts _ _ _ _ _ _ (dictionary-children _ _ _ _ _ c.requires.0 _ c.subtree.ensures)) c.requires.1) c.put_mark-opened.ensures))))
-
--- NO GOAL Need-slice-aggregate-put
--- slice-aggregate-put : lts.Need-slice-aggregate-put (calls t) (at t) put-dictionary.Post
--- slice-aggregate-put c = search rules
+put_dictionary-put_type-next-requires t c = (omega arith, ((dictionary-children _ _ _ _ _ c.requires.0 _ c.subtree.ensures).first, (rest_fits (rest_step (rest_start (dictionary-parts _ _ _ _ _ _ (dictionary-children _ _ _ _ _ c.requires.0 _ c.subtree.ensures)) c.requires.1) c.put_mark-opened.ensures))))
 
 pub put_dictionary-put-more-requires : goal.put_dictionary-put-more-requires
 put_dictionary-put-more-requires t c = rest_fits (rest_step (rest_step (rest_start (dictionary-parts _ _ _ _ _ _ (dictionary-children _ _ _ _ _ c.requires.0 _ c.subtree.ensures)) c.requires.1) c.put_mark-opened.ensures) c.put_type-next.ensures)
 
 pub put_dictionary-put_type-last-requires : goal.put_dictionary-put_type-last-requires
-put_dictionary-put_type-last-requires t c = (omega (arith, c.requires.0), ((dictionary-children _ _ _ _ _ c.requires.0 _ c.subtree.ensures).second, (rest_fits (rest_step (rest_step (rest_step (rest_start (dictionary-parts _ _ _ _ _ _ (dictionary-children _ _ _ _ _ c.requires.0 _ c.subtree.ensures)) c.requires.1) c.put_mark-opened.ensures) c.put_type-next.ensures) c.put-more.ensures))))
+put_dictionary-put_type-last-requires t c = (omega arith, ((dictionary-children _ _ _ _ _ c.requires.0 _ c.subtree.ensures).second, (rest_fits (rest_step (rest_step (rest_step (rest_start (dictionary-parts _ _ _ _ _ _ (dictionary-children _ _ _ _ _ c.requires.0 _ c.subtree.ensures)) c.requires.1) c.put_mark-opened.ensures) c.put_type-next.ensures) c.put-more.ensures))))
 
 pub put_dictionary-put_mark-requires : goal.put_dictionary-put_mark-requires
 put_dictionary-put_mark-requires t c = rest_fits (rest_step (rest_step (rest_step (rest_step (rest_start (dictionary-parts _ _ _ _ _ _ (dictionary-children _ _ _ _ _ c.requires.0 _ c.subtree.ensures)) c.requires.1) c.put_mark-opened.ensures) c.put_type-next.ensures) c.put-more.ensures) c.put_type-last.ensures)
@@ -102,7 +55,7 @@ pub put_field-put_name-next-requires : goal.put_field-put_name-next-requires
 put_field-put_name-next-requires t c = rest_fits (rest_start (field-parts _ _ _ _ _ c.name_at-name.ensures _ c.word-role.ensures) c.requires.1)
 
 pub put_field-put_type-requires : goal.put_field-put_type-requires
-put_field-put_type-requires t c = (omega (arith, c.requires.0), (c.requires.0, rest_fits (rest_step (rest_start (field-parts _ _ _ _ _ c.name_at-name.ensures _ c.word-role.ensures) c.requires.1) c.put_name-next.ensures)))
+put_field-put_type-requires t c = (omega arith, (c.requires.0, rest_fits (rest_step (rest_start (field-parts _ _ _ _ _ c.name_at-name.ensures _ c.word-role.ensures) c.requires.1) c.put_name-next.ensures)))
 
 pub put_field-returns : goal.put_field-returns
 put_field-returns t c = rest_last (rest_step (rest_start (field-parts _ _ _ _ _ c.name_at-name.ensures _ c.word-role.ensures) c.requires.1) c.put_name-next.ensures) c.put_type.ensures
@@ -116,10 +69,6 @@ put_fixed_size_list-put_mark-opened-requires t c = rest_fits (rest_start (fixed-
 pub put_fixed_size_list-put_number-next-requires : goal.put_fixed_size_list-put_number-next-requires
 put_fixed_size_list-put_number-next-requires t c = rest_fits (rest_step (rest_start (fixed-list-parts _ _ _ _ _ (fixed-list-child _ _ _ _ _ c.requires.0) _ c.word-size.ensures) c.requires.1) c.put_mark-opened.ensures)
 
--- NO GOAL Need-slice-aggregate-put
--- slice-aggregate-put : lts.Need-slice-aggregate-put (calls t) (at t) put-fixed-size-list.Post
--- slice-aggregate-put c = search rules
-
 pub put_fixed_size_list-put-more-requires : goal.put_fixed_size_list-put-more-requires
 put_fixed_size_list-put-more-requires t c = rest_fits (rest_step (rest_step (rest_start (fixed-list-parts _ _ _ _ _ (fixed-list-child _ _ _ _ _ c.requires.0) _ c.word-size.ensures) c.requires.1) c.put_mark-opened.ensures) c.put_number-next.ensures)
 
@@ -127,7 +76,7 @@ pub put_fixed_size_list-overflow_add-i : goal.put_fixed_size_list-overflow_add-i
 put_fixed_size_list-overflow_add-i t c = omega (arith, subtree-next _ _ _ _ _ c.requires.0.subtree)
 
 pub put_fixed_size_list-put_list_field-last-requires : goal.put_fixed_size_list-put_list_field-last-requires
-put_fixed_size_list-put_list_field-last-requires t c = (omega (arith, c.requires.0), ((fixed-list-child _ _ _ _ _ c.requires.0).child, (rest_fits (rest_step (rest_step (rest_step (rest_start (fixed-list-parts _ _ _ _ _ (fixed-list-child _ _ _ _ _ c.requires.0) _ c.word-size.ensures) c.requires.1) c.put_mark-opened.ensures) c.put_number-next.ensures) c.put-more.ensures))))
+put_fixed_size_list-put_list_field-last-requires t c = (omega arith, ((fixed-list-child _ _ _ _ _ c.requires.0).child, (rest_fits (rest_step (rest_step (rest_step (rest_start (fixed-list-parts _ _ _ _ _ (fixed-list-child _ _ _ _ _ c.requires.0) _ c.word-size.ensures) c.requires.1) c.put_mark-opened.ensures) c.put_number-next.ensures) c.put-more.ensures))))
 
 pub put_fixed_size_list-put_mark-requires : goal.put_fixed_size_list-put_mark-requires
 put_fixed_size_list-put_mark-requires t c = rest_fits (rest_step (rest_step (rest_step (rest_step (rest_start (fixed-list-parts _ _ _ _ _ (fixed-list-child _ _ _ _ _ c.requires.0) _ c.word-size.ensures) c.requires.1) c.put_mark-opened.ensures) c.put_number-next.ensures) c.put-more.ensures) c.put_list_field-last.ensures)
@@ -142,7 +91,7 @@ pub put_list-overflow_add-i : goal.put_list-overflow_add-i
 put_list-overflow_add-i t c = omega (arith, subtree-next _ _ _ _ _ c.requires.0.subtree)
 
 pub put_list-put_list_field-last-requires : goal.put_list-put_list_field-last-requires
-put_list-put_list_field-last-requires t c = (omega (arith, c.requires.0), ((list-child _ _ _ _ _ c.requires.0).child, (rest_fits (rest_step (rest_start (list-parts _ _ _ _ _ (list-child _ _ _ _ _ c.requires.0)) c.requires.1) c.put_mark-opened.ensures))))
+put_list-put_list_field-last-requires t c = (omega arith, ((list-child _ _ _ _ _ c.requires.0).child, (rest_fits (rest_step (rest_start (list-parts _ _ _ _ _ (list-child _ _ _ _ _ c.requires.0)) c.requires.1) c.put_mark-opened.ensures))))
 
 pub put_list-put_mark-requires : goal.put_list-put_mark-requires
 put_list-put_mark-requires t c = rest_fits (rest_step (rest_step (rest_start (list-parts _ _ _ _ _ (list-child _ _ _ _ _ c.requires.0)) c.requires.1) c.put_mark-opened.ensures) c.put_list_field-last.ensures)
@@ -154,7 +103,7 @@ pub put_list_field-name_at-name-requires : goal.put_list_field-name_at-name-requ
 put_list_field-name_at-name-requires t c = subtree-room _ _ _ _ _ c.requires.0.subtree
 
 pub put_list_field-put_nullable-next-requires : goal.put_list_field-put_nullable-next-requires
-put_list_field-put_nullable-next-requires t c = (omega (arith, c.requires.0), (c.requires.0, (rest_fits (rest_start (list-field-parts _ _ _ _ _ c.name_at-name.ensures) c.requires.1))))
+put_list_field-put_nullable-next-requires t c = (omega arith, (c.requires.0, (rest_fits (rest_start (list-field-parts _ _ _ _ _ c.name_at-name.ensures) c.requires.1))))
 
 pub put_list_field-put_list_name-requires : goal.put_list_field-put_list_name-requires
 put_list_field-put_list_name-requires t c = rest_fits (rest_step (rest_start (list-field-parts _ _ _ _ _ c.name_at-name.ensures) c.requires.1) c.put_nullable-next.ensures)
@@ -172,11 +121,7 @@ pub put_map-overflow_add-i : goal.put_map-overflow_add-i
 put_map-overflow_add-i t c = omega (arith, subtree-next _ _ _ _ _ c.requires.0.subtree)
 
 pub put_map-put_field-next-requires : goal.put_map-put_field-next-requires
-put_map-put_field-next-requires t c = (omega (arith, c.requires.0), ((map-child _ _ _ _ _ c.requires.0).child, (rest_fits (rest_step (rest_start (map-parts _ _ _ _ _ (map-child _ _ _ _ _ c.requires.0) _ c.word-sorted.ensures) c.requires.1) c.put_mark-opened.ensures))))
-
--- NO GOAL Need-slice-aggregate-put
--- slice-aggregate-put : lts.Need-slice-aggregate-put (calls t) (at t) put_map.Post
--- slice-aggregate-put c = search rules
+put_map-put_field-next-requires t c = (omega arith, ((map-child _ _ _ _ _ c.requires.0).child, (rest_fits (rest_step (rest_start (map-parts _ _ _ _ _ (map-child _ _ _ _ _ c.requires.0) _ c.word-sorted.ensures) c.requires.1) c.put_mark-opened.ensures))))
 
 pub put_map-put-more-requires : goal.put_map-put-more-requires
 put_map-put-more-requires t c = rest_fits (rest_step (rest_step (rest_start (map-parts _ _ _ _ _ (map-child _ _ _ _ _ c.requires.0) _ c.word-sorted.ensures) c.requires.1) c.put_mark-opened.ensures) c.put_field-next.ensures)
@@ -248,7 +193,7 @@ pub put_nullable-put_nullability-next-requires : goal.put_nullable-put_nullabili
 put_nullable-put_nullability-next-requires t c = rest_fits (rest_start (nullable-parts _ _ _ _ _ c.word-role.ensures) c.requires.1)
 
 pub put_nullable-put_type-requires : goal.put_nullable-put_type-requires
-put_nullable-put_type-requires t c = (omega (arith, c.requires.0), (c.requires.0, rest_fits (rest_step (rest_start (nullable-parts _ _ _ _ _ c.word-role.ensures) c.requires.1) c.put_nullability-next.ensures)))
+put_nullable-put_type-requires t c = (omega arith, (c.requires.0, rest_fits (rest_step (rest_start (nullable-parts _ _ _ _ _ c.word-role.ensures) c.requires.1) c.put_nullability-next.ensures)))
 
 pub put_nullable-returns : goal.put_nullable-returns
 put_nullable-returns t c = rest_last (rest_step (rest_start (nullable-parts _ _ _ _ _ c.word-role.ensures) c.requires.1) c.put_nullability-next.ensures) c.put_type.ensures
@@ -278,17 +223,13 @@ pub put_run_end_encoded-overflow_add-i-then-default_names : goal.put_run_end_enc
 put_run_end_encoded-overflow_add-i-then-default_names t c = omega (arith, subtree-next _ _ _ _ _ c.requires.0.subtree)
 
 pub put_run_end_encoded-put_nullable-next-requires : goal.put_run_end_encoded-put_nullable-next-requires
-put_run_end_encoded-put_nullable-next-requires t c = (omega (arith, c.requires.0), ((run-end-children _ _ _ _ _ c.requires.0 _ c.subtree.ensures).first, (rest_fits (rest_step (rest_start (short-parts _ _ _ _ _ _ (run-end-children _ _ _ _ _ c.requires.0 _ c.subtree.ensures) _ c.default_names.ensures c.if-default_names.true) c.requires.1) c.put_mark-opened.ensures))))
-
--- NO GOAL Need-slice-aggregate-put
--- slice-aggregate-put : lts.Need-slice-aggregate-put (calls t) (at t) put-run-end-encoded.Post
--- slice-aggregate-put c = search rules
+put_run_end_encoded-put_nullable-next-requires t c = (omega arith, ((run-end-children _ _ _ _ _ c.requires.0 _ c.subtree.ensures).first, (rest_fits (rest_step (rest_start (short-parts _ _ _ _ _ _ (run-end-children _ _ _ _ _ c.requires.0 _ c.subtree.ensures) _ c.default_names.ensures c.if-default_names.true) c.requires.1) c.put_mark-opened.ensures))))
 
 pub put_run_end_encoded-put-more-requires : goal.put_run_end_encoded-put-more-requires
 put_run_end_encoded-put-more-requires t c = rest_fits (rest_step (rest_step (rest_start (short-parts _ _ _ _ _ _ (run-end-children _ _ _ _ _ c.requires.0 _ c.subtree.ensures) _ c.default_names.ensures c.if-default_names.true) c.requires.1) c.put_mark-opened.ensures) c.put_nullable-next.ensures)
 
 pub put_run_end_encoded-put_nullable-last-requires : goal.put_run_end_encoded-put_nullable-last-requires
-put_run_end_encoded-put_nullable-last-requires t c = (omega (arith, c.requires.0), ((run-end-children _ _ _ _ _ c.requires.0 _ c.subtree.ensures).second, (rest_fits (rest_step (rest_step (rest_step (rest_start (short-parts _ _ _ _ _ _ (run-end-children _ _ _ _ _ c.requires.0 _ c.subtree.ensures) _ c.default_names.ensures c.if-default_names.true) c.requires.1) c.put_mark-opened.ensures) c.put_nullable-next.ensures) c.put-more.ensures))))
+put_run_end_encoded-put_nullable-last-requires t c = (omega arith, ((run-end-children _ _ _ _ _ c.requires.0 _ c.subtree.ensures).second, (rest_fits (rest_step (rest_step (rest_step (rest_start (short-parts _ _ _ _ _ _ (run-end-children _ _ _ _ _ c.requires.0 _ c.subtree.ensures) _ c.default_names.ensures c.if-default_names.true) c.requires.1) c.put_mark-opened.ensures) c.put_nullable-next.ensures) c.put-more.ensures))))
 
 pub put_run_end_encoded-put_mark-requires : goal.put_run_end_encoded-put_mark-requires
 put_run_end_encoded-put_mark-requires t c = rest_fits (rest_step (rest_step (rest_step (rest_step (rest_start (short-parts _ _ _ _ _ _ (run-end-children _ _ _ _ _ c.requires.0 _ c.subtree.ensures) _ c.default_names.ensures c.if-default_names.true) c.requires.1) c.put_mark-opened.ensures) c.put_nullable-next.ensures) c.put-more.ensures) c.put_nullable-last.ensures)
@@ -303,17 +244,13 @@ pub put_run_end_encoded-overflow_add-i-3 : goal.put_run_end_encoded-overflow_add
 put_run_end_encoded-overflow_add-i-3 t c = omega (arith, subtree-next _ _ _ _ _ c.requires.0.subtree)
 
 pub put_run_end_encoded-put_field-next-requires : goal.put_run_end_encoded-put_field-next-requires
-put_run_end_encoded-put_field-next-requires t c = (omega (arith, c.requires.0), ((run-end-children _ _ _ _ _ c.requires.0 _ c.subtree.ensures).first, (rest_fits (rest_step (rest_start (long-parts _ _ _ _ _ _ (run-end-children _ _ _ _ _ c.requires.0 _ c.subtree.ensures) _ c.default_names.ensures c.if-default_names.false) c.requires.1) c.put_mark-opened-2.ensures))))
-
--- NO GOAL Need-slice-aggregate-put-2
--- slice-aggregate-put-2 : lts.Need-slice-aggregate-put-2 (calls t) (at t) put-run-end-encoded.Post
--- slice-aggregate-put-2 c = search rules
+put_run_end_encoded-put_field-next-requires t c = (omega arith, ((run-end-children _ _ _ _ _ c.requires.0 _ c.subtree.ensures).first, (rest_fits (rest_step (rest_start (long-parts _ _ _ _ _ _ (run-end-children _ _ _ _ _ c.requires.0 _ c.subtree.ensures) _ c.default_names.ensures c.if-default_names.false) c.requires.1) c.put_mark-opened-2.ensures))))
 
 pub put_run_end_encoded-put-more-requires-2 : goal.put_run_end_encoded-put-more-requires-2
 put_run_end_encoded-put-more-requires-2 t c = rest_fits (rest_step (rest_step (rest_start (long-parts _ _ _ _ _ _ (run-end-children _ _ _ _ _ c.requires.0 _ c.subtree.ensures) _ c.default_names.ensures c.if-default_names.false) c.requires.1) c.put_mark-opened-2.ensures) c.put_field-next.ensures)
 
 pub put_run_end_encoded-put_field-last-requires : goal.put_run_end_encoded-put_field-last-requires
-put_run_end_encoded-put_field-last-requires t c = (omega (arith, c.requires.0), ((run-end-children _ _ _ _ _ c.requires.0 _ c.subtree.ensures).second, (rest_fits (rest_step (rest_step (rest_step (rest_start (long-parts _ _ _ _ _ _ (run-end-children _ _ _ _ _ c.requires.0 _ c.subtree.ensures) _ c.default_names.ensures c.if-default_names.false) c.requires.1) c.put_mark-opened-2.ensures) c.put_field-next.ensures) c.put-more-2.ensures))))
+put_run_end_encoded-put_field-last-requires t c = (omega arith, ((run-end-children _ _ _ _ _ c.requires.0 _ c.subtree.ensures).second, (rest_fits (rest_step (rest_step (rest_step (rest_start (long-parts _ _ _ _ _ _ (run-end-children _ _ _ _ _ c.requires.0 _ c.subtree.ensures) _ c.default_names.ensures c.if-default_names.false) c.requires.1) c.put_mark-opened-2.ensures) c.put_field-next.ensures) c.put-more-2.ensures))))
 
 pub put_run_end_encoded-put_mark-requires-2 : goal.put_run_end_encoded-put_mark-requires-2
 put_run_end_encoded-put_mark-requires-2 t c = rest_fits (rest_step (rest_step (rest_step (rest_step (rest_start (long-parts _ _ _ _ _ _ (run-end-children _ _ _ _ _ c.requires.0 _ c.subtree.ensures) _ c.default_names.ensures c.if-default_names.false) c.requires.1) c.put_mark-opened-2.ensures) c.put_field-next.ensures) c.put-more-2.ensures) c.put_field-last.ensures)
@@ -349,13 +286,13 @@ pub put_struct-word-kind-requires : goal.put_struct-word-kind-requires
 put_struct-word-kind-requires t c = ((first-room _ _ _ _ _ _ _ c.loop-j.invariant.rows c.loop-j-test.true), omega arith)
 
 pub put_struct-put_kind-last-requires : goal.put_struct-put_kind-last-requires
-put_struct-put_kind-last-requires t c = ((subtree-kind _ _ _ _ _ (first-child _ _ _ _ _ _ _ c.loop-j.invariant.rows c.loop-j-test.true).subtree _ c.word-kind.ensures), fits_as (sym (word-text _ _ _ _ c.word-kind.ensures _ (of_true _ (sym c.is_IsWord.ensures ∙ c.if-is_word.true)))) (rest_fits (rest_step (rest_start (field-parts _ _ _ _ _ c.name_at-name.ensures _ c.word-role.ensures) (struct-field _ _ _ _ _ _ _ _ _ _ _ _ c.loop-j-test.true c.loop-j.invariant)) c.put_name-named.ensures)))
+put_struct-put_kind-last-requires t c = ((subtree-kind _ _ _ _ _ (first-child _ _ _ _ _ _ _ c.loop-j.invariant.rows c.loop-j-test.true).subtree _ c.word-kind.ensures), fits_as (sym (word-text _ _ _ _ c.word-kind.ensures _ (of_true _ (sym c.is_word.ensures ∙ c.if-is_word.true)))) (rest_fits (rest_step (rest_start (field-parts _ _ _ _ _ c.name_at-name.ensures _ c.word-role.ensures) (struct-field _ _ _ _ _ _ _ _ _ _ _ _ c.loop-j-test.true c.loop-j.invariant)) c.put_name-named.ensures)))
 
 pub put_struct-put_leaf-requires : goal.put_struct-put_leaf-requires
 put_struct-put_leaf-requires t c = (record { room = (first-room _ _ _ _ _ _ _ c.loop-j.invariant.rows c.loop-j-test.true); is = c.word-kind.ensures; some = (subtree-kind _ _ _ _ _ (first-child _ _ _ _ _ _ _ c.loop-j.invariant.rows c.loop-j-test.true).subtree _ c.word-kind.ensures); alone = (of_true _ (sym c.is_alone.ensures ∙ c.if-is_alone.true)) }, fits_as (sym (alone-text _ _ _ _ c.word-kind.ensures _ (subtree-kind _ _ _ _ _ (first-child _ _ _ _ _ _ _ c.loop-j.invariant.rows c.loop-j-test.true).subtree _ c.word-kind.ensures) (of_true _ (sym c.is_alone.ensures ∙ c.if-is_alone.true)))) (rest_fits (rest_step (rest_start (field-parts _ _ _ _ _ c.name_at-name.ensures _ c.word-role.ensures) (struct-field _ _ _ _ _ _ _ _ _ _ _ _ c.loop-j-test.true c.loop-j.invariant)) c.put_name-named.ensures)))
 
 pub put_struct-put_nested-requires : goal.put_struct-put_nested-requires
-put_struct-put_nested-requires t c = (omega (arith, c.requires.0), ((first-child _ _ _ _ _ _ _ c.loop-j.invariant.rows c.loop-j-test.true), nested-here _ _ _ _ _ c.word-kind.ensures _ c.is_alone.ensures c.if-is_alone.false, rest_fits (rest_step (rest_start (field-parts _ _ _ _ _ c.name_at-name.ensures _ c.word-role.ensures) (struct-field _ _ _ _ _ _ _ _ _ _ _ _ c.loop-j-test.true c.loop-j.invariant)) c.put_name-named.ensures)))
+put_struct-put_nested-requires t c = (omega arith, ((first-child _ _ _ _ _ _ _ c.loop-j.invariant.rows c.loop-j-test.true), nested-here _ _ _ _ _ c.word-kind.ensures _ c.is_alone.ensures c.if-is_alone.false, rest_fits (rest_step (rest_start (field-parts _ _ _ _ _ c.name_at-name.ensures _ c.word-role.ensures) (struct-field _ _ _ _ _ _ _ _ _ _ _ _ c.loop-j-test.true c.loop-j.invariant)) c.put_name-named.ensures)))
 
 pub put_struct-subtree-j-requires : goal.put_struct-subtree-j-requires
 put_struct-subtree-j-requires t c = (first-room _ _ _ _ _ _ _ c.loop-j.invariant.rows c.loop-j-test.true)
@@ -364,13 +301,27 @@ pub put_struct-overflow_add-j-in-loop-j : goal.put_struct-overflow_add-j-in-loop
 put_struct-overflow_add-j-in-loop-j t c = omega (arith, (first-turn _ _ _ _ _ _ _ c.loop-j.invariant.rows c.loop-j-test.true).within, c.loop-j.invariant.rows.few, c.subtree-j.ensures)
 
 pub put_struct-put_comma-next-requires : goal.put_struct-put_comma-next-requires
-put_struct-put_comma-next-requires t c = rest_fits (rest_step (struct-here _ _ _ _ _ _ _ _ _ _ _ _ c.loop-j-test.true c.loop-j.invariant _ c.subtree-j.ensures) (⊎_elim (λ w. wrote_came (rest_last (rest_step (rest_start (field-parts _ _ _ _ _ c.name_at-name.ensures _ c.word-role.ensures) (struct-field _ _ _ _ _ _ _ _ _ _ _ _ c.loop-j-test.true c.loop-j.invariant)) c.put_name-named.ensures) (wrote_as (word-text _ _ _ _ c.word-kind.ensures _ (of_true _ (sym c.is_IsWord.ensures ∙ w.0.taken))) w.2.ensures)) w.5 w.6) (λ v. ⊎_elim (λ w. wrote_came (rest_last (rest_step (rest_start (field-parts _ _ _ _ _ c.name_at-name.ensures _ c.word-role.ensures) (struct-field _ _ _ _ _ _ _ _ _ _ _ _ c.loop-j-test.true c.loop-j.invariant)) c.put_name-named.ensures) (wrote_as (alone-text _ _ _ _ c.word-kind.ensures _ (subtree-kind _ _ _ _ _ (first-child _ _ _ _ _ _ _ c.loop-j.invariant.rows c.loop-j-test.true).subtree _ c.word-kind.ensures) (of_true _ (sym w.1.ensures ∙ w.2.taken))) w.4.ensures)) w.7 w.8) (λ w. wrote_came (rest_last (rest_step (rest_start (field-parts _ _ _ _ _ c.name_at-name.ensures _ c.word-role.ensures) (struct-field _ _ _ _ _ _ _ _ _ _ _ _ c.loop-j-test.true c.loop-j.invariant)) c.put_name-named.ensures) w.4.ensures) w.7 w.8) v) c.if-is_word.branch))
+put_struct-put_comma-next-requires t c =
+    let field : Wrote c.loop-j.out c.loop-j.next (field_text (shown_at c.args.text.now c.args.names.now c.args.rows.now c.loop-j.j)) c.if-is_word.last c.if-is_word.out =
+    elim c.if-is_word.branch [
+      | put_struct-then-is_word w ↦ wrote_came (rest_last (rest_step (rest_start (field-parts _ _ _ _ _ c.name_at-name.ensures _ c.word-role.ensures) (struct-field _ _ _ _ _ _ _ _ _ _ _ _ c.loop-j-test.true c.loop-j.invariant)) c.put_name-named.ensures) (wrote_as (word-text _ _ _ _ c.word-kind.ensures _ (of_true _ (sym c.is_word.ensures ∙ w.if-is_word.true))) w.put_kind-last.ensures)) w.out-is w.last-is
+      | put_struct-else-is_word+then-is_alone w ↦ wrote_came (rest_last (rest_step (rest_start (field-parts _ _ _ _ _ c.name_at-name.ensures _ c.word-role.ensures) (struct-field _ _ _ _ _ _ _ _ _ _ _ _ c.loop-j-test.true c.loop-j.invariant)) c.put_name-named.ensures) (wrote_as (alone-text _ _ _ _ c.word-kind.ensures _ (subtree-kind _ _ _ _ _ (first-child _ _ _ _ _ _ _ c.loop-j.invariant.rows c.loop-j-test.true).subtree _ c.word-kind.ensures) (of_true _ (sym w.is_alone.ensures ∙ w.if-is_alone.true))) w.put_leaf.ensures)) w.out-is w.last-is
+      | put_struct-else-is_word+else-is_alone w ↦ wrote_came (rest_last (rest_step (rest_start (field-parts _ _ _ _ _ c.name_at-name.ensures _ c.word-role.ensures) (struct-field _ _ _ _ _ _ _ _ _ _ _ _ c.loop-j-test.true c.loop-j.invariant)) c.put_name-named.ensures) w.put_nested.ensures) w.out-is w.last-is
+    ] in
+    rest_fits (rest_step (struct-here _ _ _ _ _ _ _ _ _ _ _ _ c.loop-j-test.true c.loop-j.invariant _ c.subtree-j.ensures) field)
 
 pub put_struct-loop-j-smaller : goal.put_struct-loop-j-smaller
-put_struct-loop-j-smaller t c = omega (arith, (first-turn _ _ _ _ _ _ _ c.loop-j.invariant.rows c.loop-j-test.true).some-rows, (first-turn _ _ _ _ _ _ _ c.loop-j.invariant.rows c.loop-j-test.true).within, c.subtree-j.ensures)
+put_struct-loop-j-smaller t c = omega (arith, (first-turn _ _ _ _ _ _ _ c.loop-j.invariant.rows c.loop-j-test.true).some_rows, (first-turn _ _ _ _ _ _ _ c.loop-j.invariant.rows c.loop-j-test.true).within, c.subtree-j.ensures)
 
 pub put_struct-loop-j-preserved : goal.put_struct-loop-j-preserved
-put_struct-loop-j-preserved t c = struct-again _ _ _ _ _ _ _ _ _ _ _ _ c.loop-j-test.true c.loop-j.invariant _ c.subtree-j.ensures _ _ _ _ (⊎_elim (λ w. wrote_came (rest_last (rest_step (rest_start (field-parts _ _ _ _ _ c.name_at-name.ensures _ c.word-role.ensures) (struct-field _ _ _ _ _ _ _ _ _ _ _ _ c.loop-j-test.true c.loop-j.invariant)) c.put_name-named.ensures) (wrote_as (word-text _ _ _ _ c.word-kind.ensures _ (of_true _ (sym c.is_IsWord.ensures ∙ w.0.taken))) w.2.ensures)) w.5 w.6) (λ v. ⊎_elim (λ w. wrote_came (rest_last (rest_step (rest_start (field-parts _ _ _ _ _ c.name_at-name.ensures _ c.word-role.ensures) (struct-field _ _ _ _ _ _ _ _ _ _ _ _ c.loop-j-test.true c.loop-j.invariant)) c.put_name-named.ensures) (wrote_as (alone-text _ _ _ _ c.word-kind.ensures _ (subtree-kind _ _ _ _ _ (first-child _ _ _ _ _ _ _ c.loop-j.invariant.rows c.loop-j-test.true).subtree _ c.word-kind.ensures) (of_true _ (sym w.1.ensures ∙ w.2.taken))) w.4.ensures)) w.7 w.8) (λ w. wrote_came (rest_last (rest_step (rest_start (field-parts _ _ _ _ _ c.name_at-name.ensures _ c.word-role.ensures) (struct-field _ _ _ _ _ _ _ _ _ _ _ _ c.loop-j-test.true c.loop-j.invariant)) c.put_name-named.ensures) w.4.ensures) w.7 w.8) v) c.if-is_word.branch) c.put_comma-next.ensures
+put_struct-loop-j-preserved t c =
+    let field : Wrote c.loop-j.out c.loop-j.next (field_text (shown_at c.args.text.now c.args.names.now c.args.rows.now c.loop-j.j)) c.if-is_word.last c.if-is_word.out =
+    elim c.if-is_word.branch [
+      | put_struct-then-is_word w ↦ wrote_came (rest_last (rest_step (rest_start (field-parts _ _ _ _ _ c.name_at-name.ensures _ c.word-role.ensures) (struct-field _ _ _ _ _ _ _ _ _ _ _ _ c.loop-j-test.true c.loop-j.invariant)) c.put_name-named.ensures) (wrote_as (word-text _ _ _ _ c.word-kind.ensures _ (of_true _ (sym c.is_word.ensures ∙ w.if-is_word.true))) w.put_kind-last.ensures)) w.out-is w.last-is
+      | put_struct-else-is_word+then-is_alone w ↦ wrote_came (rest_last (rest_step (rest_start (field-parts _ _ _ _ _ c.name_at-name.ensures _ c.word-role.ensures) (struct-field _ _ _ _ _ _ _ _ _ _ _ _ c.loop-j-test.true c.loop-j.invariant)) c.put_name-named.ensures) (wrote_as (alone-text _ _ _ _ c.word-kind.ensures _ (subtree-kind _ _ _ _ _ (first-child _ _ _ _ _ _ _ c.loop-j.invariant.rows c.loop-j-test.true).subtree _ c.word-kind.ensures) (of_true _ (sym w.is_alone.ensures ∙ w.if-is_alone.true))) w.put_leaf.ensures)) w.out-is w.last-is
+      | put_struct-else-is_word+else-is_alone w ↦ wrote_came (rest_last (rest_step (rest_start (field-parts _ _ _ _ _ c.name_at-name.ensures _ c.word-role.ensures) (struct-field _ _ _ _ _ _ _ _ _ _ _ _ c.loop-j-test.true c.loop-j.invariant)) c.put_name-named.ensures) w.put_nested.ensures) w.out-is w.last-is
+    ] in
+    struct-again _ _ _ _ _ _ _ _ _ _ _ _ c.loop-j-test.true c.loop-j.invariant _ c.subtree-j.ensures _ _ _ _ field c.put_comma-next.ensures
 
 pub put_struct-put_mark-requires : goal.put_struct-put_mark-requires
 put_struct-put_mark-requires t c = rest_fits (struct-end _ _ _ _ _ _ _ _ _ _ _ _ c.loop-j.invariant c.loop-j-test.false)
@@ -385,10 +336,10 @@ pub put_type-word-kind-requires : goal.put_type-word-kind-requires
 put_type-word-kind-requires t c = (subtree-room _ _ _ _ _ c.requires.0.subtree, omega arith)
 
 pub put_type-put_kind-requires : goal.put_type-put_kind-requires
-put_type-put_kind-requires t c = ((subtree-kind _ _ _ _ _ c.requires.0.subtree _ c.word-kind.ensures), fits_as (sym (word-text _ _ _ _ c.word-kind.ensures _ (of_true _ (sym c.is_IsWord.ensures ∙ c.if-is_word.true)))) c.requires.1)
+put_type-put_kind-requires t c = ((subtree-kind _ _ _ _ _ c.requires.0.subtree _ c.word-kind.ensures), fits_as (sym (word-text _ _ _ _ c.word-kind.ensures _ (of_true _ (sym c.is_word.ensures ∙ c.if-is_word.true)))) c.requires.1)
 
 pub put_type-returns-then-is_word : goal.put_type-returns-then-is_word
-put_type-returns-then-is_word t c = wrote_as (word-text _ _ _ _ c.word-kind.ensures _ (of_true _ (sym c.is_IsWord.ensures ∙ c.if-is_word.true))) c.put_kind.ensures
+put_type-returns-then-is_word t c = wrote_as (word-text _ _ _ _ c.word-kind.ensures _ (of_true _ (sym c.is_word.ensures ∙ c.if-is_word.true))) c.put_kind.ensures
 
 pub put_type-put_leaf-requires : goal.put_type-put_leaf-requires
 put_type-put_leaf-requires t c = (record { room = subtree-room _ _ _ _ _ c.requires.0.subtree; is = c.word-kind.ensures; some = (subtree-kind _ _ _ _ _ c.requires.0.subtree _ c.word-kind.ensures); alone = (of_true _ (sym c.is_alone.ensures ∙ c.if-is_alone.true)) }, fits_as (sym (alone-text _ _ _ _ c.word-kind.ensures _ (subtree-kind _ _ _ _ _ c.requires.0.subtree _ c.word-kind.ensures) (of_true _ (sym c.is_alone.ensures ∙ c.if-is_alone.true)))) c.requires.1)
@@ -397,7 +348,7 @@ pub put_type-returns-then-is_alone : goal.put_type-returns-then-is_alone
 put_type-returns-then-is_alone t c = wrote_as (alone-text _ _ _ _ c.word-kind.ensures _ (subtree-kind _ _ _ _ _ c.requires.0.subtree _ c.word-kind.ensures) (of_true _ (sym c.is_alone.ensures ∙ c.if-is_alone.true))) c.put_leaf.ensures
 
 pub put_type-put_nested-requires : goal.put_type-put_nested-requires
-put_type-put_nested-requires t c = (omega (arith, c.requires.0), (c.requires.0, nested-here _ _ _ _ _ c.word-kind.ensures _ c.is_alone.ensures c.if-is_alone.false, c.requires.1))
+put_type-put_nested-requires t c = (omega arith, (c.requires.0, nested-here _ _ _ _ _ c.word-kind.ensures _ c.is_alone.ensures c.if-is_alone.false, c.requires.1))
 
 pub put_type-returns : goal.put_type-returns
 put_type-returns t c = c.put_nested.ensures
@@ -424,7 +375,7 @@ pub put_union-loop-j-init : goal.put_union-loop-j-init
 put_union-loop-j-init t c = fields_start _ _ _ _ _ c.requires.0.subtree _ c.subtree.ensures union_text _ _ (rest_fits (rest_step (rest_step (rest_start (union-parts _ _ _ _ _ c.word-mode.ensures) c.requires.1) c.put_mark-opened.ensures) c.put_mode-next.ensures))
 
 pub put_union-put_union_field-next-requires : goal.put_union-put_union_field-next-requires
-put_union-put_union_field-next-requires t c = (omega (arith, c.requires.0), (first-child _ _ _ _ _ _ _ c.loop-j.invariant.rows c.loop-j-test.true, union-field _ _ _ _ _ _ _ _ _ _ _ _ c.loop-j-test.true c.loop-j.invariant))
+put_union-put_union_field-next-requires t c = (omega arith, (first-child _ _ _ _ _ _ _ c.loop-j.invariant.rows c.loop-j-test.true, union-field _ _ _ _ _ _ _ _ _ _ _ _ c.loop-j-test.true c.loop-j.invariant))
 
 pub put_union-subtree-j-requires : goal.put_union-subtree-j-requires
 put_union-subtree-j-requires t c = first-room _ _ _ _ _ _ _ c.loop-j.invariant.rows c.loop-j-test.true
@@ -433,7 +384,7 @@ pub put_union-overflow_add-j-in-loop-j : goal.put_union-overflow_add-j-in-loop-j
 put_union-overflow_add-j-in-loop-j t c = omega (arith, (first-turn _ _ _ _ _ _ _ c.loop-j.invariant.rows c.loop-j-test.true).within, c.loop-j.invariant.rows.few, c.subtree-j.ensures)
 
 pub put_union-loop-j-smaller : goal.put_union-loop-j-smaller
-put_union-loop-j-smaller t c = omega (arith, (first-turn _ _ _ _ _ _ _ c.loop-j.invariant.rows c.loop-j-test.true).some-rows, (first-turn _ _ _ _ _ _ _ c.loop-j.invariant.rows c.loop-j-test.true).within, c.subtree-j.ensures)
+put_union-loop-j-smaller t c = omega (arith, (first-turn _ _ _ _ _ _ _ c.loop-j.invariant.rows c.loop-j-test.true).some_rows, (first-turn _ _ _ _ _ _ _ c.loop-j.invariant.rows c.loop-j-test.true).within, c.subtree-j.ensures)
 
 pub put_union-loop-j-preserved : goal.put_union-loop-j-preserved
 put_union-loop-j-preserved t c = union-again _ _ _ _ _ _ _ _ _ _ _ _ c.loop-j-test.true c.loop-j.invariant _ c.subtree-j.ensures _ _ c.put_union_field-next.ensures
@@ -450,25 +401,17 @@ put_union-returns t c = rest_last (rest_step (rest_step (rest_start (union-parts
 pub put_union_field-word-id-requires : goal.put_union_field-word-id-requires
 put_union_field-word-id-requires t c = (subtree-room _ _ _ _ _ c.requires.0.subtree, omega arith)
 
--- NO GOAL Need-slice-aggregate-put
--- slice-aggregate-put : lts.Need-slice-aggregate-put (calls t) (at t) put-union-field.Post
--- slice-aggregate-put c = search rules
-
 pub put_union_field-put-parted-requires : goal.put_union_field-put-parted-requires
 put_union_field-put-parted-requires t c = rest_fits (rest_start (union-field-parts _ _ _ _ _ c.word-id.ensures) c.requires.1)
 
 pub put_union_field-put_number-next-requires : goal.put_union_field-put_number-next-requires
 put_union_field-put_number-next-requires t c = rest_fits (rest_step (rest_start (union-field-parts _ _ _ _ _ c.word-id.ensures) c.requires.1) c.put-parted.ensures)
 
--- NO GOAL Need-slice-aggregate-put-2
--- slice-aggregate-put-2 : lts.Need-slice-aggregate-put-2 (calls t) (at t) put-union-field.Post
--- slice-aggregate-put-2 c = search rules
-
 pub put_union_field-put-opened-requires : goal.put_union_field-put-opened-requires
 put_union_field-put-opened-requires t c = rest_fits (rest_step (rest_step (rest_start (union-field-parts _ _ _ _ _ c.word-id.ensures) c.requires.1) c.put-parted.ensures) c.put_number-next.ensures)
 
 pub put_union_field-put_field-last-requires : goal.put_union_field-put_field-last-requires
-put_union_field-put_field-last-requires t c = (omega (arith, c.requires.0), (c.requires.0, (rest_fits (rest_step (rest_step (rest_step (rest_start (union-field-parts _ _ _ _ _ c.word-id.ensures) c.requires.1) c.put-parted.ensures) c.put_number-next.ensures) c.put-opened.ensures))))
+put_union_field-put_field-last-requires t c = (omega arith, (c.requires.0, (rest_fits (rest_step (rest_step (rest_step (rest_start (union-field-parts _ _ _ _ _ c.word-id.ensures) c.requires.1) c.put-parted.ensures) c.put_number-next.ensures) c.put-opened.ensures))))
 
 pub put_union_field-put_mark-requires : goal.put_union_field-put_mark-requires
 put_union_field-put_mark-requires t c = rest_fits (rest_step (rest_step (rest_step (rest_step (rest_start (union-field-parts _ _ _ _ _ c.word-id.ensures) c.requires.1) c.put-parted.ensures) c.put_number-next.ensures) c.put-opened.ensures) c.put_field-last.ensures)

@@ -1,6 +1,5 @@
 use Rattle.datatype_display.proofs.Writes.{wrote_kept, rest_start, rest_fits}
 use Rattle.datatype_display.proofs.Escapes.{escaped_start, escape-here, escaped-more, escaped-end}
-use Prim.Native.Nat.{◌-◌}
 use Rattle.datatype_display.proofs.escape.put_escaped.Goals as goal
 
 pub loop-i-init : goal.loop-i-init

@@ -2,7 +2,6 @@ use Rattle.datatype_display.proofs.Escapes.{ran-start, ran-kept, ran-room, ran-m
 use Rattle.tokenizer.proofs.Basics.{of_true}
 use borrow.Author.Tests.{not-false}
 use mathlib.Core.Path.{sym, ◌∙◌}
-use Prim.Native.Nat.{◌-◌}
 use Rattle.datatype_display.proofs.escape.put_run.Goals as goal
 
 pub loop-i-init : goal.loop-i-init

@@ -1,11 +1,6 @@
 use Rattle.datatype_display.proofs.Writes.{rest_start, rest_fits, rest_step, rest_last}
 use Rattle.datatype_display.proofs.Escapes.{unicode_parts}
-use borrow.Author.Rules.{rules}
 use Rattle.datatype_display.proofs.escape.put_unicode.Goals as goal
-
--- NO GOAL Need-slice-aggregate-put
--- slice-aggregate-put : tie.Need-slice-aggregate-put
--- slice-aggregate-put c = search rules
 
 pub put-next-requires : goal.put-next-requires
 put-next-requires c = rest_fits (rest_start (unicode_parts _) c.requires)

@@ -2,7 +2,6 @@ use Rattle.datatype_display.proofs.Writes.{fits_as, wrote_as}
 use mathlib.Core.Path.{sym}
 use native.Mathlib.Omega.{arith}
 use Rattle.datatype_display.proofs.KindWords.{word_room, short_word, long-word, map-word}
-use borrow.Author.Rules.{rules}
 use Rattle.datatype_display.proofs.kind_words.put_kind.Goals as goal
 
 pub store_eight-requires : goal.store_eight-requires
@@ -19,10 +18,6 @@ overflow_add-result c = omega (arith, word_room _ c.requires.0 _ c.kind_word-wor
 
 pub returns-then-n-gt8 : goal.returns-then-n-gt8
 returns-then-n-gt8 c = long-word _ c.requires.0 _ c.kind_word-word.ensures c.if-n-gt8.true _ _ _ _ c.store_eight.ensures c.store_eight-then-n-gt8.ensures
-
--- NO GOAL Need-slice-aggregate-put
--- slice-aggregate-put : tie.Need-slice-aggregate-put
--- slice-aggregate-put c = search rules
 
 pub put-requires : goal.put-requires
 put-requires c = fits_as (sym (map-word _ c.requires.0 _ c.kind_word-word.ensures c.if-n-lt4.true)) c.requires.1

@@ -1,12 +1,7 @@
 use Rattle.datatype_display.proofs.Writes.{fits_as, wrote_as, wrote_none}
 use mathlib.Core.Path.{sym}
 use Rattle.datatype_display.proofs.Texts.{comma_more, comma_last}
-use borrow.Author.Rules.{rules}
 use Rattle.datatype_display.proofs.leaves.put_comma.Goals as goal
-
--- NO GOAL Need-slice-aggregate-put
--- slice-aggregate-put : tie.Need-slice-aggregate-put
--- slice-aggregate-put c = search rules
 
 pub put-requires : goal.put-requires
 put-requires c = fits_as (sym (comma_more _ c.if-more.true)) c.requires

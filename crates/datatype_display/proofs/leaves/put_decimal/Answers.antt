@@ -1,6 +1,5 @@
 use Rattle.datatype_display.proofs.Writes.{rest_start, rest_fits, rest_step, rest_last}
 use Rattle.datatype_display.proofs.Texts.{decimal-parts}
-use borrow.Author.Rules.{rules}
 use Rattle.datatype_display.proofs.leaves.put_decimal.Goals as goal
 
 pub put_mark-opened-requires : goal.put_mark-opened-requires
@@ -8,10 +7,6 @@ put_mark-opened-requires c = rest_fits (rest_start (decimal-parts _ _ _ c.word-p
 
 pub put_number-next-requires : goal.put_number-next-requires
 put_number-next-requires c = rest_fits (rest_step (rest_start (decimal-parts _ _ _ c.word-precision.ensures _ c.word-scale.ensures) c.requires.1) c.put_mark-opened.ensures)
-
--- NO GOAL Need-slice-aggregate-put
--- slice-aggregate-put : tie.Need-slice-aggregate-put
--- slice-aggregate-put c = search rules
 
 pub put-more-requires : goal.put-more-requires
 put-more-requires c = rest_fits (rest_step (rest_step (rest_start (decimal-parts _ _ _ c.word-precision.ensures _ c.word-scale.ensures) c.requires.1) c.put_mark-opened.ensures) c.put_number-next.ensures)

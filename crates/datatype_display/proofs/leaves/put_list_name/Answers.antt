@@ -1,18 +1,9 @@
 use Rattle.datatype_display.proofs.Writes.{wrote_as, wrote_none, rest_start, rest_fits, rest_step, rest_last}
 use Rattle.datatype_display.proofs.Texts.{name_item, name_parts}
-use borrow.Author.Rules.{rules}
 use Rattle.datatype_display.proofs.leaves.put_list_name.Goals as goal
-
--- NO GOAL Need-slice-aggregate-equal-bytes
--- slice-aggregate-equal-bytes : tie.Need-slice-aggregate-equal-bytes
--- slice-aggregate-equal-bytes c = search rules
 
 pub returns-then-equal_bytes : goal.returns-then-equal_bytes
 returns-then-equal_bytes c = wrote_as (name_item _ _ c.equal_bytes.ensures c.if-equal_bytes.true) (wrote_none _ _)
-
--- NO GOAL Need-slice-aggregate-put
--- slice-aggregate-put : tie.Need-slice-aggregate-put
--- slice-aggregate-put c = search rules
 
 pub put-next-requires : goal.put-next-requires
 put-next-requires c = rest_fits (rest_start (name_parts _ _ c.equal_bytes.ensures c.if-equal_bytes.false) c.requires)

@@ -1,14 +1,9 @@
 use Rattle.datatype_display.proofs.Writes.{rest_start, rest_fits, rest_step, rest_last}
 use Rattle.datatype_display.proofs.Texts.{quoted_name_parts}
-use borrow.Author.Rules.{rules}
 use Rattle.datatype_display.proofs.leaves.put_name.Goals as goal
 
 pub put_quoted-named-requires : goal.put_quoted-named-requires
 put_quoted-named-requires c = rest_fits (rest_start (quoted_name_parts _ _) c.requires)
-
--- NO GOAL Need-slice-aggregate-put
--- slice-aggregate-put : tie.Need-slice-aggregate-put
--- slice-aggregate-put c = search rules
 
 pub put-next-requires : goal.put-next-requires
 put-next-requires c = rest_fits (rest_step (rest_start (quoted_name_parts _ _) c.requires) c.put_quoted-named.ensures)

@@ -1,20 +1,16 @@
 use Rattle.datatype_display.proofs.Writes.{wrote_as, wrote_none, rest_start, rest_fits, rest_step, rest_last}
 use Rattle.datatype_display.proofs.Texts.{no_zone, zone_parts}
-use borrow.Author.Rules.{rules}
+use native.Mathlib.Omega.{arith}
 use Rattle.datatype_display.proofs.leaves.put_zone.Goals as goal
 
 pub returns-then-zone-eq0 : goal.returns-then-zone-eq0
 returns-then-zone-eq0 c = wrote_as (no_zone _ c.if-zone-eq0.true) (wrote_none _ _)
 
--- NO GOAL Need-slice-aggregate-put
--- slice-aggregate-put : tie.Need-slice-aggregate-put
--- slice-aggregate-put c = search rules
-
 pub put-next-requires : goal.put-next-requires
-put-next-requires c = rest_fits (rest_start (zone_parts _ c.if-zone-eq0.false) c.requires)
+put-next-requires c = rest_fits (rest_start (zone_parts _ (λ z. omega arith)) c.requires)
 
 pub put_quoted-requires : goal.put_quoted-requires
-put_quoted-requires c = rest_fits (rest_step (rest_start (zone_parts _ c.if-zone-eq0.false) c.requires) c.put-next.ensures)
+put_quoted-requires c = rest_fits (rest_step (rest_start (zone_parts _ (λ z. omega arith)) c.requires) c.put-next.ensures)
 
 pub returns : goal.returns
-returns c = rest_last (rest_step (rest_start (zone_parts _ c.if-zone-eq0.false) c.requires) c.put-next.ensures) c.put_quoted.ensures
+returns c = rest_last (rest_step (rest_start (zone_parts _ (λ z. omega arith)) c.requires) c.put-next.ensures) c.put_quoted.ensures

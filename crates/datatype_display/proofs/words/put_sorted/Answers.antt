@@ -1,19 +1,10 @@
 use Rattle.datatype_display.proofs.Writes.{fits_as, wrote_as}
 use mathlib.Core.Path.{sym}
 use Rattle.datatype_display.proofs.WordLaws.{sorted-0, sorted_rest}
-use borrow.Author.Rules.{rules}
 use Rattle.datatype_display.proofs.words.put_sorted.Goals as goal
-
--- NO GOAL Need-slice-aggregate-put
--- slice-aggregate-put : tie.Need-slice-aggregate-put
--- slice-aggregate-put c = search rules
 
 pub put-requires : goal.put-requires
 put-requires c = fits_as (sym (sorted-0 _ c.in-0.is)) c.requires
-
--- NO GOAL Need-slice-aggregate-put-2
--- slice-aggregate-put-2 : tie.Need-slice-aggregate-put-2
--- slice-aggregate-put-2 c = search rules
 
 pub put-requires-in_default : goal.put-requires-in_default
 put-requires-in_default c = fits_as (sym (sorted_rest _ c.in_default.in_default-own.rest)) c.requires

@@ -1,33 +1,16 @@
 use Rattle.datatype_display.proofs.Writes.{fits_as, wrote_as}
 use mathlib.Core.Path.{sym}
 use Rattle.datatype_display.proofs.WordLaws.{unit-0, unit-1, unit-2, unit_rest}
-use borrow.Author.Rules.{rules}
 use Rattle.datatype_display.proofs.words.put_unit.Goals as goal
-
--- NO GOAL Need-slice-aggregate-put
--- slice-aggregate-put : tie.Need-slice-aggregate-put
--- slice-aggregate-put c = search rules
 
 pub put-requires : goal.put-requires
 put-requires c = fits_as (sym (unit-0 _ c.in-0.is)) c.requires
 
--- NO GOAL Need-slice-aggregate-put-2
--- slice-aggregate-put-2 : tie.Need-slice-aggregate-put-2
--- slice-aggregate-put-2 c = search rules
-
 pub put-requires-in-1 : goal.put-requires-in-1
 put-requires-in-1 c = fits_as (sym (unit-1 _ c.in-1.is)) c.requires
 
--- NO GOAL Need-slice-aggregate-put-3
--- slice-aggregate-put-3 : tie.Need-slice-aggregate-put-3
--- slice-aggregate-put-3 c = search rules
-
 pub put-requires-in-2 : goal.put-requires-in-2
 put-requires-in-2 c = fits_as (sym (unit-2 _ c.in-2.is)) c.requires
-
--- NO GOAL Need-slice-aggregate-put-4
--- slice-aggregate-put-4 : tie.Need-slice-aggregate-put-4
--- slice-aggregate-put-4 c = search rules
 
 pub put-requires-in_default : goal.put-requires-in_default
 put-requires-in_default c = fits_as (sym (unit_rest _ c.in_default.in_default-own.rest)) c.requires

@@ -1,7 +1,6 @@
 use Rattle.output.proofs.Writes.{copied-length, copied-room, copied_more, copied_all}
 use Rattle.datatype_display.proofs.Writes.{copied_fits, stored_at}
 use mathlib.Core.Path.{refl}
-use Prim.Native.Nat.{◌-◌}
 use Rattle.datatype_display.proofs.write.put.Goals as goal
 
 pub loop-i-init : goal.loop-i-init

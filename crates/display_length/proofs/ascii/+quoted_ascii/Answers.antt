@@ -1,7 +1,6 @@
 use Rattle.display_length.proofs.AsciiLaws.{quoted-start, quoted-end, quoted-turn, quoted-call, quoted-not-row, quoted-not-kids, quoted-more}
 use borrow.Author.Tests.{not-true, not-false}
 use native.Mathlib.Omega.{arith}
-use Prim.Native.Nat.{◌-◌}
 use Rattle.display_length.proofs.ascii.+quoted_ascii.Goals as goal
 
 pub loop-at-init : goal.loop-at-init
@@ -26,7 +25,7 @@ pub returns-then-not-quoted_ascii : goal.returns-then-not-quoted_ascii
 returns-then-not-quoted_ascii t c = quoted-not-kids _ _ _ _ _ _ _ c.loop-at.invariant c.loop-at-test.true _ c.subtree.ensures _ c.row_ascii.ensures (not-false _ c.if-not-row_ascii.false-raw) _ c.quoted_ascii.ensures (not-true _ c.if-not-quoted_ascii.true-raw)
 
 pub loop-at-smaller : goal.loop-at-smaller
-loop-at-smaller t c = omega (arith, (quoted-turn _ _ _ _ _ _ _ c.loop-at.invariant c.loop-at-test.true).some-rows, (quoted-turn _ _ _ _ _ _ _ c.loop-at.invariant c.loop-at-test.true).within, c.subtree.ensures)
+loop-at-smaller t c = omega (arith, (quoted-turn _ _ _ _ _ _ _ c.loop-at.invariant c.loop-at-test.true).some_rows, (quoted-turn _ _ _ _ _ _ _ c.loop-at.invariant c.loop-at-test.true).within, c.subtree.ensures)
 
 pub loop-at-preserved : goal.loop-at-preserved
 loop-at-preserved t c = quoted-more _ _ _ _ _ _ _ c.loop-at.invariant c.loop-at-test.true _ c.subtree.ensures _ c.row_ascii.ensures (not-false _ c.if-not-row_ascii.false-raw) _ c.quoted_ascii.ensures (not-false _ c.if-not-quoted_ascii.false-raw)

@@ -1,6 +1,5 @@
 use Rattle.display_length.proofs.AsciiLaws.{names-start, names-end, names-turn, names-not, names_more}
 use borrow.Author.Tests.{not-true, not-false}
-use Prim.Native.Nat.{◌-◌}
 use native.Mathlib.Omega.{arith}
 use Rattle.display_length.proofs.ascii.names_ascii.Goals as goal
 
@@ -14,7 +13,7 @@ pub overflow_add-at : goal.overflow_add-at
 overflow_add-at c = omega (arith, (names-turn _ _ _ _ _ _ c.loop-at.invariant c.loop-at-test.true).within, c.subtree-at.ensures)
 
 pub loop-at-smaller : goal.loop-at-smaller
-loop-at-smaller c = omega (arith, (names-turn _ _ _ _ _ _ c.loop-at.invariant c.loop-at-test.true).some-rows, (names-turn _ _ _ _ _ _ c.loop-at.invariant c.loop-at-test.true).within, c.subtree-at.ensures)
+loop-at-smaller c = omega (arith, (names-turn _ _ _ _ _ _ c.loop-at.invariant c.loop-at-test.true).some_rows, (names-turn _ _ _ _ _ _ c.loop-at.invariant c.loop-at-test.true).within, c.subtree-at.ensures)
 
 pub loop-at-preserved : goal.loop-at-preserved
 loop-at-preserved c = names_more _ _ _ _ _ _ c.loop-at.invariant c.loop-at-test.true _ c.name_at.ensures _ c.is_ascii.ensures (not-false _ c.if-not-is_ascii.false-raw) _ c.subtree-at.ensures

@@ -1,4 +1,3 @@
-use Prim.Native.Nat.{◌-◌}
 use Rattle.display_length.proofs.StringLaws.{escaped_start, escaped-end, escaped-room, escaped-more}
 use borrow.Author.Rules.{rules}
 use Rattle.display_length.proofs.strings.escaped_length.Goals as goal

@@ -1,5 +1,4 @@
 use mathlib.Core.Path.{refl, sym}
-use Prim.Native.Nat.{◌-◌}
 use Rattle.display_length.specs.Internal.Steps.{is_no_mark}
 use Rattle.display_length.proofs.StringLaws.{all_end, all-other, all_more, mark-is, mark-none}
 use Rattle.display_length.proofs.strings.has_no_mark.Goals as goal

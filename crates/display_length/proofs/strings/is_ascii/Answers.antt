@@ -1,6 +1,5 @@
 use Rattle.display_length.proofs.AsciiLaws.{tops_start, tops-end, tops-more}
 use mathlib.Core.Path.{refl}
-use Prim.Native.Nat.{◌-◌}
 use lib.Dec.{leb}
 use Rattle.display_length.proofs.strings.is_ascii.Goals as goal
 

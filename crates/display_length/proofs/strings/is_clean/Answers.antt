@@ -1,6 +1,5 @@
 use Rattle.display_length.proofs.AsciiLaws.{tops_start, tops-end, tops-more}
 use Rattle.display_length.specs.Internal.Steps.{is_clean}
-use Prim.Native.Nat.{◌-◌}
 use Rattle.display_length.proofs.strings.is_clean.Goals as goal
 
 pub loop-i-init : goal.loop-i-init

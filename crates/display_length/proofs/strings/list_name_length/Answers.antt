@@ -1,11 +1,6 @@
 use Rattle.display_length.proofs.StringLaws.{list-name-item, list-name-other}
 use mathlib.Core.Bool.{false}
-use borrow.Author.Rules.{rules}
 use Rattle.display_length.proofs.strings.list_name_length.Goals as goal
-
--- NO GOAL Need-slice-aggregate-equal-bytes
--- slice-aggregate-equal-bytes : tie.Need-slice-aggregate-equal-bytes
--- slice-aggregate-equal-bytes c = search rules
 
 pub returns-then-equal_bytes : goal.returns-then-equal_bytes
 returns-then-equal_bytes c = list-name-item false _ _ c.equal_bytes.ensures c.if-equal_bytes.true

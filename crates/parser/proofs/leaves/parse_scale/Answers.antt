@@ -15,7 +15,7 @@ pub returns-in_default : goal.returns-in_default
 returns-in_default c = decimal-lost _ _ _ _ _ _ _ _ _ _ (scale-2 _ _ _ _ (got_number _ _ (sym c.in-Value.is ∙ c.parse_i8.ensures)).token _ _ (got_number _ _ (sym c.in-Value.is ∙ c.parse_i8.ensures)).is (c.biased-scale.ensures ∙ scale-is _ _ _ _ (got_number _ _ (sym c.in-Value.is ∙ c.parse_i8.ensures)))) c.close-closed.ensures _ _ c.in_default.is
 
 pub returns-then-fits : goal.returns-then-fits
-returns-then-fits c = decimal-fits _ _ _ _ _ _ _ _ _ _ (scale-2 _ _ _ _ (got_number _ _ (sym c.in-Value.is ∙ c.parse_i8.ensures)).token _ _ (got_number _ _ (sym c.in-Value.is ∙ c.parse_i8.ensures)).is (c.biased-scale.ensures ∙ scale-is _ _ _ _ (got_number _ _ (sym c.in-Value.is ∙ c.parse_i8.ensures)))) c.close-closed.ensures _ _ c.in-Tree.is (sym c.fits2.ensures ∙ c.if-fits.true)
+returns-then-fits c = decimal-fits _ _ _ _ _ _ _ _ _ _ (scale-2 _ _ _ _ (got_number _ _ (sym c.in-Value.is ∙ c.parse_i8.ensures)).token _ _ (got_number _ _ (sym c.in-Value.is ∙ c.parse_i8.ensures)).is (c.biased-scale.ensures ∙ scale-is _ _ _ _ (got_number _ _ (sym c.in-Value.is ∙ c.parse_i8.ensures)))) c.close-closed.ensures _ _ c.in-Tree.is (sym c.fits.ensures ∙ c.if-fits.true)
 
 pub returns : goal.returns
-returns c = decimal-unfit _ _ _ _ _ _ _ _ _ _ (scale-2 _ _ _ _ (got_number _ _ (sym c.in-Value.is ∙ c.parse_i8.ensures)).token _ _ (got_number _ _ (sym c.in-Value.is ∙ c.parse_i8.ensures)).is (c.biased-scale.ensures ∙ scale-is _ _ _ _ (got_number _ _ (sym c.in-Value.is ∙ c.parse_i8.ensures)))) c.close-closed.ensures _ _ c.in-Tree.is _ (sym c.fits2.ensures ∙ c.if-fits.false)
+returns c = decimal-unfit _ _ _ _ _ _ _ _ _ _ (scale-2 _ _ _ _ (got_number _ _ (sym c.in-Value.is ∙ c.parse_i8.ensures)).token _ _ (got_number _ _ (sym c.in-Value.is ∙ c.parse_i8.ensures)).is (c.biased-scale.ensures ∙ scale-is _ _ _ _ (got_number _ _ (sym c.in-Value.is ∙ c.parse_i8.ensures)))) c.close-closed.ensures _ _ c.in-Tree.is _ (sym c.fits.ensures ∙ c.if-fits.false)

@@ -1,10 +1,11 @@
+use borrow.Enum.Refused.{opened}
 use Rattle.parser.proofs.TokenLaws.{but, valued-here, valued-lost}
 use mathlib.Core.Path.{ap}
 use Rattle.tokenizer.specs.Token.{sort_of, value_of}
 use Rattle.parser.proofs.tokens.parse_interval_unit.Goals as goal
 
 pub returns-in_default : goal.returns-in_default
-returns-in_default c = valued-lost _ _ _ _ c.next_token-token.ensures (but 9) tt c.in_default.in_default-own.keys2 _ c.refusal_of.ensures
+returns-in_default c = valued-lost _ _ _ _ c.next_token-token.ensures (but 9) tt (opened c.in_default.in_default-own.keys2) _ c.refusal_of.ensures
 
 pub returns : goal.returns
 returns c = valued-here _ _ _ _ c.next_token-token.ensures _ (ap sort_of c.in-IntervalUnit.is) (ap value_of c.in-IntervalUnit.is)

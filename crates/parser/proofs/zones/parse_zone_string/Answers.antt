@@ -1,3 +1,4 @@
+use borrow.Enum.Refused.{opened}
 use Prim.Native.Nat.{ℕ}
 use Rattle.parser.proofs.TokenLaws.{only_sort}
 use Rattle.parser.proofs.ZoneLaws.{zone_done, zone-none, zone-other, zone_refused, zone-some, zone-string}
@@ -17,4 +18,4 @@ pub returns-in-DoubleQuotedString : goal.returns-in-DoubleQuotedString
 returns-in-DoubleQuotedString c = zone_done _ _ _ _ (zone-string _ _ _ c.next_token-token.ensures (only_sort 5 c.next_token-token.result.kind c.in-DoubleQuotedString.in-DoubleQuotedString-own.keys3))
 
 pub returns-in_default : goal.returns-in_default
-returns-in_default c = zone_refused _ _ (zone-other _ _ _ c.next_token-token.ensures (0 ∷ 1 ∷ 2 ∷ 3 ∷ 4 ∷ 6 ∷ 7 ∷ 8 ∷ 9 ∷ 10 ∷ 11 ∷ 12 ∷ 13 ∷ 16 ∷ 17 ∷ []) tt tt tt c.in_default.in_default-own.keys4 ∙ ap (λ (i : ℕ). refuse i) (sym c.refusal_of.ensures))
+returns-in_default c = zone_refused _ _ (zone-other _ _ _ c.next_token-token.ensures (0 ∷ 1 ∷ 2 ∷ 3 ∷ 4 ∷ 6 ∷ 7 ∷ 8 ∷ 9 ∷ 10 ∷ 11 ∷ 12 ∷ 13 ∷ 16 ∷ 17 ∷ []) tt tt tt (opened c.in_default.in_default-own.keys4) ∙ ap (λ (i : ℕ). refuse i) (sym c.refusal_of.ensures))

@@ -1,5 +1,4 @@
 use mathlib.Core.Path.{sym, ◌∙◌}
-use Prim.Native.Nat.{◌-◌}
 use borrow.Author.Tests.{not-true, not-false}
 use Rattle.subtrees.proofs.EqualLaws.{trees-long, trees-start, trees-differ, trees-go, trees-end}
 use Rattle.subtrees.proofs.equality.equal_trees.Goals as goal

@@ -1,4 +1,3 @@
-use Prim.Native.Nat.{◌-◌}
 use Rattle.subtrees.proofs.LevelLaws.{levels-start, levels-none, levels-empty, levels-long, levels-deep, levels-again, levels-end}
 use native.Mathlib.Omega.{arith}
 use Rattle.subtrees.proofs.levels.+levels.Goals as goal

@@ -1,4 +1,3 @@
-use Prim.Native.Nat.{◌-◌}
 use Rattle.subtrees.proofs.ParentSet.{fit-start, fit-end, fit-not, fit-more}
 use Rattle.subtrees.proofs.parents.parents_fit.Goals as goal
 

@@ -1,4 +1,3 @@
-use Prim.Native.Nat.{◌-◌}
 use Rattle.subtrees.proofs.ParentSet.{set-start, set_long, set-asks, set-end, set_room, set_row, set-small, set_more}
 use native.Mathlib.Omega.{arith}
 use Rattle.subtrees.proofs.parents.set_first_parents.Goals as goal

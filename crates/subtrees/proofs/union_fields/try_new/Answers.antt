@@ -1,5 +1,4 @@
 use mathlib.Core.Path.{sym, ◌∙◌}
-use Prim.Native.Nat.{◌-◌}
 use Rattle.subtrees.proofs.UnionLaws.{met_start, met-end, met-outside, met-empty, met-big, met-twice, met-again}
 use borrow.Author.Rules.{rules}
 use Rattle.subtrees.proofs.union_fields.try_new.Goals as goal

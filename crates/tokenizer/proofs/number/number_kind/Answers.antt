@@ -1,5 +1,4 @@
 use mathlib.Core.Path.{sym, ◌∙◌}
-use Prim.Native.Nat.{◌-◌}
 use native.Mathlib.Omega.{arith}
 use borrow.Author.Tests.{not-true, not-false}
 use Rattle.tokenizer.proofs.Magnitude.{digit_least, digit_most, kind_start, kind_none, kind-out, kind-go, kind-other, kind-large}

@@ -1,6 +1,4 @@
-use mathlib.Core.Bool.{false}
 use mathlib.Core.Path.{refl, sym, ◌∙◌}
-use Prim.Native.Nat.{◌-◌}
 use borrow.Author.Rules.{rules}
 use Rattle.tokenizer.proofs.Runs.{quote-out, quote-stop, quote-go}
 use Rattle.tokenizer.proofs.tokenizer.escaped_end.Goals as goal

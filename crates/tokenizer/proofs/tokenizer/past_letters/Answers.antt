@@ -1,6 +1,4 @@
 use mathlib.Core.Path.{refl, ◌∙◌}
-use mathlib.Core.Bool.{false}
-use Prim.Native.Nat.{◌-◌}
 use Rattle.tokenizer.proofs.StringLaws.{letters-1, letters-2, letters-3, letters-4}
 use borrow.Author.Rules.{rules}
 use native.Mathlib.Omega.{arith}

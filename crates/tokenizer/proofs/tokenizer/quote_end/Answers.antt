@@ -1,6 +1,4 @@
-use mathlib.Core.Bool.{false}
 use mathlib.Core.Path.{refl, sym, ◌∙◌}
-use Prim.Native.Nat.{◌-◌}
 use borrow.Author.Tests.{not-false}
 use Rattle.tokenizer.proofs.Runs.{quote-out}
 use Rattle.tokenizer.proofs.StringLaws.{mark_stop, ordinary-go}

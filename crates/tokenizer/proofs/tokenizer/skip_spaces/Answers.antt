@@ -1,5 +1,4 @@
 use mathlib.Core.Path.{refl, sym, ◌∙◌}
-use Prim.Native.Nat.{◌-◌}
 use Rattle.tokenizer.proofs.Runs.{spaces-out, spaces-stop, spaces-go}
 use Rattle.tokenizer.proofs.tokenizer.skip_spaces.Goals as goal
 

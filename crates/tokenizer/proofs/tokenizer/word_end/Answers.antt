@@ -1,5 +1,4 @@
 use mathlib.Core.Path.{refl, sym, ◌∙◌}
-use Prim.Native.Nat.{◌-◌}
 use Rattle.tokenizer.proofs.Runs.{word_out, word-stop, word-go}
 use Rattle.tokenizer.proofs.tokenizer.word_end.Goals as goal
 

@@ -1,4 +1,3 @@
-use Prim.Native.Nat.{◌-◌}
 use Rattle.tokenizer.proofs.Utf8Laws.{at_most_none, at_most_more, at_most_all}
 use borrow.Author.Rules.{rules}
 use Rattle.tokenizer.proofs.utf8.greatest.Goals as goal

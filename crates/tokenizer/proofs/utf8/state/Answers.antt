@@ -1,5 +1,4 @@
 use mathlib.Core.Path.{refl}
-use Prim.Native.Nat.{◌-◌}
 use Rattle.tokenizer.proofs.Utf8Laws.{state_go, state_end}
 use borrow.Author.Rules.{rules}
 use Rattle.tokenizer.proofs.utf8.state.Goals as goal

@@ -1,5 +1,4 @@
 use mathlib.Core.Path.{sym, ◌∙◌}
-use Prim.Native.Nat.{◌-◌}
 use native.Mathlib.Omega.{arith}
 use Rattle.tokenizer.proofs.WordTokens.{reached_first, reached-next, done-out, done-stop, done-out-of-table, done-lost}
 use Rattle.tokenizer.proofs.words.walk_word.Goals as goal

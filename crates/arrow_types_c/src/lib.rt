@@ -1,0 +1,147 @@
+// The functions that services link, under their names for C: each is that of `arrow_types`, by the same contract.
+
+#![tactic(auto)]
+
+ghost use Rattle.std.specs.Prelude.{◌≡◌, length};
+ghost use Rattle.arrow_types.specs.Status.{status_of, value_of, flag, yes_of, row_of, if_named};
+ghost use Rattle.datatype.specs.Tree.{name_of, zone_of};
+ghost use Rattle.subtrees.specs.Parents.{with_parents};
+ghost use Rattle.row_table.specs.Sound.{is_sound, depth_of};
+ghost use Rattle.subtrees.specs.Equal.{equal_trees};
+ghost use Rattle.layout.specs.Layout.{verdict_of};
+ghost use Rattle.datatype_parse.specs.Parse.{parse_answer, parse_rows};
+ghost use Rattle.datatype_parse.specs.RowsToLend.{rows_to_lend};
+ghost use Rattle.datatype_display.specs.Print.{print_answer, print_bytes};
+
+// Reads a type text into lent rows.
+#[unsafe(no_mangle)]
+pub extern "C" fn arrow_types_read(text: &[u8], rows: &mut [u32], count: &mut usize) -> u32
+    ensures status { result ≡ status_of (parse_answer text.now rows.old) }
+    ensures value { count.new ≡ value_of (parse_answer text.now rows.old) }
+    ensures contents { rows.new ≡ parse_rows text.now rows.old }
+{
+    arrow_types::arrow_types_read(text, rows, count)
+}
+
+// How many rows to lend for a text of so many bytes.
+#[unsafe(no_mangle)]
+pub extern "C" fn arrow_types_rows_to_lend(bytes: usize) -> usize
+    ensures { result ≡ rows_to_lend bytes }
+{
+    arrow_types::arrow_types_rows_to_lend(bytes)
+}
+
+// Prints a tree into a lent buffer.
+#[unsafe(no_mangle)]
+pub extern "C" fn arrow_types_print<'a>(
+    text: &'a [u8],
+    names: &'a [u8],
+    rows: &[u32],
+    out: &mut [u8],
+    length: &mut usize,
+) -> u32
+    ensures status { result ≡ status_of (print_answer text.now names.now rows.now out.old) }
+    ensures value { length.new ≡ value_of (print_answer text.now names.now rows.now out.old) }
+    ensures contents { out.new ≡ print_bytes text.now names.now rows.now out.old }
+{
+    arrow_types::arrow_types_print(text, names, rows, out, length)
+}
+
+// Sets the parent, word 11, of each row that a table holds, up to 1,024: for rows that were built or stored without it.
+#[unsafe(no_mangle)]
+pub extern "C" fn arrow_types_set_parents(rows: &mut [u32])
+    ensures { rows.new ≡ with_parents rows.old }
+{
+    arrow_types::arrow_types_set_parents(rows);
+}
+
+// Where a field's name stands, by words 6, 7 and 8 of its row: the home, 1 the text or 2 the name list, with start and
+// count of its bytes there. The three are 0 where the name is empty, as it is where the words do not fit.
+#[unsafe(no_mangle)]
+pub extern "C" fn arrow_types_name<'a>(
+    text: &'a [u8],
+    names: &'a [u8],
+    home: u32,
+    start: u32,
+    size: u32,
+    from: &mut usize,
+    count: &mut usize,
+) -> u32
+    ensures home { result ≡ if_named (name_of text.now names.now home start size) home }
+    ensures start { from.new ≡ if_named (name_of text.now names.now home start size) start }
+    ensures count { count.new ≡ length (name_of text.now names.now home start size) }
+    ensures bytes { name_of text.now names.now result from.new count.new ≡ name_of text.now names.now home start size }
+{
+    arrow_types::arrow_types_name(text, names, home, start, size, from, count)
+}
+
+// Where a zone stands, by words 9 and 10 of its row: 1, with start and count of its bytes in the text. The three are 0
+// where the zone is empty, as it is where the words do not fit.
+#[unsafe(no_mangle)]
+pub extern "C" fn arrow_types_zone(
+    text: &[u8],
+    start: u32,
+    size: u32,
+    at: &mut usize,
+    count: &mut usize,
+) -> u32
+    ensures found { result ≡ if_named (zone_of text.now start size) 1 }
+    ensures start { at.new ≡ if_named (zone_of text.now start size) start }
+    ensures count { count.new ≡ length (zone_of text.now start size) }
+    ensures bytes { zone_of text.now at.new count.new ≡ zone_of text.now start size }
+{
+    arrow_types::arrow_types_zone(text, start, size, at, count)
+}
+
+// Whether text, name list and row words are a sound tree: 1 or 0.
+#[unsafe(no_mangle)]
+pub extern "C" fn arrow_types_is_sound(text: &[u8], names: &[u8], rows: &[u32]) -> u32
+    ensures { result ≡ flag (is_sound text.now names.now rows.now) }
+{
+    arrow_types::arrow_types_is_sound(text, names, rows)
+}
+
+// The depth of a tree.
+#[unsafe(no_mangle)]
+pub extern "C" fn arrow_types_depth(
+    text: &[u8],
+    names: &[u8],
+    rows: &[u32],
+    depth: &mut usize,
+) -> u32
+    ensures status { result ≡ status_of (depth_of text.now names.now rows.now) }
+    ensures value { depth.new ≡ value_of (depth_of text.now names.now rows.now) }
+{
+    arrow_types::arrow_types_depth(text, names, rows, depth)
+}
+
+// Whether two trees, each with its text, its name list and its row words, are equal: 1 or 0.
+#[unsafe(no_mangle)]
+pub extern "C" fn arrow_types_equal<'a, 'b>(
+    text: &'a [u8],
+    names: &'a [u8],
+    rows: &[u32],
+    text2: &'b [u8],
+    names2: &'b [u8],
+    rows2: &[u32],
+) -> u32
+    ensures { result ≡ flag (equal_trees text.now names.now text2.now names2.now rows.now rows2.now) }
+{
+    arrow_types::arrow_types_equal(text, names, rows, text2, names2, rows2)
+}
+
+// The layout verdict of a tree: whether it is yes, 1 or 0, and the first row that breaks a rule, where it is not.
+#[unsafe(no_mangle)]
+pub extern "C" fn arrow_types_verdict(
+    text: &[u8],
+    names: &[u8],
+    rows: &[u32],
+    yes: &mut u32,
+    row: &mut usize,
+) -> u32
+    ensures status { result ≡ status_of (verdict_of text.now names.now rows.now) }
+    ensures yes { yes.new ≡ yes_of (verdict_of text.now names.now rows.now) }
+    ensures row { row.new ≡ row_of (verdict_of text.now names.now rows.now) }
+{
+    arrow_types::arrow_types_verdict(text, names, rows, yes, row)
+}

@@ -1,0 +1,8 @@
+use Rattle.replay.proofs.PrintCases.{leaves-other, leaves-rest}
+use Rattle.replay.proofs.prints.leaves.Goals as goal
+
+pub returns-then-equal_bytes : goal.returns-then-equal_bytes
+returns-then-equal_bytes c = leaves-rest c.args.out.now _ _ _ _ c.part_at.ensures c.equal_bytes.ensures _ c.if-equal_bytes.true c.all_are.ensures
+
+pub returns : goal.returns
+returns c = leaves-other c.args.out.now _ _ _ _ c.part_at.ensures c.equal_bytes.ensures c.if-equal_bytes.false

@@ -1,0 +1,17 @@
+use mathlib.Core.Path.{refl}
+use Rattle.replay.specs.Sample.{number_at}
+use Rattle.replay.proofs.Reading.{number-end, number-stop, number-go}
+use Rattle.replay.proofs.stored.number_at.Goals as goal
+
+pub loop-i-init : goal.loop-i-init
+unfolding number_at
+loop-i-init c = refl
+
+pub returns-then-b-lt48 : goal.returns-then-b-lt48
+returns-then-b-lt48 c = number-stop c.args.sample.now _ _ _ c.loop-i.invariant c.loop-i-test.true c.if-b-lt48.true
+
+pub loop-i-preserved : goal.loop-i-preserved
+loop-i-preserved c = number-go c.args.sample.now _ _ _ c.loop-i.invariant c.loop-i-test.true _ c.if-b-lt48.false c.shifted-value.ensures
+
+pub returns : goal.returns
+returns c = number-end c.args.sample.now _ _ _ c.loop-i.invariant c.loop-i-test.false
