@@ -32,10 +32,10 @@ table_case_at sample at =
     let place = number_at sample at in
     let value = number_at sample place.next in
     let sound = number_at sample value.next in
-    let depth-status = number_at sample sound.next in
-    let depth = number_at sample depth-status.next in
-    let verdict-status = number_at sample depth.next in
-    let verdict = number_at sample verdict-status.next in
+    let depth_status = number_at sample sound.next in
+    let depth = number_at sample depth_status.next in
+    let verdict_status = number_at sample depth.next in
+    let verdict = number_at sample verdict_status.next in
     let equal = number_at sample verdict.next in
     let name = number_at sample equal.next in
     let zone = number_at sample (after_part sample name.next name.value) in
@@ -43,8 +43,8 @@ table_case_at sample at =
       place = place.value;
       value = value.value;
       sound = sound.value;
-      depth = record { status = depth-status.value; value = depth.value };
-      verdict = record { status = verdict-status.value; value = verdict.value };
+      depth = record { status = depth_status.value; value = depth.value };
+      verdict = record { status = verdict_status.value; value = verdict.value };
       equal = equal.value;
       name = name;
       zone = zone;

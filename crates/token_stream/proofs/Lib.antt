@@ -1,2 +1,1 @@
-pub mod Cursor
 pub mod CountLaws
