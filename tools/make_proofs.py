@@ -1,24 +1,20 @@
 #!/usr/bin/env python3
-"""Writes the proof files that a crate lacks, as `rt dev` proposes them.
+"""Writes the proof files that a crate lacks, as `rt check` proposes them where its tactics leave a goal open.
 
     python3 tools/make_proofs.py CRATE [--lines]
 
-A need is answered by `search needs`, which settles most of those about bounds and overflow; invariants and measures are
-left as `?`. The modules that rt proposes are imported; fill.py takes out those that the answers do not use. No file is
-written over. With --lines each need keeps the line of the code that it comes from, which goes
-stale with the next edit.
+Each goal that is left is a `?`, as are invariants and measures; `rt check --allow-holes` shows what is to be proved there.
+No file is written over. With --lines each goal keeps the line of the code that it comes from, which goes stale with the
+next edit.
 """
 
-import os
 import pathlib
 import re
 import subprocess
 import sys
 
+ROOT = pathlib.Path(__file__).resolve().parents[1]
 PROPOSED = re.compile(r"^help: write (\S+) with these lines", re.M)
-OPEN = re.compile(r"^(?!Inv-|μ-)(\S+)((?: \S+)*) = \?$", re.M)
-SEARCHED = r"\1\2 = search needs"
-NEEDS = "use borrow.Author.Needs.{needs}\n"
 
 
 def proposals(said):
@@ -29,27 +25,28 @@ def proposals(said):
             if line.strip() and not line.startswith("    "):
                 break
             lines.append(line[4:])
-        yield pathlib.Path(match.group(1)), "\n".join(lines).rstrip("\n") + "\n"
+        yield match.group(1), "\n".join(lines).rstrip("\n") + "\n"
 
 
 def skeleton(text, keep_lines=False):
-    """A proposed text with what can be searched for searched for."""
-    if not keep_lines:
-        text = re.sub(r"^[ \t]*-- src/\S+\n", "", text, flags=re.M)
-    searched = OPEN.sub(SEARCHED, text)
-    return NEEDS + searched if searched != text and NEEDS not in searched else searched
+    """A proposed text, without the lines that name places in the code."""
+    return text if keep_lines else re.sub(r"^[ \t]*-- src/\S+\n", "", text, flags=re.M)
 
 
 def main():
     names = [word for word in sys.argv[1:] if word != "--lines"]
     if len(names) != 1:
         sys.exit(__doc__)
-    run = subprocess.run(["rt", "dev", names[0]], capture_output=True, text=True, env={**os.environ, "RT_CUT": "0"})
-    for path, text in proposals(run.stdout + run.stderr):
+    crate = ROOT / "crates" / names[0]
+    if not crate.is_dir():
+        sys.exit(f"{sys.argv[0]}: there is no crate {names[0]}.")
+    run = subprocess.run(["rt", "check", "--allow-holes"], cwd=crate, capture_output=True, text=True)
+    for name, text in proposals(run.stdout + run.stderr):
+        path = crate / name
         if not path.exists():
             path.parent.mkdir(parents=True, exist_ok=True)
             path.write_text(skeleton(text, "--lines" in sys.argv), encoding="utf8")
-            print(f"wrote {path}")
+            print(f"wrote {path.relative_to(ROOT)}")
 
 
 if __name__ == "__main__":

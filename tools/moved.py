@@ -5,7 +5,7 @@ they were, moved, are new or gone.
     python3 tools/moved.py OLD [NEW] [--names]      # commits; without NEW the files as they are now
 
 A definition is a declaration in specs/, a promise the head of a function that has a contract (its parameters, what it
-requires and ensures), a law a statement in proofs/, with its proof apart, and a function's proof is its file. Comments,
+requires and ensures), a law a statement in proofs/, with its proof apart, and a function's proof is its files. Comments,
 imports and layout do not count. What went to another file under its own name, with the same text, stayed.
 """
 
@@ -18,7 +18,7 @@ import sys
 DECLARED = re.compile(r"^(?:(?:abbrev|unfoldable|pub|private|opaque)\s+)*([^\s(){}:=;]+)\s+:(?:\s|$)")
 BLOCK = re.compile(r"^(?:(?:pub|private)\s+)*(?:record|data)\s+([^\s(){}:]+)")
 PASSED_OVER = re.compile(r"\s*(?:--|use\b|(?:pub )?mod\b|infix[lr]?\b|$)")
-FUNCTION = re.compile(r"(?m)^(?=[ \t]*(?:#\[no_mangle\]\s*)?(?:pub(?:\(crate\))?[ \t]+)?(?:extern \"C\" )?fn\s|impl\b)")
+FUNCTION = re.compile(r"(?m)^(?=[ \t]*(?:#\[(?:unsafe\()?no_mangle\)?\]\s*)?(?:pub(?:\(crate\))?[ \t]+)?(?:extern \"C\" )?fn\s|impl\b)")
 SORTS = ["definitions", "promises", "laws", "proofs of laws", "proofs of functions"]
 
 
@@ -98,7 +98,9 @@ def collected(commit):
                 found["proofs of laws"][crate, f"{module}.{name}"] = whole
         elif where == "proofs":
             lines = [line for line in text.split("\n") if not PASSED_OVER.match(line)]
-            found["proofs of functions"][crate, module] = squeezed(lines)
+            folder = module.rsplit("/", 1)[0]
+            before = found["proofs of functions"].get((crate, folder), "")
+            found["proofs of functions"][crate, folder] = f"{before} {squeezed(lines)}".strip()
     return found
 
 

@@ -1,5 +1,5 @@
 #!/usr/bin/env python3
-"""Runs `rt dev` and shows what is left to do: the goals at holes as they are written, and the head of each error.
+"""Runs `rt check` in a crate and shows what is left to do: the goals at holes as they are written, and the head of each error.
 
     python3 tools/show.py CRATE [--allow-holes ..]
 
@@ -16,8 +16,8 @@ import time
 ROOT = pathlib.Path(__file__).resolve().parents[1]
 # Modules whose names only lengthen what is read.
 LIBRARY = re.compile(r"\b(?:mathlib\.Core\.\w+|Prim(?:\.Native\.\w+)?|lib\.\w+|mir\.\w+|denote\.\w+|borrow\.\w+\.\w+)\.")
-OWN = re.compile(r"Rattle·\w+(?:·\w+)?\.(?:specs|proofs)\.(?:[A-Z]\w*\.)?")
-VERDICT = re.compile(r"^(?:logic=|holes=|crate )")
+OWN = re.compile(r"Rattle\.\w+\.(?:specs|proofs)\.(?:[A-Z]\w*\.)?")
+VERDICT = re.compile(r"^(?:proved=|only=|holes=|crate )")
 GOAL_WIDTH, VERDICT_WIDTH = 700, 160
 
 
@@ -58,7 +58,10 @@ def main():
     if len(sys.argv) < 2:
         sys.exit(__doc__)
     began = time.monotonic()
-    run = subprocess.run(["rt", "dev", *sys.argv[1:]], cwd=ROOT, capture_output=True, text=True, env={**os.environ, "RT_CUT": "0"})
+    crate = ROOT / "crates" / sys.argv[1]
+    if not crate.is_dir():
+        sys.exit(f"{sys.argv[0]}: there is no crate {sys.argv[1]}.")
+    run = subprocess.run(["rt", "check", *sys.argv[2:]], cwd=crate, capture_output=True, text=True)
     said = run.stdout + run.stderr
     (ROOT / "target").mkdir(exist_ok=True)
     (ROOT / "target" / "show.out").write_text(said, encoding="utf8")
