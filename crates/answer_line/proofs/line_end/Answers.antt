@@ -1,5 +1,4 @@
 use Rattle.answer_line.proofs.Ends.{past_end, passed_none, found, passed-more, not_found}
-use Prim.Native.Nat.{◌-◌}
 use native.Mathlib.Omega.{arith}
 use Rattle.answer_line.proofs.line_end.Goals as goal
 

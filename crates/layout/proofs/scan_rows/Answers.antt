@@ -1,5 +1,4 @@
 use mathlib.Core.Path.{refl, sym, ◌∙◌}
-use Prim.Native.Nat.{◌-◌}
 use borrow.Author.Tests.{not-true, not-false}
 use Rattle.layout.proofs.LayoutLaws.{scan-start, scan-end, scan-breaks, scan-go}
 use Rattle.layout.proofs.scan_rows.Goals as goal

@@ -1,11 +1,6 @@
 use mathlib.Core.Path.{refl}
 use Rattle.answer_line.proofs.Trees.{tree-room, tree-refused, tree-printed}
-use borrow.Author.Rules.{rules}
 use Rattle.answer_line.proofs.tree.print_tree.Goals as goal
-
--- NO GOAL Need-slice-aggregate-print-data-type
--- slice-aggregate-print-data-type : tie.Need-slice-aggregate-print-data-type
--- slice-aggregate-print-data-type c = search rules
 
 pub put_frame-requires : goal.put_frame-requires
 put_frame-requires c = (c.requires.1, c.requires.2, tree-room _ _ _ _ _ _ c.head_length-head.ensures c.requires.0 _ _ _ refl refl _ c.print_data_type.ensures.result_value c.print_data_type.ensures.out_after _ c.in-Length.is)

@@ -1,7 +1,6 @@
 use mathlib.Core.Path.{refl, sym, ◌∙◌}
-use Prim.Native.Nat.{◌-◌}
 use borrow.Author.Tests.{not-true, not-false}
-use Rattle.row_table.specs.Internal.Check.{standing_of, run_fits}
+use Rattle.row_table.specs.Internal.Check.{standing_of}
 use Rattle.row_table.proofs.SoundLaws.{turn_level, turn-row, turn-kind, turn-full, turn-leaf, turn-empty, turn-long, turn_below, turn-nests, turn-kids, turn-go, turn_end}
 use borrow.Author.Rules.{rules}
 use Rattle.row_table.proofs.sound.+run_fits.Goals as goal
