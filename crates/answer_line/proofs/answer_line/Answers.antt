@@ -3,14 +3,24 @@ use native.Mathlib.Omega.{arith}
 use borrow.Author.Rules.{rules}
 use Rattle.answer_line.proofs.answer_line.Goals as goal
 
+pub returns-in-Rows : goal.returns-in-Rows
+returns-in-Rows c =
+    let all = line_read c.args.line.now c.args.rows.now c.args.out.now c.if-rows-lt-LINE_WORDS.false c.if-out-lt-ANSWER_BYTES.false _ _ c.parse_data_type.ensures.answer c.parse_data_type.ensures.contents _ c.in-Rows.is _ _ c.answer_tree.ensures in
+    record { answer = all.0; contents = all.1.0; bytes = all.1.1 }
+
+pub returns-in-Refused : goal.returns-in-Refused
+returns-in-Refused c =
+    let all = line_refused c.args.line.now c.args.rows.now c.args.out.now c.if-rows-lt-LINE_WORDS.false c.if-out-lt-ANSWER_BYTES.false _ _ c.parse_data_type.ensures.answer c.parse_data_type.ensures.contents _ c.in-Refused.is _ _ c.put_no.ensures in
+    record { answer = all.0; contents = all.1.0; bytes = all.1.1 }
+
 pub returns-then-rows-lt-LINE_WORDS : goal.returns-then-rows-lt-LINE_WORDS
 returns-then-rows-lt-LINE_WORDS c =
-    let all = few_words c.args.line.now c.args.rows.now c.args.out.now c.if-rows-lt-LINE_WORDS.true in
+    let all = few_words c.args.line.now c.args.rows.now c.args.out.now (omega (arith, c.if-rows-lt-LINE_WORDS.true)) in
     record { answer = all.0; contents = all.1.0; bytes = all.1.1 }
 
 pub returns-then-out-lt-ANSWER_BYTES : goal.returns-then-out-lt-ANSWER_BYTES
 returns-then-out-lt-ANSWER_BYTES c =
-    let all = few_bytes c.args.line.now c.args.rows.now c.args.out.now c.if-rows-lt-LINE_WORDS.false c.if-out-lt-ANSWER_BYTES.true in
+    let all = few_bytes c.args.line.now c.args.rows.now c.args.out.now c.if-rows-lt-LINE_WORDS.false (omega (arith, c.if-out-lt-ANSWER_BYTES.true)) in
     record { answer = all.0; contents = all.1.0; bytes = all.1.1 }
 
 pub overflow_mul-words : goal.overflow_mul-words
@@ -24,13 +34,3 @@ slice_bounds-answer_tree-end-in-Rows c = line-counted _ _ c.args.out.now c.if-ro
 
 pub answer_tree-requires : goal.answer_tree-requires
 answer_tree-requires c = (search rules, line-few _ _ c.args.out.now c.if-rows-lt-LINE_WORDS.false c.if-out-lt-ANSWER_BYTES.false _ _ c.parse_data_type.ensures.answer c.parse_data_type.ensures.contents _ c.in-Rows.is c.parse_data_type.auto.rows)
-
-pub returns-in-Refused : goal.returns-in-Refused
-returns-in-Refused c =
-    let all = line_refused c.args.line.now c.args.rows.now c.args.out.now c.if-rows-lt-LINE_WORDS.false c.if-out-lt-ANSWER_BYTES.false _ _ c.parse_data_type.ensures.answer c.parse_data_type.ensures.contents _ c.in-Refused.is _ _ c.put_no.ensures in
-    record { answer = all.0; contents = all.1.0; bytes = all.1.1 }
-
-pub returns-in-Rows : goal.returns-in-Rows
-returns-in-Rows c =
-    let all = line_read c.args.line.now c.args.rows.now c.args.out.now c.if-rows-lt-LINE_WORDS.false c.if-out-lt-ANSWER_BYTES.false _ _ c.parse_data_type.ensures.answer c.parse_data_type.ensures.contents _ c.in-Rows.is _ _ c.answer_tree.ensures in
-    record { answer = all.0; contents = all.1.0; bytes = all.1.1 }
