@@ -3,6 +3,9 @@ use mathlib.Core.Path.{◌∙◌}
 use native.Mathlib.Omega.{arith}
 use Rattle.type_lines.proofs.run.Goals as goal
 
+pub returns : goal.returns
+returns c = ran_out _ _ _ _ _ _ _ _ c.loop-turns.invariant c.loop-turns-test.false _
+
 pub loop-turns-init : goal.loop-turns-init
 loop-turns-init c = runs-start _ _ _ c.requires.0 c.requires.1
 
@@ -49,7 +52,7 @@ pub loop-turns-smaller : goal.loop-turns-smaller
 loop-turns-smaller c = omega arith
 
 pub loop-turns-preserved : goal.loop-turns-preserved
-loop-turns-preserved c = runs_on _ _ _ _ _ _ _ _ c.loop-turns.invariant _ _ _ c.take_turn-after.auto.input c.take_turn-after.auto.rows c.take_turn-after.auto.out _ _ c.take_turn-after.ensures c.in-More.is c.loop-turns-test.true
+loop-turns-preserved c = runs_on _ _ _ _ _ _ _ _ c.loop-turns.invariant _ _ _ c.take_turn-after.auto.input c.take_turn-after.auto.rows c.take_turn-after.auto.out _ _ c.take_turn-after.ensures c.in-More.is (omega (arith, c.loop-turns-test.true))
 
 pub shape_of-input : goal.shape_of-input
 shape_of-input c = c.loop-turns.invariant.reads
@@ -59,6 +62,3 @@ shape_of-rows c = c.loop-turns.invariant.words
 
 pub shape_of-out : goal.shape_of-out
 shape_of-out c = c.loop-turns.invariant.bytes
-
-pub returns : goal.returns
-returns c = ran_out _ _ _ _ _ _ _ _ c.loop-turns.invariant c.loop-turns-test.false _
