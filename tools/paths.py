@@ -43,7 +43,10 @@ def main():
     crate, function = sys.argv[1], sys.argv[2].replace("/", "::").replace("+", "")
     command = ["rt", "check", "--only", f"{crate}::{function}", "--allow-holes"]
     run = subprocess.run(command, cwd=ROOT / "crates" / crate, capture_output=True, text=True)
-    found = list(holes(run.stdout + run.stderr))
+    said = run.stdout + run.stderr
+    if not re.search(r"^only=[1-9]", said, re.M):
+        sys.exit(f"crates/{crate} has no function {sys.argv[2]}, or its check did not get that far.")
+    found = list(holes(said))
     for goal in sys.argv[3:]:
         if goal not in (name for name, _ in found):
             sys.exit(f"There is no hole {goal}; there are {', '.join(name for name, _ in found) or 'none'}.")

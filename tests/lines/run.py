@@ -246,7 +246,7 @@ class Waiting(unittest.TestCase):
 
 
 class Failures(unittest.TestCase):
-    """A read or a write that fails is told on standard error. The language has no exit status, so none is asked for."""
+    """A read or a write that fails is told on standard error. The program's exit status is 0 all the same, so it is not asked for."""
 
     @unittest.skipUnless(os.path.exists("/dev/full"), "no /dev/full")
     def test_output_full(self):

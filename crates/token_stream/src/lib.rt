@@ -52,8 +52,7 @@ impl<'a> Tokenizer<'a> {
     }
 }
 
-// The token at or behind a place, by a tokenizer that stands there. Its contract says nothing of a tokenizer, so the
-// proofs of its callers are the usual ones.
+// The token at or behind a place, by a tokenizer that stands there. Its contract says nothing of a tokenizer.
 pub fn token_from(text: &[u8], at: usize) -> Token
     ensures { result ≡ token_at text.now at }
 {

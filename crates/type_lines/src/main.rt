@@ -1,6 +1,6 @@
 // The line program: standard input has a type text on each line, standard output gets an answer for each. Answers are
 // written before each read, so that whoever waits for one before it writes the next line gets it. A read or a write that
-// fails ends the program with a message; the language has no exit status to go with that.
+// fails ends the program with a message; its exit status is 0 all the same.
 
 #![tactic(auto)]
 
