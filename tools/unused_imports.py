@@ -11,7 +11,8 @@ Lists them, a line for each, and ends with 1 if there are any; --fix takes them 
   contract, behind `unfolding`. Behind a dot it is a field, behind `::` another module's.
 - An operator is used where its parts stand as words: `◌≡◌` where `≡` does, `if◌then◌else◌` where its three do. A `do` block
   uses `◌>>=◌` and `◌>>◌`.
-- What a `ghost use` brings in can be used in contracts alone, between the braces of `requires` and `ensures`.
+- What a `ghost use` brings in can be used in contracts alone, between the braces of `requires` and `ensures` and of a struct's
+  ghost members.
 - Words that a must-fail edit puts into a file count as uses there: an edit may lead a proof along another way.
 
 Whoever binds a variable of the same name hides an unused one from this list.
@@ -53,9 +54,9 @@ def words(text):
 
 
 def contracts(code):
-    """What stands between the braces of each `requires` and `ensures`."""
+    """What stands between the braces of each `requires` and `ensures`, and of each ghost member."""
     parts = []
-    for match in re.finditer(r"\b(?:requires|ensures)(?:\s+[\w-]+)?\s*\{", code):
+    for match in re.finditer(r"\b(?:(?:requires|ensures)(?:\s+[\w-]+)?|ghost\s+\w+\s*[:=])\s*\{", code):
         depth, at = 1, match.end()
         while depth and at < len(code):
             depth += {"{": 1, "}": -1}.get(code[at], 0)

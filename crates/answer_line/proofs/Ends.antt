@@ -1,21 +1,28 @@
 -- Where a line ends.
 --   lines_from   the lines from a place on: the one that ends where `line_end` says, and those behind its newline
 --   long-line    every line over 16,384 bytes has the same answer
-use Rattle.std.specs.Prelude.{if◌then◌else◌}
+use Rattle.std.specs.Prelude.{if◌then◌else◌, Option, Some, None, cond, ltb}
+use Rattle.std.specs.Option.{unwrap_or}
 use mathlib.Core.Path.{◌≡◌, refl, ap, ◌∙◌}
 use mathlib.Core.Bool.{Bool, true, false}
 use mathlib.Core.List.{List, [], ◌∷◌}
 use Prim.Native.Nat.{ℕ, suc, ◌+◌, ◌-◌, min, ◌≤◌, ◌<◌}
 use native.Mathlib.Omega.{arith}
-use lib.ListN.{length, take, drop, get_or, length-drop}
-use lib.Seq.{drop-cons, drop-drop}
+use lib.ListN.{length, take, drop, length-drop}
+use lib.Seq.{take_all, drop-drop}
 use lib.Dec.{eqb}
-use borrow.Author.Tests.{eq-eqb, ne_eqb}
+use Rattle.std.specs.List.{position_or_len}
+use Rattle.std.proofs.lemmas.Grind.{common_steps}
+use Rattle.std.proofs.lemmas.List.Recursion.{is_position_or_len}
 use Rattle.tokenizer.specs.Text.{bytes}
 use Rattle.parser.proofs.FirstType.{too_long}
 use Rattle.datatype_parse.specs.Parse.{parse}
 use Rattle.output.specs.Digits.{digits, digits_with}
 use Rattle.answer_line.specs.Line.{line_answer, longer, lines_of, before_newline, line_end}
+
+-- a place within the list, or the list's end
+unwrap_cut : (a n : ℕ) → a ≤ n → unwrap_or (cond (ltb a n) (Some a) None) n ≡ a
+unwrap_cut a n h = grind (arith, common_steps)
 
 -- the newlines looked for are never past the end
 pub before_within : (s : List ℕ) → before_newline s ≤ length s
@@ -27,43 +34,34 @@ before_within (c ∷ s) = go (eqb c 10) (before_within s)
     go true h = omega arith
     go false h = omega arith
 
--- The place i has been reached, and no newline stood before it.
-pub record Passed (input : List ℕ) (from i : ℕ) : Type 0 where
-  pub within : i ≤ length input
-  pub so : from + before_newline (drop from input) ≡ i + before_newline (drop i input)
+-- they are where the first newline is, or all
+before_position : (s : List ℕ) → before_newline s ≡ position_or_len (λ c. eqb c 10) s
+unfolding before_newline
+before_position s = is_position_or_len before_newline (λ c. eqb c 10) refl (λ c t. step (eqb c 10) (before_newline t)) s
+  where
+    step : (b : Bool) (n : ℕ) → (if b then 0 else suc n) ≡ cond b 0 (1 + n)
+    step true n = refl
+    step false n = omega arith
 
 module _ (input : List ℕ) (from : ℕ) where
   pub past_end : length input < from → length input ≡ line_end input from
   unfolding line_end
   past_end h = omega arith
 
-  pub passed_none : from ≤ length input → Passed input from from
-  passed_none h = record { within = h; so = refl }
-
-  module _ (i : ℕ) (p : Passed input from i) where
-    pub found : i < length input → get_or input i 0 ≡ 10 → i ≡ line_end input from
-    unfolding line_end before_newline
-    found h e =
-        let here : before_newline (drop i input) ≡ 0 = rw (drop-cons input i 0 h, eq-eqb (get_or input i 0) 10 e) in
-        let s = p.so in
-        omega arith
-
-    pub passed-more : i < length input → (get_or input i 0 ≡ 10 → ⊥) → Passed input from (i + 1)
-    unfolding before_newline
-    passed-more h n =
-        let next : i + 1 ≡ suc i = omega arith in
-        let here : before_newline (drop i input) ≡ suc (before_newline (drop (i + 1) input)) = rw (drop-cons input i 0 h, ne_eqb (get_or input i 0) 10 n, next) in
-        let s = p.so in
-        record { within = omega arith; so = omega arith }
-
-    pub not_found : length input ≤ i → i ≡ line_end input from
-    unfolding line_end
-    not_found h =
-        let l = length-drop i input in
-        let w = before_within (drop i input) in
-        let s = p.so in
-        let k = p.within in
-        omega arith
+  -- The place found in the rest, or its end.
+  pub found_at : (rest : List ℕ) (place : Option ℕ) → from ≤ length input → rest ≡ take (length input - from) (drop from input)
+      → place ≡ cond (ltb (position_or_len (λ c. eqb c 10) rest) (length rest)) (Some (position_or_len (λ c. eqb c 10) rest)) None
+      → from + unwrap_or place (length rest) ≡ line_end input from
+  unfolding line_end
+  found_at rest place h e p =
+      let l = length-drop from input in
+      let all : rest ≡ drop from input = e ∙ take_all (length input - from) (drop from input) (omega arith) in
+      let size : length rest ≡ length (drop from input) = ap length all in
+      let w = before_within rest in
+      let b = before_position rest in
+      let d : before_newline rest ≡ before_newline (drop from input) = ap before_newline all in
+      let u : unwrap_or place (length rest) ≡ position_or_len (λ c. eqb c 10) rest = ap (λ (o : Option ℕ). unwrap_or o (length rest)) p ∙ unwrap_cut _ _ (omega arith) in
+      omega arith
 
 -- ---- the lines of an input
 

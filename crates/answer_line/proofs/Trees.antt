@@ -1,5 +1,5 @@
 -- The answer to a text that was read: printing into the output behind the head, and what its levels say.
-use Rattle.std.specs.Prelude.{if◌then◌else◌}
+use Rattle.std.specs.Prelude.{if◌then◌else◌, Result, Ok, Err}
 use mathlib.Core.Path.{◌≡◌, refl, sym, ap, ◌∙◌, subst}
 use mathlib.Core.Bool.{Bool, true, false}
 use mathlib.Core.List.{List, [], ◌∷◌, ◌++◌, append_assoc, append-nil}
@@ -9,7 +9,8 @@ use lib.ListN.{length, take, drop, length-append, length-drop, drop_of_length-le
 use lib.Seq.{take_all, drop_at, drop-append-add, drop-drop, length-take-le, take-append_seam}
 use lib.Dec.{leb, leb→le}
 use borrow.Rule.Slice.PartMut.{put_same}
-use Rattle.tokenizer.specs.Answer.{Out, refused, done, refuse}
+use Rattle.tokenizer.specs.Answer.{Out, refused, done, refuse, number_of, answer_of}
+use Rattle.tokenizer.specs.declared.refusal.Refusal.{Refusal}
 use Rattle.tokenizer.proofs.Basics.{of_true}
 use Rattle.datatype.specs.Tree.{depth, name_list}
 use Rattle.datatype.specs.Table.{row_words, tree_of}
@@ -18,9 +19,7 @@ use Rattle.subtrees.specs.Levels.{levels_of}
 use Rattle.row_table.proofs.DepthLaws.{sound-levels}
 use Rattle.display_length.specs.Display.{display}
 use Rattle.display_length.specs.PrintedLength.{quoted_ascii}
-use Rattle.datatype_display.specs.Print.{print, length_of, print_answer, written, print_bytes, printed_means}
-use Rattle.datatype_display.specs.declared.Printed.{Printed}
-use Rattle.datatype_display.specs.declared.Printed.TheVariants as printing
+use Rattle.datatype_display.specs.Print.{print, length_of, print_answer, written, print_bytes}
 use Rattle.answer_line.specs.Line.{no_line, answer_bytes}
 use Rattle.answer_line.specs.Internal.Steps.{Answers, ok_head, HeadLength, Framed, tree_line, table_line}
 
@@ -134,29 +133,29 @@ module _ (text table out : List ℕ) (rows levels h : ℕ) (head : HeadLength ro
       let e : length lent ≡ length out - h = ap (λ (l : List ℕ). length l) is_lent ∙ lent_length out h (omega arith) in
       omega arith
 
-  module _ (p : Printed) (e : printed_means p ≡ print_answer text name_list table lent) (o : part ≡ print_bytes text name_list table lent) (n : ℕ) where
+  module _ (p : Result ℕ Refusal) (e : answer_of p ≡ print_answer text name_list table lent) (o : part ≡ print_bytes text name_list table lent) where
     -- a refused print has left the output as it was
-    pub tree-refused : p ≡ printing.Refused n → (r : ℕ) (after : List ℕ) → Answers (no_line (record { number = n })) back r after
+    pub tree-refused : (d : Refusal) → p ≡ Err d → (r : ℕ) (after : List ℕ) → Answers (no_line (record { number = number_of d })) back r after
         → Answers (tree_line rows levels (print text name_list table 16384)) out r after
-    unfolding printed_means print_answer print_bytes tree_line
-    tree-refused q r after a =
-        let x : print text name_list table (length lent) ≡ refuse n = no_text (print text name_list table (length lent)) n (sym e ∙ ap printed_means q) in
+    unfolding print_answer print_bytes tree_line
+    tree-refused d q r after a =
+        let x : print text name_list table (length lent) ≡ refuse (number_of d) = no_text (print text name_list table (length lent)) (number_of d) (sym e ∙ ap answer_of q) in
         let same : part ≡ lent = o ∙ ap (written lent) x in
         let whole : back ≡ out = is_back ∙ ap (back_in out h) (same ∙ is_lent) ∙ put_same h (length out - h) out in
         rw (sym (print_room text name_list table (length lent) lent_room) ∙ x, sym whole) a
 
     -- a text that was printed, in the output
-    record Text (s : List ℕ) : Type 0 where
+    record Text (n : ℕ) (s : List ℕ) : Type 0 where
       prints : print text name_list table 16384 ≡ done s
       size : length s ≡ n
       short : h + length s < length out
       stands : back ≡ back_in out h (s ++ drop (length s) (lent_part out h))
 
-    text_in : p ≡ printing.Length n → (s : List ℕ) × Text s
-    unfolding printed_means print_answer print_bytes
-    text_in q = go (some_text (print text name_list table (length lent)) n (sym e ∙ ap printed_means q))
+    text_in : (n : ℕ) → p ≡ Ok n → (s : List ℕ) × Text n s
+    unfolding print_answer print_bytes
+    text_in n q = go (some_text (print text name_list table (length lent)) n (sym e ∙ ap answer_of q))
       where
-        go : (s : List ℕ) × (print text name_list table (length lent) ≡ done s) × (length s ≡ n) → (s : List ℕ) × Text s
+        go : (s : List ℕ) × (print text name_list table (length lent) ≡ done s) × (length s ≡ n) → (s : List ℕ) × Text n s
         go w =
             let prints : print text name_list table 16384 ≡ done w.0 = sym (print_room text name_list table (length lent) lent_room) ∙ w.1 in
             let few = print_short text name_list table w.0 prints in
@@ -170,10 +169,10 @@ module _ (text table out : List ℕ) (rows levels h : ℕ) (head : HeadLength ro
               },
             )
 
-    pub tree-room : p ≡ printing.Length n → length (ok_head rows levels) + n < length back
-    tree-room q = go (text_in q)
+    pub tree-room : (n : ℕ) → p ≡ Ok n → length (ok_head rows levels) + n < length back
+    tree-room n q = go (text_in n q)
       where
-        go : (s : List ℕ) × Text s → length (ok_head rows levels) + n < length back
+        go : (s : List ℕ) × Text n s → length (ok_head rows levels) + n < length back
         go w =
             let t = w.1 in
             let a = head.is in
@@ -182,10 +181,10 @@ module _ (text table out : List ℕ) (rows levels h : ℕ) (head : HeadLength ro
             let l : length back ≡ length out = ap (λ (l : List ℕ). length l) t.stands ∙ back-length out h (omega arith) w.0 t.short in
             omega arith
 
-    text-answers : (s : List ℕ) → Text s → (r : ℕ) (after : List ℕ) → Framed (ok_head rows levels) n back r after
+    text-answers : (n : ℕ) (s : List ℕ) → Text n s → (r : ℕ) (after : List ℕ) → Framed (ok_head rows levels) n back r after
         → Answers (tree_line rows levels (print text name_list table 16384)) out r after
     unfolding tree_line
-    text-answers s t r after f =
+    text-answers n s t r after f =
         let a : h ≡ length (ok_head rows levels) = head.is in
         let b = t.short in
         let at : take (length s) (drop (length (ok_head rows levels)) back) ≡ s =
@@ -195,12 +194,12 @@ module _ (text table out : List ℕ) (rows levels h : ℕ) (head : HeadLength ro
         let g : Framed (ok_head rows levels) (length s) back r after = subst (λ (k : ℕ). Framed (ok_head rows levels) k back r after) (sym t.size) f in
         rw t.prints (framed_answers (ok_head rows levels) s back out r after g at past)
 
-    pub tree-printed : p ≡ printing.Length n → (r : ℕ) (after : List ℕ) → Framed (ok_head rows levels) n back r after
+    pub tree-printed : (n : ℕ) → p ≡ Ok n → (r : ℕ) (after : List ℕ) → Framed (ok_head rows levels) n back r after
         → Answers (tree_line rows levels (print text name_list table 16384)) out r after
-    tree-printed q r after f = go (text_in q)
+    tree-printed n q r after f = go (text_in n q)
       where
-        go : (s : List ℕ) × Text s → Answers (tree_line rows levels (print text name_list table 16384)) out r after
-        go w = text-answers w.0 w.1 r after f
+        go : (s : List ℕ) × Text n s → Answers (tree_line rows levels (print text name_list table 16384)) out r after
+        go w = text-answers n w.0 w.1 r after f
 
 -- ---- the levels
 

@@ -3,26 +3,24 @@ use mathlib.Core.Path.{◌≡◌, refl, sym, ap, ◌∙◌, subst}
 use mathlib.Core.List.{List, ◌++◌, append_assoc}
 use Prim.Native.Nat.{ℕ, ◌*◌, ◌/◌, ◌≤◌, ◌<◌}
 use native.Mathlib.Omega.{arith}
+use Rattle.std.specs.Prelude.{Option, Some, None, Result, Ok, Err}
 use lib.ListN.{length, take, drop, length-append, length-drop}
 use lib.Seq.{length-take-le, take-append_seam}
 use borrow.Author.Tests.{le-leb, lt-leb}
 use Rattle.tokenizer.specs.Text.{bytes}
-use Rattle.tokenizer.specs.Answer.{Out, refused, done, refuse}
+use Rattle.tokenizer.specs.Answer.{Out, refused, done, refuse, number_of, answer_of}
+use Rattle.tokenizer.specs.declared.refusal.Refusal.{Refusal}
 use Rattle.datatype.specs.Tree.{Forest, count, depth, Row, name_list}
 use Rattle.datatype.specs.Table.{row_words, table_of, tree_of, rows_lent}
 use Rattle.datatype.proofs.Table.{length_table, view_table}
 use Rattle.row_table.proofs.DepthLaws.{depth_labels}
 use Rattle.row_table.proofs.SoundTree.{sound_tree, sound-count}
 use Rattle.datatype_parse.proofs.ReadSound.{read_sound}
-use Rattle.datatype_parse.specs.Parse.{parse, row_count, filled, parse_answer, parse_rows, parsed_means}
-use Rattle.datatype_parse.specs.declared.Parsed.{Parsed}
-use Rattle.datatype_parse.specs.declared.Parsed.TheVariants as parsed
+use Rattle.datatype_parse.specs.Parse.{parse, row_count, filled, parse_answer, parse_rows}
 use Rattle.output.specs.Digits.{digits}
 use Rattle.datatype_display.specs.Print.{print}
-use Rattle.answer_line.specs.Line.{no_line, ok_line, line_words, line_answer, line_answered, line_rows, line_out, answered_means, answer_bytes}
+use Rattle.answer_line.specs.Line.{no_line, ok_line, line_words, line_answer, line_answered, line_rows, line_out, answer_bytes}
 use Rattle.answer_line.specs.Internal.Steps.{Answers, ok_head, tree_line, table_line}
-use Rattle.answer_line.specs.declared.Answered.{Answered}
-use Rattle.answer_line.specs.declared.Answered.TheVariants.{Bytes, NoRoom}
 
 -- ---- the answer to the table of a tree that was read
 
@@ -64,41 +62,41 @@ module _ (n : ℕ) where
 
 module _ (line rows out : List ℕ) where
   -- the three clauses of the function's contract
-  abbrev Answering : Answered → List ℕ → List ℕ → Type 0
+  abbrev pub Answering : Option ℕ → List ℕ → List ℕ → Type 0
   Answering r rows' out' =
-      (answered_means r ≡ line_answered line rows out) × ((rows' ≡ line_rows line rows out) × (out' ≡ line_out line rows out))
+      (r ≡ line_answered line rows out) × ((rows' ≡ line_rows line rows out) × (out' ≡ line_out line rows out))
 
-  pub few_words : length rows < line_words → Answering NoRoom rows out
-  unfolding answered_means line_answered line_rows line_out
+  pub few_words : length rows < line_words → Answering None rows out
+  unfolding line_answered line_rows line_out
   few_words h = let e = lt-leb line_words (length rows) h in (rw e, (rw e, rw e))
 
-  pub few_bytes : line_words ≤ length rows → length out < answer_bytes → Answering NoRoom rows out
-  unfolding answered_means line_answered line_rows line_out
+  pub few_bytes : line_words ≤ length rows → length out < answer_bytes → Answering None rows out
+  unfolding line_answered line_rows line_out
   few_bytes k h =
       let d = le-leb line_words (length rows) k in
       let e = lt-leb answer_bytes (length out) h in
       (rw (d, e), (rw (d, e), rw (d, e)))
 
   module _ (words : line_words ≤ length rows) (room : answer_bytes ≤ length out) where
-    with-room : (r : ℕ) (rows' out' : List ℕ) → rows' ≡ parse_rows line rows → Answers (line_answer line) out r out' → Answering (Bytes r) rows' out'
-    unfolding answered_means line_answered line_rows line_out
+    with-room : (r : ℕ) (rows' out' : List ℕ) → rows' ≡ parse_rows line rows → Answers (line_answer line) out r out' → Answering (Some r) rows' out'
+    unfolding line_answered line_rows line_out
     with-room r rows' out' p a =
         let d = le-leb line_words (length rows) words in
         let e = le-leb answer_bytes (length out) room in
         (rw (d, e, a.counted), (rw (d, e, p), rw (d, e, a.stored)))
 
-    module _ (q : Parsed) (rows' : List ℕ) (e : parsed_means q ≡ parse_answer line rows) (p : rows' ≡ parse_rows line rows) (n : ℕ) where
-      pub line_refused : q ≡ parsed.Refused n → (r : ℕ) (out' : List ℕ) → Answers (no_line (record { number = n })) out r out' → Answering (Bytes r) rows' out'
-      unfolding parsed_means parse_answer line_answer
-      line_refused h r out' a =
-          let o : parse line 1024 ≡ refuse n = ap (parse line) (sym (all_lent (length rows) words)) ∙ no-tree n (parse line (rows_lent (length rows))) (sym e ∙ ap parsed_means h) in
+    module _ (q : Result ℕ Refusal) (rows' : List ℕ) (e : answer_of q ≡ parse_answer line rows) (p : rows' ≡ parse_rows line rows) where
+      pub line_refused : (d : Refusal) → q ≡ Err d → (r : ℕ) (out' : List ℕ) → Answers (no_line (record { number = number_of d })) out r out' → Answering (Some r) rows' out'
+      unfolding parse_answer line_answer
+      line_refused d h r out' a =
+          let o : parse line 1024 ≡ refuse (number_of d) = ap (parse line) (sym (all_lent (length rows) words)) ∙ no-tree (number_of d) (parse line (rows_lent (length rows))) (sym e ∙ ap answer_of h) in
           with-room r rows' out' p (rw o a)
 
-      module _ (h : q ≡ parsed.Rows n) (k : length rows' ≡ length rows) where
+      module _ (n : ℕ) (h : q ≡ Ok n) (k : length rows' ≡ length rows) where
         -- the rows that were filled are lent
         pub line-fits : row_words * n ≤ length rows'
-        unfolding parsed_means parse_answer parse_rows
-        line-fits = go (some-tree n (parse line (rows_lent (length rows))) (sym e ∙ ap parsed_means h))
+        unfolding parse_answer parse_rows
+        line-fits = go (some-tree n (parse line (rows_lent (length rows))) (sym e ∙ ap answer_of h))
           where
             go : (f : Forest Row) × (parse line (rows_lent (length rows)) ≡ done f) × (count f ≡ n) → row_words * n ≤ length rows'
             go w =
@@ -111,8 +109,8 @@ module _ (line rows out : List ℕ) where
 
         -- they are 1,024 at the most
         pub line-few : length (take (row_words * n) rows') / row_words ≤ 1024
-        unfolding parsed_means parse_answer
-        line-few = go (some-tree n (parse line (rows_lent (length rows))) (sym e ∙ ap parsed_means h))
+        unfolding parse_answer
+        line-few = go (some-tree n (parse line (rows_lent (length rows))) (sym e ∙ ap answer_of h))
           where
             go : (f : Forest Row) × (parse line (rows_lent (length rows)) ≡ done f) × (count f ≡ n) → length (take (row_words * n) rows') / row_words ≤ 1024
             go w =
@@ -127,10 +125,10 @@ module _ (line rows out : List ℕ) where
         pub line-counted : row_words * n ≡ length (take (row_words * n) rows')
         line-counted = sym (length-take-le (row_words * n) rows' line-fits)
 
-      read-answers : (f : Forest Row) → parse line (rows_lent (length rows)) ≡ done f → count f ≡ n → (r : ℕ) (out' : List ℕ)
+      read-answers : (n : ℕ) (f : Forest Row) → parse line (rows_lent (length rows)) ≡ done f → count f ≡ n → (r : ℕ) (out' : List ℕ)
           → Answers (table_line line (take (row_words * n) rows')) out r out' → Answers (line_answer line) out r out'
       unfolding line_answer parse_rows
-      read-answers f o c r out' a =
+      read-answers n f o c r out' a =
           let g : parse line 1024 ≡ done f = ap (parse line) (sym (all_lent (length rows) words)) ∙ o in
           let l : row_words * n ≡ length (table_of f) = let m = length_table f in omega arith in
           let t : take (row_words * n) rows' ≡ table_of f =
@@ -139,9 +137,9 @@ module _ (line rows out : List ℕ) where
           ∙ take-append_seam (table_of f) (drop (length (table_of f)) rows) in
           rw g (subst (λ (l : List ℕ). Answers l out r out') (ap (table_line line) t ∙ table_line_lem line f) a)
 
-      pub line_read : q ≡ parsed.Rows n → (r : ℕ) (out' : List ℕ) → Answers (table_line line (take (row_words * n) rows')) out r out' → Answering (Bytes r) rows' out'
-      unfolding parsed_means parse_answer
-      line_read h r out' a = with-room r rows' out' p (go (some-tree n (parse line (rows_lent (length rows))) (sym e ∙ ap parsed_means h)))
+      pub line_read : (n : ℕ) → q ≡ Ok n → (r : ℕ) (out' : List ℕ) → Answers (table_line line (take (row_words * n) rows')) out r out' → Answering (Some r) rows' out'
+      unfolding parse_answer
+      line_read n h r out' a = with-room r rows' out' p (go (some-tree n (parse line (rows_lent (length rows))) (sym e ∙ ap answer_of h)))
         where
           go : (f : Forest Row) × (parse line (rows_lent (length rows)) ≡ done f) × (count f ≡ n) → Answers (line_answer line) out r out'
-          go w = read-answers w.0 w.1 w.2 r out' a
+          go w = read-answers n w.0 w.1 w.2 r out' a

@@ -1,6 +1,5 @@
 -- The sample of document 01, 'The line program', by computation, and a buffer that is a word short.
-use Rattle.std.specs.Prelude.{◌≡◌, refl, List, ℕ, length}
-use Rattle.std.proofs.Math.Option.{none}
+use Rattle.std.specs.Prelude.{◌≡◌, refl, List, ℕ, length, None}
 use Rattle.tokenizer.specs.Text.{bytes}
 use Rattle.datatype_parse.specs.Internal.Computed as parser
 use Rattle.datatype_display.specs.Internal.Computed as printer
@@ -12,6 +11,6 @@ unfolding parser.computed printer.computed line_answer lines_of output
 sample = refl
 
 -- With one word less than 1,024 rows take there is no room, whatever the line.
-pub words_missing : (line rows out : List ℕ) → length rows ≡ 12287 → line_answered line rows out ≡ none
+pub words_missing : (line rows out : List ℕ) → length rows ≡ 12287 → line_answered line rows out ≡ None
 unfolding line_answered
 words_missing line rows out e = rw e

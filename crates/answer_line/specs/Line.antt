@@ -1,6 +1,5 @@
 -- The line program (document 01, 'The line program').
-use Rattle.std.specs.Prelude.{Bool, ◌&&◌, List, [], ◌∷◌, ◌++◌, ℕ, suc, ◌+◌, ◌*◌, min, length, drop, leb, eqb, if◌then◌else◌}
-use Rattle.std.proofs.Math.Option.{Option, none, some}
+use Rattle.std.specs.Prelude.{Bool, ◌&&◌, List, [], ◌∷◌, ◌++◌, ℕ, suc, ◌+◌, ◌*◌, min, length, drop, leb, eqb, if◌then◌else◌, Option, Some, None}
 use Rattle.tokenizer.specs.Text.{bytes}
 use Rattle.tokenizer.specs.Answer.{Refusal, Out, refused, done}
 use Rattle.datatype.specs.Limits.{max_text, max_rows}
@@ -9,8 +8,6 @@ use Rattle.datatype.specs.Table.{row_words, table_of}
 use Rattle.datatype_parse.specs.Parse.{parse, parse_rows}
 use Rattle.output.specs.Digits.{digits}
 use Rattle.datatype_display.specs.Print.{print}
-use Rattle.answer_line.specs.declared.Answered.{Answered}
-use Rattle.answer_line.specs.declared.Answered.TheVariants.{Bytes, NoRoom}
 
 -- `no` and the number.
 abbrev pub no_line : Refusal → List ℕ
@@ -63,7 +60,7 @@ room_for rows out = leb line_words (length rows) && leb answer_bytes (length out
 
 -- What is answered: how many bytes are printed for the line; nothing where there is no room.
 unfoldable pub line_answered : List ℕ → List ℕ → List ℕ → Option ℕ
-line_answered line rows out = if room_for rows out then some (length (line_answer line)) else none
+line_answered line rows out = if room_for rows out then Some (length (line_answer line)) else None
 
 -- What the rows hold behind it: what reading the line leaves in them. Without room nothing changes.
 unfoldable pub line_rows : List ℕ → List ℕ → List ℕ → List ℕ
@@ -74,11 +71,6 @@ unfoldable pub line_out : List ℕ → List ℕ → List ℕ → List ℕ
 line_out line rows out =
     let printed = line_answer line in
     if room_for rows out then printed ++ drop (length printed) out else out
-
--- What the code's answer means.
-unfoldable pub answered_means : Answered → Option ℕ
-answered_means (Bytes n) = some n
-answered_means NoRoom = none
 
 -- ---- where a line ends
 

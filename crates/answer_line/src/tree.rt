@@ -1,6 +1,6 @@
 // The answer to a text that was read: its tree's rows, depth and printed text, or the refusal of the printer.
 ghost use Rattle.std.specs.Prelude.{◌≤◌, ◌/◌, length};
-ghost use Rattle.datatype.specs.Limits.{max_text, max_rows, max_levels};
+ghost use Rattle.datatype.specs.Limits.{max_text, max_rows};
 ghost use Rattle.datatype.specs.Tree.{name_list};
 ghost use Rattle.datatype.specs.Table.{row_words};
 ghost use Rattle.datatype_display.specs.Print.{print};
@@ -8,21 +8,20 @@ ghost use Rattle.answer_line.specs.Internal.Steps.{Answers, tree_line, table_lin
 ghost use Rattle.answer_line.specs.Line.{answer_bytes};
 
 use crate::write;
+use crate::write::Head;
 use datatype::Field;
 use datatype::rows::ROW_WORDS;
-use datatype_display::Printed;
 
-// The answer with the tree's depth at hand. What is printed stands where it belongs before the head is written, so that
-// a refused print has written nothing.
-fn print_tree(text: &[u8], rows: &[u32], levels: usize, out: &mut [u8]) -> usize
-    requires { (answer_bytes ≤ length out.old) × (length rows.now / row_words ≤ max_rows) × (levels ≤ max_levels) }
-    ensures { Answers (tree_line (length rows.now / row_words) levels (print text.now name_list rows.now max_text)) out.old result out.new }
+// The answer with its head at hand. What is printed stands where it belongs before the head is written, so that a
+// refused print has written nothing.
+fn print_tree(text: &[u8], rows: &[u32], head: Head, out: &mut [u8]) -> usize
+    requires { answer_bytes ≤ length out.old }
+    ensures { Answers (tree_line head.rows head.levels (print text.now name_list rows.now max_text)) out.old result out.new }
 {
-    let count = rows.len() / ROW_WORDS;
-    let head = write::head_length(count, levels);
-    match datatype_display::print_data_type(text, &Field::NAME_LIST, rows, &mut out[head..]) {
-        Printed::Refused(n) => write::put_no(out, n),
-        Printed::Length(n) => write::put_frame(out, count, levels, n),
+    let at = head.length();
+    match datatype_display::print_data_type(text, &Field::NAME_LIST, rows, &mut out[at..]) {
+        Err(refusal) => write::put_no(out, refusal),
+        Ok(n) => head.frame(out, n),
     }
 }
 
@@ -31,6 +30,9 @@ pub(crate) fn answer_tree(text: &[u8], rows: &[u32], out: &mut [u8]) -> usize
     requires { (answer_bytes ≤ length out.old) × (length rows.now / row_words ≤ max_rows) }
     ensures { Answers (table_line text.now rows.now) out.old result out.new }
 {
-    let levels = subtrees::levels_of(rows);
-    print_tree(text, rows, levels, out)
+    let head = Head {
+        rows: rows.len() / ROW_WORDS,
+        levels: subtrees::levels_of(rows),
+    };
+    print_tree(text, rows, head, out)
 }

@@ -1,22 +1,24 @@
 // Writing an answer's own bytes.
-ghost use Rattle.std.specs.Prelude.{[], ◌∷◌, ◌+◌, ◌≤◌, ◌<◌, length};
+ghost use Rattle.std.specs.Prelude.{◌+◌, ◌≤◌, ◌<◌, length};
+ghost use Rattle.tokenizer.specs.Answer.{number_of};
 ghost use Rattle.output.specs.Digits.{digits};
 ghost use Rattle.answer_line.specs.Line.{no_line, answer_bytes};
 ghost use Rattle.answer_line.specs.Internal.Steps.{Put, Answers, Framed, HeadLength, ok_head};
 ghost use Rattle.datatype.specs.Limits.{max_rows, max_levels};
 
 use output::digits_length;
+use tokenizer::Refusal;
 
-// Writes one byte at a place, and answers the place behind it.
-fn put_byte(out: &mut [u8], at: usize, c: u8) -> usize
-    requires { at < length out.old }
-    ensures { Put out.old at (c ∷ []) result out.new }
+// Writes bytes at a place, and answers the place behind them.
+fn put_bytes(out: &mut [u8], at: usize, s: &[u8]) -> usize
+    requires { at + length s.now ≤ length out.old }
+    ensures { Put out.old at s.now result out.new }
 {
-    output::put_byte(out, at, c);
-    at + 1
+    output::put_bytes(out, at, s);
+    at + s.len()
 }
 
-// Writes a number in decimal digits.
+// Writes a number in decimal digits, and answers the place behind them.
 fn put_digits(out: &mut [u8], at: usize, n: u32) -> usize
     requires { at + length (digits n) ≤ length out.old }
     ensures { Put out.old at (digits n) result out.new }
@@ -24,52 +26,51 @@ fn put_digits(out: &mut [u8], at: usize, n: u32) -> usize
     at + output::put_digits(out, at, n)
 }
 
-// Writes a word of two letters and a space at the start.
-fn put_word(out: &mut [u8], a: u8, b: u8) -> usize
-    requires { 3 ≤ length out.old }
-    ensures { Put out.old 0 (a ∷ b ∷ 32 ∷ []) result out.new }
-{
-    out[0] = a;
-    out[1] = b;
-    out[2] = b' ';
-    3
-}
-
-// `no` and the number.
-pub(crate) fn put_no(out: &mut [u8], n: u32) -> usize
+// `no` and the refusal's number. Room is asked for here and in tree.rt: a slice is lent, whose type says no length.
+pub(crate) fn put_no(out: &mut [u8], refusal: Refusal) -> usize
     requires { answer_bytes ≤ length out.old }
-    ensures { Answers (no_line (record { number = n })) out.old result out.new }
+    ensures { Answers (no_line (record { number = number_of refusal })) out.old result out.new }
 {
-    let a = put_word(out, b'n', b'o');
-    let b = put_digits(out, a, n);
-    put_byte(out, b, b'\n')
+    let a = put_bytes(out, 0, b"no ");
+    let b = put_digits(out, a, refusal.number());
+    put_bytes(out, b, b"\n")
 }
 
-// How many bytes stand before the printed text.
-pub(crate) fn head_length(rows: usize, levels: usize) -> usize
-    requires { (rows ≤ max_rows) × (levels ≤ max_levels) }
-    ensures { HeadLength rows levels result }
-{
-    5 + digits_length(rows as u32) + digits_length(levels as u32)
+// What stands before a printed text: `ok`, its rows and its levels.
+#[derive(Clone, Copy)]
+pub(crate) struct Head {
+    pub rows: usize,
+    pub levels: usize,
+    ghost few: { rows ≤ max_rows },
+    ghost low: { levels ≤ max_levels },
 }
 
-// `ok`, rows, depth, each with a space behind it.
-fn put_head(out: &mut [u8], rows: usize, levels: usize) -> usize
-    requires { (rows ≤ max_rows) × (levels ≤ max_levels) × (length (ok_head rows levels) ≤ length out.old) }
-    ensures { Put out.old 0 (ok_head rows levels) result out.new }
-{
-    let a = put_word(out, b'o', b'k');
-    let b = put_digits(out, a, rows as u32);
-    let c = put_byte(out, b, b' ');
-    let d = put_digits(out, c, levels as u32);
-    put_byte(out, d, b' ')
-}
+impl Head {
+    // How many bytes it takes.
+    pub(crate) fn length(&self) -> usize
+        ensures { HeadLength self.now.rows self.now.levels result }
+    {
+        5 + digits_length(self.rows as u32) + digits_length(self.levels as u32)
+    }
 
-// The head before a printed text of so many bytes that stands in its place, and the newline behind it.
-pub(crate) fn put_frame(out: &mut [u8], rows: usize, levels: usize, size: usize) -> usize
-    requires { (rows ≤ max_rows) × (levels ≤ max_levels) × (length (ok_head rows levels) + size < length out.old) }
-    ensures { Framed (ok_head rows levels) size out.old result out.new }
-{
-    let at = put_head(out, rows, levels);
-    put_byte(out, at + size, b'\n')
+    // Writes it at the start: `ok`, rows, levels, each with a space behind it.
+    fn put(&self, out: &mut [u8]) -> usize
+        requires { length (ok_head self.now.rows self.now.levels) ≤ length out.old }
+        ensures { Put out.old 0 (ok_head self.now.rows self.now.levels) result out.new }
+    {
+        let a = put_bytes(out, 0, b"ok ");
+        let b = put_digits(out, a, self.rows as u32);
+        let c = put_bytes(out, b, b" ");
+        let d = put_digits(out, c, self.levels as u32);
+        put_bytes(out, d, b" ")
+    }
+
+    // Writes it before a printed text of so many bytes that stands in its place, and a newline behind that.
+    pub(crate) fn frame(&self, out: &mut [u8], size: usize) -> usize
+        requires { length (ok_head self.now.rows self.now.levels) + size < length out.old }
+        ensures { Framed (ok_head self.now.rows self.now.levels) size out.old result out.new }
+    {
+        let at = self.put(out);
+        put_bytes(out, at + size, b"\n")
+    }
 }

@@ -1,6 +1,5 @@
 -- Answers as two numbers: the status, 0 or the refusal's number, and the value, 0 where it was refused.
-use Rattle.std.specs.Prelude.{Bool, true, false, List, [], ◌∷◌, ℕ}
-use Rattle.std.proofs.Math.Option.{Option, some, none}
+use Rattle.std.specs.Prelude.{Option, Some, None, Bool, true, false, List, [], ◌∷◌, ℕ}
 use Rattle.tokenizer.specs.Answer.{Out, refused, done}
 
 unfoldable pub status_of : {A : Type 0} → Out A → ℕ
@@ -19,13 +18,13 @@ flag false = 0
 -- A verdict as two numbers beside the status: 1 for yes, else 0; the first row that breaks a rule, else 0.
 unfoldable pub yes_of : Out (Option ℕ) → ℕ
 yes_of (refused r) = 0
-yes_of (done none) = 1
-yes_of (done (some i)) = 0
+yes_of (done None) = 1
+yes_of (done (Some i)) = 0
 
 unfoldable pub row_of : Out (Option ℕ) → ℕ
 row_of (refused r) = 0
-row_of (done none) = 0
-row_of (done (some i)) = i
+row_of (done None) = 0
+row_of (done (Some i)) = i
 
 -- A number of a name's place, 0 where the name is empty.
 unfoldable pub if_named : List ℕ → ℕ → ℕ

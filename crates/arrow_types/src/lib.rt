@@ -1,9 +1,10 @@
 // The functions that services call from Rust or C, on numbers and slices; `arrow_types_c` exports them. A status is 0 or
-// document 01's number.
+// document 01's number. The C interface: numbers for answers and yes, and places to write to, stay in every signature.
 
 #![tactic(auto)]
 
 ghost use Rattle.std.specs.Prelude.{◌≡◌, length};
+ghost use Rattle.tokenizer.specs.Answer.{answer_of};
 ghost use Rattle.arrow_types.specs.Status.{status_of, value_of, flag, yes_of, row_of, if_named};
 ghost use Rattle.datatype.specs.Tree.{name_of, zone_of};
 ghost use Rattle.subtrees.specs.Parents.{with_parents};
@@ -15,10 +16,25 @@ ghost use Rattle.datatype_parse.specs.RowsToLend.{rows_to_lend};
 ghost use Rattle.datatype_display.specs.Print.{print_answer, print_bytes};
 
 use datatype::Field;
-use datatype_display::Printed;
-use datatype_parse::Parsed;
-use layout::Verdict;
-use row_table::Depth;
+use tokenizer::Refusal;
+
+// An answer as two numbers: the status, and the value, 0 where it was refused.
+#[tactic(auto, unfolding(crate::specs::Status::status_of, crate::specs::Status::value_of))]
+fn status(answer: Result<usize, Refusal>, value: &mut usize) -> u32
+    ensures status { result ≡ status_of (answer_of answer) }
+    ensures value { value.new ≡ value_of (answer_of answer) }
+{
+    match answer {
+        Ok(n) => {
+            *value = n;
+            0
+        }
+        Err(refusal) => {
+            *value = 0;
+            refusal.number()
+        }
+    }
+}
 
 // Reads a type text into lent rows.
 pub fn arrow_types_read(text: &[u8], rows: &mut [u32], count: &mut usize) -> u32
@@ -26,16 +42,7 @@ pub fn arrow_types_read(text: &[u8], rows: &mut [u32], count: &mut usize) -> u32
     ensures value { count.new ≡ value_of (parse_answer text.now rows.old) }
     ensures contents { rows.new ≡ parse_rows text.now rows.old }
 {
-    match datatype_parse::parse_data_type(text, rows) {
-        Parsed::Rows(n) => {
-            *count = n;
-            0
-        }
-        Parsed::Refused(n) => {
-            *count = 0;
-            n
-        }
-    }
+    status(datatype_parse::parse_data_type(text, rows), count)
 }
 
 // How many rows to lend for a text of so many bytes.
@@ -57,16 +64,8 @@ pub fn arrow_types_print<'a>(
     ensures value { length.new ≡ value_of (print_answer text.now names.now rows.now out.old) }
     ensures contents { out.new ≡ print_bytes text.now names.now rows.now out.old }
 {
-    match datatype_display::print_data_type(text, names, rows, out) {
-        Printed::Length(n) => {
-            *length = n;
-            0
-        }
-        Printed::Refused(n) => {
-            *length = 0;
-            n
-        }
-    }
+    let printed = datatype_display::print_data_type(text, names, rows, out);
+    status(printed, length)
 }
 
 // Sets the parent, word 11, of each row that a table holds, up to 1,024: for rows that were built or stored without it.
@@ -92,11 +91,7 @@ pub fn arrow_types_name<'a>(
     ensures count { count.new ≡ length (name_of text.now names.now home start size) }
     ensures bytes { name_of text.now names.now result from.new count.new ≡ name_of text.now names.now home start size }
 {
-    let field = Field {
-        home: home,
-        start: start,
-        size: size,
-    };
+    let field = Field { home, start, size };
     let found = field.name(text, names);
     *count = found.len();
     if found.len() == 0 {
@@ -135,10 +130,7 @@ pub fn arrow_types_zone(
 pub fn arrow_types_is_sound(text: &[u8], names: &[u8], rows: &[u32]) -> u32
     ensures { result ≡ flag (is_sound text.now names.now rows.now) }
 {
-    if row_table::is_sound(text, names, rows) {
-        return 1;
-    }
-    0
+    u32::from(row_table::is_sound(text, names, rows))
 }
 
 // The depth of a tree.
@@ -146,16 +138,7 @@ pub fn arrow_types_depth(text: &[u8], names: &[u8], rows: &[u32], depth: &mut us
     ensures status { result ≡ status_of (depth_of text.now names.now rows.now) }
     ensures value { depth.new ≡ value_of (depth_of text.now names.now rows.now) }
 {
-    match row_table::depth_of(text, names, rows) {
-        Depth::Levels(n) => {
-            *depth = n;
-            0
-        }
-        Depth::Refused(n) => {
-            *depth = 0;
-            n
-        }
-    }
+    status(row_table::depth_of(text, names, rows), depth)
 }
 
 // Whether two trees, each with its text, its name list and its row words, are equal: 1 or 0.
@@ -169,10 +152,7 @@ pub fn arrow_types_equal<'a, 'b>(
 ) -> u32
     ensures { result ≡ flag (equal_trees text.now names.now text2.now names2.now rows.now rows2.now) }
 {
-    if subtrees::equal_trees(text, names, rows, text2, names2, rows2) {
-        return 1;
-    }
-    0
+    u32::from(subtrees::equal_trees(text, names, rows, text2, names2, rows2))
 }
 
 // The layout verdict of a tree: whether it is yes, 1 or 0, and the first row that breaks a rule, where it is not.
@@ -190,14 +170,14 @@ pub fn arrow_types_verdict(
     *yes = 0;
     *row = 0;
     match layout::verdict_of(text, names, rows) {
-        Verdict::Yes => {
+        Ok(None) => {
             *yes = 1;
             0
         }
-        Verdict::Row(i) => {
+        Ok(Some(i)) => {
             *row = i;
             0
         }
-        Verdict::Refused(n) => n,
+        Err(refusal) => refusal.number(),
     }
 }

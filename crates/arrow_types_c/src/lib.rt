@@ -1,4 +1,5 @@
-// The functions that services link, under their names for C: each is that of `arrow_types`, by the same contract.
+// The functions that services link, under their names for C: each is that of `arrow_types`, by the same contract. The C
+// interface: numbers for answers and yes, and places to write to, stay in every signature.
 
 #![tactic(auto)]
 

@@ -5,10 +5,9 @@ use mathlib.Core.List.{[], ◌∷◌}
 use Prim.Native.Nat.{ℕ, zero, suc, ◌+◌, ◌-◌, ◌≤◌, ◌<◌}
 use native.Mathlib.Omega.{arith}
 use lib.ListN.{get_or, get_or-eq_default}
-use lib.Dec.{leb, ltb, leb→le, le→leb}
-use borrow.Author.Tests.{le-leb, lt-leb, le-ltb, ne_eqb, ltb-false}
+use lib.Dec.{leb, ltb}
+use borrow.Author.Tests.{lt-leb, le-ltb, ne_eqb, ltb-false}
 use Rattle.datatype.specs.Kind.{leaf, kinds, shapes, shape_of, decimal32_kind, unit_fits, max_precision, decimal_fits}
-use Rattle.datatype.proofs.Tests.{iff_eq}
 
 -- a number that is none of kind has the shape of a leaf
 pub past_kinds : (k : ℕ) → kinds ≤ k → shape_of k ≡ leaf
@@ -17,18 +16,9 @@ past_kinds k h = get_or-eq_default shapes leaf {n = k} h
 
 -- ---- units
 
-module _ (k u : ℕ) where
-  pub unit-32 : k ≡ 16 → ltb u 2 ≡ unit_fits k u
-  unfolding unit_fits
-  unit-32 e = rw e
-
-  pub unit-64 : k ≡ 17 → leb 2 u ≡ unit_fits k u
-  unfolding unit_fits
-  unit-64 e = rw e
-
-  pub unit-any : (k ≡ 16 → ⊥) → (k ≡ 17 → ⊥) → true ≡ unit_fits k u
-  unfolding unit_fits
-  unit-any z y = rw (ne_eqb k 16 z, ne_eqb k 17 y)
+pub unit-any : (k u : ℕ) → (k ≡ 16 → ⊥) → (k ≡ 17 → ⊥) → true ≡ unit_fits k u
+unfolding unit_fits
+unit-any k u z y = rw (ne_eqb k 16 z, ne_eqb k 17 y)
 
 -- ---- decimals
 
@@ -72,22 +62,5 @@ module _ (k : ℕ) where
       let e : decimal32_kind + w - decimal32_kind ≡ w = omega arith in
       rw (le-ltb (decimal32_kind + w) decimal32_kind (omega arith), e)
 
-  module _ (p s : ℕ) where
-    pub decimal-1 : p ≡ 0 → false ≡ decimal_fits k p s
-    unfolding decimal_fits
-    decimal-1 e = rw e
-
-    module _ (m : ℕ) (is : m ≡ max_precision k) where
-      pub decimal-2 : (p ≡ 0 → ⊥) → m < p → false ≡ decimal_fits k p s
-      unfolding decimal_fits
-      decimal-2 z h = rw (le-leb 1 p (omega arith), ← is, lt-leb p m h)
-
-      pub decimal-3 : (p ≡ 0 → ⊥) → p ≤ m → s ≤ 128 → true ≡ decimal_fits k p s
-      unfolding decimal_fits
-      decimal-3 z h l = rw (le-leb 1 p (omega arith), ← is, le-leb p m h, le-leb s (128 + p) (omega arith))
-
-      pub decimal-4 : (p ≡ 0 → ⊥) → p ≤ m → 128 < s → leb (s - 128) p ≡ decimal_fits k p s
-      unfolding decimal_fits
-      decimal-4 z h l =
-          rw (le-leb 1 p (omega arith), ← is, le-leb p m h)
-          (iff_eq (leb (s - 128) p) (leb s (128 + p)) (λ t. le→leb s (128 + p) (let u = leb→le (s - 128) p t in omega arith)) (λ t. le→leb (s - 128) p (let u = leb→le s (128 + p) t in omega arith)))
+-- what each arm of a match over the kinds answers
+pub ruleset precisions = (max-1, max-2, max-3, max-4, max-5)

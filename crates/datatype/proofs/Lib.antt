@@ -1,6 +1,5 @@
 pub mod Tests
 pub mod Same
-pub mod Cleared
 pub mod Sets
 pub mod Table
 pub mod Names

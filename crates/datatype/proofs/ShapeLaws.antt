@@ -1,15 +1,16 @@
 -- The shapes of kinds, for a `match` over kinds: those that are not leaves one by one, and all others.
 use mathlib.Core.Path.{◌≡◌, refl, sym}
-use mathlib.Core.Bool.{true, false, ◌||◌}
+use mathlib.Core.Bool.{Bool, false, not, ◌&&◌, ◌||◌}
 use mathlib.Core.List.{List, [], ◌∷◌}
-use Prim.Native.Nat.{ℕ, ◌<◌}
+use Prim.Native.Nat.{ℕ, ◌≤◌, ◌<◌}
 use native.Mathlib.Decide.{dec_lt}
 use native.Mathlib.Omega.{arith}
-use lib.Dec.{T, eqb, eqb→eq}
+use lib.Dec.{T, leb, eqb, eqb→eq}
 use borrow.Author.Tests.{ne_eqb}
 use Rattle.tokenizer.proofs.Listed.{NoneOf}
 use Rattle.datatype.specs.Kind.{Shape, leaf, timestamp, time, interval, fixed, list, fixed_list, struct, union, dictionary, decimal, mapping, run_end_encoded, kinds, shape_of, is_leaf, is_word, has}
-use Rattle.datatype.proofs.Tests.{all_below, below_at}
+use Rattle.std.proofs.lemmas.Bool.Decides.{nat_tests}
+use Rattle.datatype.proofs.Tests.{all_below, below_at, same_bool, same_bool_lem}
 use Rattle.datatype.proofs.KindLaws.{past_kinds}
 
 -- the shapes that are not leaves, in the order of the kinds
@@ -63,13 +64,21 @@ pub word_leaf : (k : ℕ) → T (is_word k) → shape_of k ≡ leaf
 unfolding is_word
 word_leaf k h = leaf_is (shape_of k) h
 
-pub leaf_word : (k : ℕ) → NoneOf k (Unit {0}) branching → true ≡ is_word k
+-- where the kinds stand that are more than their word
+abbrev pub more_than_word : ℕ → Bool
+more_than_word k = eqb k 13 || leb 16 k && leb k 19 || eqb k 21 || leb 27 k && leb k 40
+
+word_kinds : T (all_below 41 (λ k. same_bool (is_word k) (not (more_than_word k))))
+unfolding is_word shape_of same_bool
+word_kinds = tt
+
+past_words : (k : ℕ) → 41 ≤ k → is_word k ≡ not (more_than_word k)
 unfolding is_word
-leaf_word k n = rw (leaf_number k n)
+past_words k h = rw (past_kinds k h) (grind (arith, nat_tests))
 
-pub no_word : (k n : ℕ) → k ≡ n → is_word n ≡ false → false ≡ is_word k
-no_word k n e h = rw e (sym h)
-
-pub words_not : (is_word 13 ≡ false) × (is_word 16 ≡ false) × (is_word 17 ≡ false) × (is_word 18 ≡ false) × (is_word 19 ≡ false) × (is_word 21 ≡ false) × (is_word 27 ≡ false) × (is_word 28 ≡ false) × (is_word 29 ≡ false) × (is_word 30 ≡ false) × (is_word 31 ≡ false) × (is_word 32 ≡ false) × (is_word 33 ≡ false) × (is_word 34 ≡ false) × (is_word 35 ≡ false) × (is_word 36 ≡ false) × (is_word 37 ≡ false) × (is_word 38 ≡ false) × (is_word 39 ≡ false) × (is_word 40 ≡ false)
-unfolding shape_of is_word
-words_not = (refl, refl, refl, refl, refl, refl, refl, refl, refl, refl, refl, refl, refl, refl, refl, refl, refl, refl, refl, refl)
+pub word_places : (k : ℕ) → is_word k ≡ not (more_than_word k)
+word_places k =
+    elim (dec_lt k 41) [
+      | yes h ↦ same_bool_lem (is_word k) (not (more_than_word k)) (below_at 41 (λ i. same_bool (is_word i) (not (more_than_word i))) word_kinds k h)
+      | no h ↦ past_words k (omega arith)
+    ]

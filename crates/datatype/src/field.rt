@@ -40,16 +40,15 @@ impl Field {
     pub const NAME_LIST: [u8; 18] = *b"itemrun_endsvalues";
 
     // The field's name, from whichever of text and name list is its home: empty where its words do not fit.
+    #[tactic(auto, unfolding(crate::specs::Tree::name_of))]
     pub fn name<'a>(self, text: &'a [u8], names: &'a [u8]) -> &'a [u8]
         ensures { result.now ≡ name_of text.now names.now self.home self.start self.size }
     {
-        if self.home == Self::IN_TEXT {
-            return part_of(text, self.start, self.size);
+        match self.home {
+            Self::IN_TEXT => part_of(text, self.start, self.size),
+            Self::IN_NAME_LIST => part_of(names, self.start, self.size),
+            _ => &[],
         }
-        if self.home == Self::IN_NAME_LIST {
-            return part_of(names, self.start, self.size);
-        }
-        &text[..0]
     }
 }
 
@@ -58,14 +57,11 @@ fn part_of(s: &[u8], start: u32, size: u32) -> &[u8]
     ensures { result.now ≡ part s.now start size }
 {
     let from = start as usize;
-    let to = from + size as usize;
-    if to <= s.len() {
-        return &s[from..to];
-    }
-    &s[..0]
+    s.get(from..from + size as usize).unwrap_or(&[])
 }
 
 // A zone, as a part of the text: empty where its words do not fit.
+#[tactic(auto, unfolding(crate::specs::Tree::zone_of))]
 pub fn zone(text: &[u8], start: u32, size: u32) -> &[u8]
     ensures { result.now ≡ zone_of text.now start size }
 {
@@ -73,18 +69,9 @@ pub fn zone(text: &[u8], start: u32, size: u32) -> &[u8]
 }
 
 // Whether two byte slices are the same.
+#[tactic(auto, using(crate::proofs::Same::pointwise_same))]
 pub fn equal_bytes(a: &[u8], b: &[u8]) -> bool
     ensures { result ≡ same a.now b.now }
 {
-    if a.len() != b.len() {
-        return false;
-    }
-    let mut i = 0;
-    while i < a.len() {
-        if a[i] != b[i] {
-            return false;
-        }
-        i += 1;
-    }
-    true
+    a == b
 }

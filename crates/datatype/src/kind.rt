@@ -2,7 +2,7 @@
 ghost use Rattle.std.specs.Prelude.{◌≡◌};
 ghost use Rattle.datatype.specs.Kind.{is_word, unit_fits, max_precision, decimal_fits};
 
-// The kinds, by their place in the Rust's `DataType`.
+// The kinds, by their place in the Rust's `DataType`: numbers and no enum, since a row's word 0 is one, and C lends rows.
 pub const NULL: u32 = 0;
 
 pub const BOOLEAN: u32 = 1;
@@ -89,45 +89,45 @@ pub const RUN_END_ENCODED: u32 = 40;
 pub const KINDS: u32 = 41;
 
 // Whether a kind takes a unit: Time32 s and ms, Time64 µs and ns, the others all.
+#[tactic(auto, unfolding(crate::specs::Kind::unit_fits))]
 pub fn unit_fits(kind: u32, unit: u32) -> bool
     ensures { result ≡ unit_fits kind unit }
 {
-    if kind == TIME32 {
-        return unit < 2;
+    match kind {
+        TIME32 => unit < 2,
+        TIME64 => 2 <= unit,
+        _ => true,
     }
-    if kind == TIME64 {
-        return 2 <= unit;
-    }
-    true
 }
 
 // Whether a type of a kind is written by its word alone.
+#[tactic(auto, using(crate::proofs::ShapeLaws::word_places))]
 pub fn is_word(kind: u32) -> bool
     ensures { result ≡ is_word kind }
 {
-    match kind {
-        TIMESTAMP => false,
-        TIME32 => false,
-        TIME64 => false,
-        DURATION => false,
-        INTERVAL => false,
-        FIXED_SIZE_BINARY => false,
-        LIST => false,
-        LIST_VIEW => false,
-        FIXED_SIZE_LIST => false,
-        LARGE_LIST => false,
-        LARGE_LIST_VIEW => false,
-        STRUCT => false,
-        UNION => false,
-        DICTIONARY => false,
-        DECIMAL32 => false,
-        DECIMAL64 => false,
-        DECIMAL128 => false,
-        DECIMAL256 => false,
-        MAP => false,
-        RUN_END_ENCODED => false,
-        _ => true,
-    }
+    !matches!(
+        kind,
+        TIMESTAMP
+            | TIME32
+            | TIME64
+            | DURATION
+            | INTERVAL
+            | FIXED_SIZE_BINARY
+            | LIST
+            | LIST_VIEW
+            | FIXED_SIZE_LIST
+            | LARGE_LIST
+            | LARGE_LIST_VIEW
+            | STRUCT
+            | UNION
+            | DICTIONARY
+            | DECIMAL32
+            | DECIMAL64
+            | DECIMAL128
+            | DECIMAL256
+            | MAP
+            | RUN_END_ENCODED
+    )
 }
 
 // A decimal's precision, and its scale plus 128.
@@ -147,37 +147,26 @@ impl Decimal {
     pub const DECIMAL256_MAX_PRECISION: u32 = 76;
 
     // The greatest precision of a decimal kind; 0 for every other kind.
+    #[tactic(auto, using(crate::proofs::KindLaws::precisions))]
     pub fn max_precision(kind: u32) -> u32
         ensures { result ≡ max_precision kind }
     {
-        if kind == DECIMAL32 {
-            return Self::DECIMAL32_MAX_PRECISION;
+        match kind {
+            DECIMAL32 => Self::DECIMAL32_MAX_PRECISION,
+            DECIMAL64 => Self::DECIMAL64_MAX_PRECISION,
+            DECIMAL128 => Self::DECIMAL128_MAX_PRECISION,
+            DECIMAL256 => Self::DECIMAL256_MAX_PRECISION,
+            _ => 0,
         }
-        if kind == DECIMAL64 {
-            return Self::DECIMAL64_MAX_PRECISION;
-        }
-        if kind == DECIMAL128 {
-            return Self::DECIMAL128_MAX_PRECISION;
-        }
-        if kind == DECIMAL256 {
-            return Self::DECIMAL256_MAX_PRECISION;
-        }
-        0
     }
 
     // Whether precision and scale are those of a decimal kind.
+    #[tactic(auto, unfolding(crate::specs::Kind::decimal_fits))]
     pub fn fits(self, kind: u32) -> bool
         ensures { result ≡ decimal_fits kind self.precision self.scale }
     {
-        if self.precision == 0 {
-            return false;
-        }
-        if Self::max_precision(kind) < self.precision {
-            return false;
-        }
-        if self.scale <= 128 {
-            return true;
-        }
-        self.scale - 128 <= self.precision
+        1 <= self.precision
+            && self.precision <= Self::max_precision(kind)
+            && self.scale.saturating_sub(128) <= self.precision
     }
 }

@@ -42,12 +42,9 @@ pub const MAX_ROWS: usize = 1024;
 pub const MAX_LEVELS: usize = 64;
 
 // How many rows so many words hold: whole rows, and 1,024 at the most.
+#[tactic(auto, unfolding(crate::specs::Table::rows_lent))]
 pub fn rows_lent(words: usize) -> usize
     ensures { result ≡ rows_lent words }
 {
-    let whole = words / ROW_WORDS;
-    if whole < MAX_ROWS {
-        return whole;
-    }
-    MAX_ROWS
+    (words / ROW_WORDS).min(MAX_ROWS)
 }

@@ -1,7 +1,5 @@
 pub mod Writes
 pub mod Escapes
-pub mod WordLaws
-pub mod KindWords
 pub mod Rows
 pub mod Texts
 pub mod Shapes

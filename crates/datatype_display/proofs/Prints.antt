@@ -13,13 +13,11 @@ use Rattle.tokenizer.proofs.Basics.{of_true}
 use Rattle.datatype.specs.Table.{tree_of}
 use Rattle.row_table.specs.Sound.{is_sound}
 use Rattle.display_length.specs.Display.{display}
-use Rattle.display_length.specs.PrintedLength.{quoted_ascii, printed_length, printed_length_means}
-use Rattle.display_length.specs.declared.PrintedLength.TheVariants as L
+use Rattle.display_length.specs.PrintedLength.{quoted_ascii, printed_length}
 use Rattle.display_length.proofs.PrintedLaws.{Prints as Measured, prints, refuses}
-use Rattle.datatype_display.specs.Print.{print, print_answer, print_bytes, printed_means}
+use Rattle.datatype_display.specs.Print.{print, print_answer, print_bytes}
 use Rattle.datatype_display.specs.Internal.Steps.{Fits, Wrote, Child, text_at}
-use Rattle.datatype_display.specs.declared.Printed.{Printed}
-use Rattle.datatype_display.specs.declared.Printed.TheVariants.{Length, Refused}
+use Rattle.tokenizer.specs.Answer.{Out, done, refuse}
 use Rattle.datatype_display.proofs.Rows.{root-child, root-text}
 
 module _ (text names table before : List ℕ) where
@@ -27,41 +25,38 @@ module _ (text names table before : List ℕ) where
   printed = display (tree_of text names table)
 
   -- both equations of the printer
-  abbrev Prints : Printed → List ℕ → Type 0
-  Prints answer after = (printed_means answer ≡ print_answer text names table before) × (after ≡ print_bytes text names table before)
+  abbrev Prints : Out ℕ → List ℕ → Type 0
+  Prints answer after = (answer ≡ print_answer text names table before) × (after ≡ print_bytes text names table before)
 
   -- 17 and 18, as the printed length has them
-  pub prints-refused : (n : ℕ) → printed_length_means (L.Refused n) ≡ printed_length text names table → Prints (Refused n) before
-  unfolding print print_answer print_bytes printed_means
+  pub prints-refused : (n : ℕ) → refuse n ≡ printed_length text names table → Prints (refuse n) before
+  unfolding print print_answer print_bytes
   prints-refused n h = go (refuses text names table n h)
     where
-      go : ((n ≡ 17) × (is_sound text names table ≡ false)) ⊎ ((n ≡ 18) × (is_sound text names table ≡ true) × (quoted_ascii (tree_of text names table) ≡ false)) → Prints (Refused n) before
+      go : ((n ≡ 17) × (is_sound text names table ≡ false)) ⊎ ((n ≡ 18) × (is_sound text names table ≡ true) × (quoted_ascii (tree_of text names table) ≡ false)) → Prints (refuse n) before
       go (inl e) = (rw (e.0, e.1), rw e.1)
       go (inr e) = (rw (e.0, e.1, e.2), rw (e.1, e.2))
 
-  module _ (n : ℕ) (h : printed_length_means (L.Length n) ≡ printed_length text names table) where
+  module _ (n : ℕ) (h : done n ≡ printed_length text names table) where
     measured : Measured text names table n
     measured = prints text names table n h
 
-    too_long : leb (length printed) (min (length before) 16384) ≡ false → Prints (Refused 19) before
-    unfolding print print_answer print_bytes printed_means
+    too_long : leb (length printed) (min (length before) 16384) ≡ false → Prints (refuse 19) before
+    unfolding print print_answer print_bytes
     too_long l = (rw (measured.sound, measured.ascii, l), rw (measured.sound, measured.ascii, l))
 
-    pub prints-19-limit : 16384 < n → Prints (Refused 19) before
-    prints-19-limit l = let k = measured.is in too_long (lt-leb (length printed) (min (length before) 16384) (omega arith))
+    pub prints-19 : min (length before) 16384 < n → Prints (refuse 19) before
+    prints-19 l = let k = measured.is in too_long (lt-leb (length printed) (min (length before) 16384) (omega arith))
 
-    pub prints-19-room : length before < n → Prints (Refused 19) before
-    prints-19-room l = let k = measured.is in too_long (lt-leb (length printed) (min (length before) 16384) (omega arith))
-
-    pub root-asks : n ≤ length before → Child text names table 64 0 × Fits before 0 (text_at text names table 0)
+    pub root-asks : n ≤ min (length before) 16384 → Child text names table 64 0 × Fits before 0 (text_at text names table 0)
     root-asks l =
         let k = measured.is in
         let e = ap (λ (s : List ℕ). length s) (root-text text names table (of_true _ measured.sound)) in
         (root-child text names table (of_true _ measured.sound), record { room = omega arith })
 
-    pub prints-text : n ≤ 16384 → n ≤ length before → (next : ℕ) (after : List ℕ) → Wrote before 0 (text_at text names table 0) next after → Prints (Length n) after
-    unfolding print print_answer print_bytes printed_means
-    prints-text l r next after w =
+    pub prints-text : n ≤ min (length before) 16384 → (next : ℕ) (after : List ℕ) → Wrote before 0 (text_at text names table 0) next after → Prints (done n) after
+    unfolding print print_answer print_bytes
+    prints-text l next after w =
         let k = measured.is in
         let f : leb (length printed) (min (length before) 16384) ≡ true = le-leb (length printed) (min (length before) 16384) (omega arith) in
         let z : 0 + length printed ≡ length printed = omega arith in (

@@ -51,9 +51,6 @@ module _ (text names table : List ℕ) where
       pub first-room : row_words * (at + 1) ≤ length table
       first-room = let r = w.nests.room in omega arith
 
-      pub first-end : at + rows_at table at ≤ end
-      first-end = first-turn.within
-
       pub trees-some : trees at end ≡ shown_at text names table at ∷ trees (at + rows_at table at) end
       unfolding trees shown text_at label_at kids_at
       trees-some = ap shown (labels-turn text names table at end first-turn)

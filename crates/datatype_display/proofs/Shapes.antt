@@ -6,7 +6,7 @@ use Prim.Native.Nat.{ℕ, ◌≤◌, ◌<◌}
 use lib.ListN.{get_or}
 use lib.Dec.{T, leb, ltb, eqb, eqb→eq}
 use native.Mathlib.Omega.{arith}
-use borrow.Author.Tests.{lt-ltb, le-ltb, le-leb, lt-leb}
+use borrow.Author.Tests.{le-ltb, lt-leb}
 use Rattle.tokenizer.proofs.Listed.{NoneOf}
 use Rattle.datatype.specs.Kind.{Shape, leaf, timestamp, time, interval, fixed, list, fixed_list, struct, union, dictionary, decimal, mapping, run_end_encoded, kinds, shape_of, has}
 use Rattle.datatype.proofs.Tests.{all_below, below_at}
@@ -56,21 +56,6 @@ shape_in : (some : ℕ → Bool) (singles : List ℕ) (lo hi : ℕ) (s : Shape) 
 shape_in some singles lo hi s t k h o n a b =
     let u = rw (o, (none_has k (Unit {0}) singles n).1, le-ltb k lo a, lt-leb hi k b) at (below_at kinds (outside some singles lo hi s) t k h) in
     sym (back (shape_of k)) ∙ ap shape (eqb→eq (number (shape_of k)) (number s) u) ∙ back s
-
--- ---- kinds that have no types below them
-
-module _ (k : ℕ) where
-  pub alone-low : k < 27 → true ≡ is_alone k
-  unfolding is_alone
-  alone-low h = rw (lt-ltb k 27 h)
-
-  pub alone-none : 27 ≤ k → k < 35 → false ≡ is_alone k
-  unfolding is_alone
-  alone-none h l = rw (le-ltb k 27 h, lt-leb 35 k l)
-
-  pub alone-high : 35 ≤ k → leb k 38 ≡ is_alone k
-  unfolding is_alone
-  alone-high h = rw (le-ltb k 27 (omega arith), le-leb 35 k h)
 
 -- ---- what the arms of `put_leaf` and of `put_nested` know
 

@@ -1,17 +1,15 @@
 -- The text of each sort of type and field, in the parts that the code writes.
 use mathlib.Core.Path.{◌≡◌, refl, sym, ap, ◌∙◌}
-use mathlib.Core.Bool.{Bool, true, false, not, ◌||◌}
+use mathlib.Core.Bool.{Bool, true, false}
 use mathlib.Core.List.{List, [], ◌∷◌, ◌++◌, append_assoc, append-nil}
 use Prim.Native.Nat.{ℕ, ◌+◌, ◌*◌, ◌≤◌, ◌<◌}
 use native.Mathlib.Decide.{dec_lt}
 use native.Mathlib.Omega.{arith}
-use borrow.Author.Tests.{lt-ltb, le-ltb, ne_eqb}
+use borrow.Author.Tests.{lt-ltb, le-ltb}
 use lib.ListN.{length, get_or}
 use lib.Dec.{T, ltb}
 use Rattle.tokenizer.specs.Text.{bytes, same}
-use Rattle.datatype.specs.Kind.{Shape, leaf, timestamp, time, interval, fixed, list, fixed_list, struct, union, dictionary, decimal, mapping, run_end_encoded, kinds, shape_of, is_word}
-use Rattle.tokenizer.proofs.Basics.{is_true}
-use Rattle.datatype.proofs.Tests.{all_below, below_at}
+use Rattle.datatype.specs.Kind.{Shape, leaf, timestamp, time, interval, fixed, list, fixed_list, struct, union, dictionary, decimal, mapping, run_end_encoded, shape_of, is_word}
 use Rattle.datatype.proofs.ShapeLaws.{word_leaf}
 use Rattle.datatype.specs.Tree.{Label, name_of, zone_of, label_of}
 use Rattle.datatype.specs.Table.{row_words, rows_at}
@@ -19,39 +17,19 @@ use Rattle.subtrees.specs.Internal.Run.{row_at}
 use Rattle.row_table.specs.Sound.{Standing}
 use Rattle.output.specs.Digits.{digits}
 use Rattle.display_length.specs.Display.{kind_word, unit_text, interval_text, mode_text, sorted_text, scale_text, quoted, Shown, nullity_text, field_text, list_name_text, list_field_text, struct_text, union_text, zone_text, default_names, run_end_text, shape_text, type_text, shown}
-use Rattle.datatype_display.specs.Internal.Steps.{Fits, Wrote, Trees, Subtree, place_below, is_alone, nullability, name_text, comma, nullable_text, union_field_text, label_at, kids_at, text_at, shown_at}
+use Rattle.datatype_display.specs.Internal.Steps.{Fits, Wrote, Trees, Subtree, Shaped, place_below, is_alone, nullability, name_text, comma, nullable_text, run_end_part, union_field_text, label_at, kids_at, text_at, shown_at}
 use Rattle.datatype_display.proofs.Writes.{joined, Rest, rest_start, rest_fits, rest_step, rest_as}
-use Rattle.datatype_display.proofs.Rows.{trees, trees-none, trees-some, siblings, kids-are, One, Two}
+use Rattle.datatype_display.proofs.Rows.{trees, trees-none, trees-some, siblings, kids-are, Two, list-child, fixed-list-child, map-child, dictionary-children}
 
 -- ---- parts of fields
-
-pub non_null_lem : (role : ℕ) → role ≡ 2 → bytes "non-null " ≡ nullability role
-unfolding nullability
-non_null_lem role e = rw e
-
-pub nullable : (role : ℕ) → (role ≡ 2 → ⊥) → [] ≡ nullability role
-unfolding nullability
-nullable role n = rw (ne_eqb role 2 n)
-
-pub comma_more : (more : Bool) → more ≡ true → bytes ", " ≡ comma more
-unfolding comma
-comma_more more e = rw e
-
-pub comma_last : (more : Bool) → more ≡ false → [] ≡ comma more
-unfolding comma
-comma_last more e = rw e
 
 pub name_item : (s : List ℕ) (r : Bool) → r ≡ same s (bytes "item") → r ≡ true → [] ≡ list_name_text s
 unfolding list_name_text
 name_item s r is e = rw (sym is ∙ e)
 
-pub name_parts : (s : List ℕ) (r : Bool) → r ≡ same s (bytes "item") → r ≡ false → joined (bytes ", field: '" ∷ s ∷ bytes "'" ∷ []) ≡ list_name_text s
-unfolding joined list_name_text
+pub name_parts : (s : List ℕ) (r : Bool) → r ≡ same s (bytes "item") → r ≡ false → bytes ", field: '" ++ (s ++ bytes "'") ≡ list_name_text s
+unfolding list_name_text
 name_parts s r is e = rw (sym is ∙ e)
-
-pub quoted_name_parts : (name : List ℕ) (role : ℕ) → joined (quoted name ∷ bytes ": " ∷ nullability role ∷ []) ≡ name_text name role
-unfolding joined name_text
-quoted_name_parts name role = refl
 
 pub no_zone : (z : List ℕ) → length z ≡ 0 → [] ≡ zone_text z
 unfolding zone_text
@@ -62,32 +40,6 @@ pub zone_parts : (z : List ℕ) → (length z ≡ 0 → ⊥) → joined (bytes "
 unfolding joined zone_text
 zone_parts [] n = absurd (n refl)
 zone_parts (c ∷ z) n = refl
-
--- ---- types with no types below them
-
-module _ (text table : List ℕ) (i n : ℕ) (is : n ≡ get_or table (row_words * i + 4) 0) where
-  pub timestamp-parts : (zone : List ℕ) → zone ≡ (label_at text [] table i).zone
-      → joined (bytes "(" ∷ unit_text n ∷ zone_text zone ∷ bytes ")" ∷ []) ≡ shape_text timestamp (label_at text [] table i) []
-  unfolding joined shape_text label_at label_of row_at
-  timestamp-parts zone e = rw (is, e)
-
-module _ (table : List ℕ) (i n : ℕ) (is : n ≡ get_or table (row_words * i + 4) 0) where
-  pub time-parts : joined (bytes "(" ∷ unit_text n ∷ bytes ")" ∷ []) ≡ shape_text time (label_at [] [] table i) []
-  unfolding joined shape_text label_at label_of row_at
-  time-parts = rw is
-
-  pub interval-parts : joined (bytes "(" ∷ interval_text n ∷ bytes ")" ∷ []) ≡ shape_text interval (label_at [] [] table i) []
-  unfolding joined shape_text label_at label_of row_at
-  interval-parts = rw is
-
-  pub fixed-parts : joined (bytes "(" ∷ digits n ∷ bytes ")" ∷ []) ≡ shape_text fixed (label_at [] [] table i) []
-  unfolding joined shape_text label_at label_of row_at
-  fixed-parts = rw is
-
-  pub decimal-parts : (scale : ℕ) → scale ≡ get_or table (row_words * i + 5) 0
-      → joined (bytes "(" ∷ digits n ∷ bytes ", " ∷ scale_text scale ∷ bytes ")" ∷ []) ≡ shape_text decimal (label_at [] [] table i) []
-  unfolding joined shape_text label_at label_of row_at
-  decimal-parts scale e = rw (is, e)
 
 -- ---- fields and types with types below them
 
@@ -121,56 +73,92 @@ module _ (text names table : List ℕ) (i : ℕ) where
   unfolding joined union_field_text label_at label_of row_at
   union-field-parts id e = rw e
 
-  module _ (level : ℕ) (o : One text names table level i) where
-    pub list-parts : joined (bytes "(" ∷ list_field_text (at (i + 1)) ∷ bytes ")" ∷ []) ≡ shape_text list l ks
-    unfolding joined shape_text
-    list-parts = rw o.is
+  -- types with no types below them
+  module _ (n : ℕ) (is : n ≡ get_or table (row_words * i + 4) 0) where
+    pub timestamp-parts : (word : List ℕ) → word ≡ unit_text n → (zone : List ℕ) → zone ≡ l.zone → bytes "(" ++ (word ++ (zone_text zone ++ bytes ")")) ≡ shape_text timestamp l ks
+    unfolding shape_text label_at label_of row_at
+    timestamp-parts word w zone e = rw (w, is, e)
 
-    module _ (n : ℕ) (is : n ≡ get_or table (row_words * i + 4) 0) where
-      pub fixed-list-parts : joined (bytes "(" ∷ digits n ∷ bytes " x " ∷ list_field_text (at (i + 1)) ∷ bytes ")" ∷ []) ≡ shape_text fixed_list l ks
-      unfolding joined shape_text label_at label_of row_at
-      fixed-list-parts = rw (is, o.is)
+    pub time-text : (word : List ℕ) → word ≡ unit_text n → bytes "(" ++ (word ++ bytes ")") ≡ shape_text time l ks
+    unfolding shape_text label_at label_of row_at
+    time-text word w = rw (w, is)
 
-      pub map-parts : joined (bytes "(" ∷ field_text (at (i + 1)) ∷ bytes ", " ∷ sorted_text n ∷ bytes ")" ∷ []) ≡ shape_text mapping l ks
-      unfolding joined shape_text label_at label_of row_at
-      map-parts = rw (is, o.is)
+    pub interval-unit : (word : List ℕ) → word ≡ interval_text n → bytes "(" ++ (word ++ bytes ")") ≡ shape_text interval l ks
+    unfolding shape_text label_at label_of row_at
+    interval-unit word w = rw (w, is)
+
+    pub fixed-parts : bytes "(" ++ (digits n ++ bytes ")") ≡ shape_text fixed l ks
+    unfolding shape_text label_at label_of row_at
+    fixed-parts = rw is
+
+    pub decimal-parts : (scale : ℕ) → scale ≡ get_or table (row_words * i + 5) 0
+        → bytes "(" ++ (digits n ++ (bytes ", " ++ (scale_text scale ++ bytes ")"))) ≡ shape_text decimal l ks
+    unfolding shape_text label_at label_of row_at
+    decimal-parts scale e = rw (is, e)
+
+  -- types with one type or two below them
+  module _ (level : ℕ) where
+    pub list-text : Shaped list text names table level i → bytes "(" ++ (list_field_text (at (i + 1)) ++ bytes ")") ≡ shape_text list l ks
+    unfolding shape_text
+    list-text w = rw (list-child text names table level i w).is
+
+    pub fixed-list-text : Shaped fixed_list text names table level i → bytes "(" ++ (digits l.number ++ (bytes " x " ++ (list_field_text (at (i + 1)) ++ bytes ")"))) ≡ shape_text fixed_list l ks
+    unfolding shape_text
+    fixed-list-text w = rw (fixed-list-child text names table level i w).is
+
+    pub map-text : Shaped mapping text names table level i → bytes "(" ++ (field_text (at (i + 1)) ++ (bytes ", " ++ (sorted_text l.number ++ bytes ")"))) ≡ shape_text mapping l ks
+    unfolding shape_text
+    map-text w = rw (map-child text names table level i w).is
+
+    pub dictionary-text : Shaped dictionary text names table level i
+        → bytes "(" ++ (text_at text names table (i + 1) ++ (bytes ", " ++ (text_at text names table (i + 1 + rows_at table (i + 1)) ++ bytes ")"))) ≡ shape_text dictionary l ks
+    unfolding shape_text
+    dictionary-text w = rw (dictionary-children text names table level i w _ refl).is
 
   module _ (level size : ℕ) (o : Two text names table level i size) where
     abbrev second : ℕ
     second = i + 1 + size
 
-    pub dictionary-parts : joined (bytes "(" ∷ text_at text names table (i + 1) ∷ bytes ", " ∷ text_at text names table second ∷ bytes ")" ∷ []) ≡ shape_text dictionary l ks
-    unfolding joined shape_text
-    dictionary-parts = rw o.is
-
-    module _ (r : Bool) (is : r ≡ default_names (label_at text names table (i + 1)) (label_at text names table second)) where
-      pub short-parts : r ≡ true → joined (bytes "(" ∷ nullable_text (at (i + 1)) ∷ bytes ", " ∷ nullable_text (at second) ∷ bytes ")" ∷ []) ≡ shape_text run_end_encoded l ks
-      unfolding joined shape_text run_end_text nullable_text
-      short-parts e = rw (o.is, sym is ∙ e) (ap (λ s. 40 ∷ s) (both_nullable (nullity_text (label_at text names table (i + 1))) (text_at text names table (i + 1)) (nullity_text (label_at text names table second)) (text_at text names table second)))
-
-      pub long-parts : r ≡ false → joined (bytes "(" ∷ field_text (at (i + 1)) ∷ bytes ", " ∷ field_text (at second) ∷ bytes ")" ∷ []) ≡ shape_text run_end_encoded l ks
-      unfolding joined shape_text run_end_text
-      long-parts e = rw (o.is, sym is ∙ e) (ap (λ s. 40 ∷ s) (sym (append_assoc (field_text (at (i + 1))) (bytes ", " ++ field_text (at second)) (bytes ")"))))
+    -- with the short form of both fields or the long
+    pub run-end-parts : (r : Bool) → r ≡ default_names (label_at text names table (i + 1)) (label_at text names table second)
+        → joined (bytes "(" ∷ run_end_part r (at (i + 1)) ∷ bytes ", " ∷ run_end_part r (at second) ∷ bytes ")" ∷ []) ≡ shape_text run_end_encoded l ks
+    unfolding joined shape_text run_end_text run_end_part nullable_text
+    run-end-parts true e =
+        rw (o.is, ← e)
+        (ap (λ s. 40 ∷ s) (both_nullable (nullity_text (label_at text names table (i + 1))) (text_at text names table (i + 1)) (nullity_text (label_at text names table second)) (text_at text names table second)))
+    run-end-parts false e = rw (o.is, ← e) (ap (λ s. 40 ∷ s) (sym (append_assoc (field_text (at (i + 1))) (bytes ", " ++ field_text (at second)) (bytes ")"))))
 
   pub struct_parts : joined (bytes "(" ∷ (struct_text ks ++ bytes ")") ∷ []) ≡ shape_text struct l ks
   unfolding joined shape_text
   struct_parts = refl
 
-  pub union-parts : (n : ℕ) → n ≡ get_or table (row_words * i + 4) 0 → joined (bytes "(" ∷ mode_text n ∷ (union_text ks ++ bytes ")") ∷ []) ≡ shape_text union l ks
+  pub union-parts : (n : ℕ) → n ≡ get_or table (row_words * i + 4) 0 → (word : List ℕ) → word ≡ mode_text n → joined (bytes "(" ∷ word ∷ (union_text ks ++ bytes ")") ∷ []) ≡ shape_text union l ks
   unfolding joined shape_text label_at label_of row_at
-  union-parts n e = rw e
+  union-parts n e word w = rw (w, e)
 
   -- the kind's word, and what stands behind it by the kind's shape
   module _ (kind : ℕ) (k : kind ≡ get_or table (row_words * i + 0) 0) (s : Shape) (e : shape_of kind ≡ s) where
-    pub shape-here : shape_of l.kind ≡ s
+    shape-here : shape_of l.kind ≡ s
     unfolding label_at label_of row_at
     shape-here = ap shape_of (sym k) ∙ e
+
+    pub shaped : (level : ℕ) → Subtree text names table level i → Shaped s text names table level i
+    shaped level w = record { subtree = w; shape = shape-here }
 
     pub type-parts : joined (kind_word kind ∷ shape_text s l ks ∷ []) ≡ text_at text names table i
     unfolding joined text_at type_text label_at label_of row_at
     type-parts = rw (← k, e)
 
   module _ (kind : ℕ) (k : kind ≡ get_or table (row_words * i + 0) 0) where
+    -- the kind's word alone
+    pub leaf-parts : shape_of kind ≡ leaf → joined (kind_word kind ∷ [] ∷ []) ≡ text_at text names table i
+    unfolding shape_text
+    leaf-parts e = type-parts kind k leaf e
+
+    pub word-text : T (is_word kind) → kind_word kind ≡ text_at text names table i
+    unfolding joined
+    word-text w = sym (append-nil (kind_word kind)) ∙ leaf-parts (word_leaf kind w)
+
     pub nested-here : (b : Bool) → b ≡ is_alone kind → b ≡ false → is_alone l.kind ≡ false
     unfolding label_at label_of row_at
     nested-here b e f = ap is_alone (sym k) ∙ sym e ∙ f
@@ -178,83 +166,6 @@ module _ (text names table : List ℕ) (i : ℕ) where
     pub nested-kind : is_alone l.kind ≡ false → is_alone kind ≡ false
     unfolding label_at label_of row_at
     nested-kind e = ap is_alone k ∙ e
-
--- ---- types that have no types below them, by their row alone
-
-abbrev flat : Shape → Bool
-flat leaf = true
-flat timestamp = true
-flat time = true
-flat interval = true
-flat fixed = true
-flat list = false
-flat fixed_list = false
-flat struct = false
-flat union = false
-flat dictionary = false
-flat decimal = true
-flat mapping = false
-flat run_end_encoded = false
-
-alone_flat : T (all_below kinds (λ k. not (is_alone k) || flat (shape_of k)))
-unfolding is_alone shape_of
-alone_flat = tt
-
-module _ (text table : List ℕ) (i kind : ℕ) (k : kind ≡ get_or table (row_words * i + 0) 0) where
-  abbrev only : List ℕ
-  only = type_text (label_at text [] table i) []
-
-  pub only_parts : (s : Shape) → shape_of kind ≡ s → joined (kind_word kind ∷ shape_text s (label_at text [] table i) [] ∷ []) ≡ only
-  unfolding joined type_text label_at label_of row_at
-  only_parts s e = rw (← k, e)
-
-  pub leaf-only : shape_of kind ≡ leaf → joined (kind_word kind ∷ [] ∷ []) ≡ only
-  unfolding shape_text
-  leaf-only e = only_parts leaf e
-
-  pub timestamp-only : shape_of kind ≡ timestamp → joined (kind_word kind ∷ shape_text timestamp (label_at text [] table i) [] ∷ []) ≡ only
-  timestamp-only e = only_parts timestamp e
-
-  pub time-only : shape_of kind ≡ time → joined (kind_word kind ∷ shape_text time (label_at [] [] table i) [] ∷ []) ≡ only
-  unfolding shape_text label_at label_of
-  time-only e = only_parts time e
-
-  pub interval-only : shape_of kind ≡ interval → joined (kind_word kind ∷ shape_text interval (label_at [] [] table i) [] ∷ []) ≡ only
-  unfolding shape_text label_at label_of
-  interval-only e = only_parts interval e
-
-  pub fixed-only : shape_of kind ≡ fixed → joined (kind_word kind ∷ shape_text fixed (label_at [] [] table i) [] ∷ []) ≡ only
-  unfolding shape_text label_at label_of
-  fixed-only e = only_parts fixed e
-
-  pub decimal-only : shape_of kind ≡ decimal → joined (kind_word kind ∷ shape_text decimal (label_at [] [] table i) [] ∷ []) ≡ only
-  unfolding shape_text label_at label_of
-  decimal-only e = only_parts decimal e
-
-  -- the same text as with the whole name list and all rows at hand
-  module _ (names : List ℕ) where
-    pub alone-text : kind < kinds → T (is_alone kind) → only ≡ text_at text names table i
-    unfolding shape_text label_at label_of
-    alone-text h t = go (shape_of kind) (rw (is_true (is_alone kind) t) at (below_at kinds (λ k. not (is_alone k) || flat (shape_of k)) alone_flat kind h)) refl
-      where
-        go : (s : Shape) → T (flat s) → shape_of kind ≡ s → only ≡ text_at text names table i
-        go leaf f e = sym (leaf-only e) ∙ type-parts text names table i kind k leaf e
-        go timestamp f e = sym (timestamp-only e) ∙ type-parts text names table i kind k timestamp e
-        go time f e = sym (time-only e) ∙ type-parts text names table i kind k time e
-        go interval f e = sym (interval-only e) ∙ type-parts text names table i kind k interval e
-        go fixed f e = sym (fixed-only e) ∙ type-parts text names table i kind k fixed e
-        go decimal f e = sym (decimal-only e) ∙ type-parts text names table i kind k decimal e
-        go list f e = absurd f
-        go fixed_list f e = absurd f
-        go struct f e = absurd f
-        go union f e = absurd f
-        go dictionary f e = absurd f
-        go mapping f e = absurd f
-        go run_end_encoded f e = absurd f
-
-    pub word-text : T (is_word kind) → kind_word kind ≡ text_at text names table i
-    unfolding joined shape_text
-    word-text w = sym (append-nil (kind_word kind)) ∙ type-parts text names table i kind k leaf (word_leaf kind w)
 
 -- ---- the fields of a Struct or Union, one behind another
 
@@ -346,10 +257,10 @@ pub name_is : (text names table : List ℕ) (i home start size : ℕ) (r : List 
 unfolding label_at label_of row_at
 name_is text names table i home start size r a b c e = rw (← a, ← b, ← c) e
 
-pub zone_is : (text table : List ℕ) (i start size : ℕ) (r : List ℕ) → start ≡ get_or table (row_words * i + 9) 0 → size ≡ get_or table (row_words * i + 10) 0
-    → r ≡ zone_of text start size → r ≡ (label_at text [] table i).zone
+pub zone_is : (text names table : List ℕ) (i start size : ℕ) (r : List ℕ) → start ≡ get_or table (row_words * i + 9) 0 → size ≡ get_or table (row_words * i + 10) 0
+    → r ≡ zone_of text start size → r ≡ (label_at text names table i).zone
 unfolding label_at label_of row_at
-zone_is text table i start size r a b e = rw (← a, ← b) e
+zone_is text names table i start size r a b e = rw (← a, ← b) e
 
 module _ (l k : Label) (a : List ℕ) (p : Bool) where
   pub default-not : a ≡ l.name → p ≡ same a (bytes "run_ends") → p ≡ false → false ≡ default_names l k

@@ -5,13 +5,14 @@
 --   rest-start, rest-fits, rest-step, rest-last, rest-as   one part behind another
 use mathlib.Core.Path.{◌≡◌, refl, sym, ap, ◌∙◌, subst}
 use mathlib.Core.List.{List, [], ◌∷◌, ◌++◌}
-use Prim.Native.Nat.{ℕ, suc, ◌+◌, ◌/◌, ◌%◌}
+use Prim.Native.Nat.{ℕ, ◌+◌, ◌-◌}
 use native.Mathlib.Omega.{arith}
-use lib.ListN.{length, set, length-append}
-use lib.Seq.{sets, length-sets}
-use Rattle.output.proofs.Writes.{Copied, copied-start}
+use lib.ListN.{length, take, drop, length-append}
+use lib.Seq.{sets, sets-eq, length-sets, take_all}
+use borrow.Rule.Slice.PartMut.{put_mid}
+use Rattle.std.proofs.lemmas.Slice.{put_mid-paste}
 use Rattle.datatype.proofs.Sets.{sets_append}
-use Rattle.datatype_display.specs.Internal.Steps.{Fits, Wrote, four, eight}
+use Rattle.datatype_display.specs.Internal.Steps.{Fits, Wrote}
 
 -- ---- the same bytes, said otherwise
 
@@ -54,6 +55,10 @@ module _ (before a b : List ℕ) (at : ℕ) where
         stored = w.stored ∙ ap (λ (l : List ℕ). sets l mid b) v.stored ∙ ap (λ (k : ℕ). sets (sets before at a) k b) p ∙ sets_append before at a b;
         place = omega arith;
       }
+
+infixr 40 ◌then◌
+pub ◌then◌ : {before a b between after : List ℕ} {at mid next : ℕ} → Wrote before at a mid between → Wrote between mid b next after → Wrote before at (a ++ b) next after
+◌then◌ {before} {a} {b} {between} {after} {at} {mid} {next} v w = wrote_then before a b at mid next between after v w
 
 -- ---- a text in parts
 
@@ -98,25 +103,15 @@ rest_last {after = after} {next = next} r w = r.ends next after w
 pub rest_as : {before whole out : List ℕ} {at next : ℕ} {ps qs : List (List ℕ)} → joined ps ≡ joined qs → Rest before at whole next out ps → Rest before at whole next out qs
 rest_as e r = record { fits = fits_as e r.fits; ends = λ last after w. r.ends last after (wrote_as (sym e) w) }
 
--- ---- stores
+-- ---- a copy into the buffer
 
-pub copied_fits : (before s : List ℕ) (at : ℕ) → Fits before at s → Copied before s at (length s) 0 before
-copied_fits before s at f =
-    let r = f.room in
-    copied-start before s at (length s) (omega arith) (record { of = omega arith; within = omega arith; most = λ h. absurd (omega arith) })
-
-pub stored_at : (before s after : List ℕ) (at n : ℕ) → after ≡ sets before at s → n ≡ length s → Wrote before at s (at + n) after
-stored_at before s after at n e l = record { stored = e; place = ap (λ (k : ℕ). at + k) l }
-
-pub four_stored : (before : List ℕ) (at v : ℕ)
-    → set (set (set (set before at (v / 16777216 % 256)) (at + 1) (v / 65536 % 256)) (at + 2) (v / 256 % 256)) (at + 3) (v % 256) ≡ sets before at (four v)
-unfolding four
-four_stored before at v =
-    let one : at + 1 ≡ suc at = omega arith in
-    let two : at + 2 ≡ suc (suc at) = omega arith in
-    let three : at + 3 ≡ suc (suc (suc at)) = omega arith in
-    rw (one, two, three) refl
-
-pub eight_stored : (before between after : List ℕ) (at v : ℕ) → between ≡ sets before at (four (v / 4294967296)) → after ≡ sets between (at + 4) (four v) → after ≡ sets before at (eight v)
-unfolding four eight
-eight_stored before between after at v f g = g ∙ ap (λ (m : List ℕ). sets m (at + 4) (four v)) f ∙ sets_append before at (four (v / 4294967296)) (four v)
+pub copied : (before s part : List ℕ) (at : ℕ) → Fits before at s → part ≡ s → Wrote before at s (at + length s) (put_mid at (at + length s - at) before part)
+copied before s part at f e =
+    let k : length s ≡ at + length s - at = omega arith in
+    record {
+      stored =
+          put_mid-paste at (at + length s - at) before part s (length s) e k refl
+          ∙ ap (λ (t : List ℕ). take at before ++ t ++ drop (at + length s) before) (take_all (length s) s (omega arith))
+          ∙ sym (sets-eq s before at f.room);
+      place = refl;
+    }

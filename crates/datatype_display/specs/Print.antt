@@ -6,8 +6,6 @@ use Rattle.datatype.specs.Table.{tree_of}
 use Rattle.row_table.specs.Sound.{is_sound}
 use Rattle.display_length.specs.Display.{display}
 use Rattle.display_length.specs.PrintedLength.{quoted_ascii}
-use Rattle.datatype_display.specs.declared.Printed.{Printed}
-use Rattle.datatype_display.specs.declared.Printed.TheVariants.{Length, Refused}
 
 -- The text that a tree prints into a buffer of so many bytes, or the refusal.
 unfoldable pub print : List ℕ → List ℕ → List ℕ → ℕ → Out (List ℕ)
@@ -32,8 +30,3 @@ written before (done s) = s ++ drop (length s) before
 
 unfoldable pub print_bytes : List ℕ → List ℕ → List ℕ → List ℕ → List ℕ
 print_bytes text names table before = written before (print text names table (length before))
-
--- What the code's answer means.
-unfoldable pub printed_means : Printed → Out ℕ
-printed_means (Length n) = done n
-printed_means (Refused n) = refuse n

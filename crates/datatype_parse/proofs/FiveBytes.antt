@@ -11,8 +11,7 @@ use lib.Dec.{T, leb, eqb, leb→le, eqb→eq}
 use Rattle.tokenizer.specs.Answer.{Out, done, refuse, ◌>>=◌}
 use Rattle.tokenizer.specs.Words.{words}
 use Rattle.tokenizer.specs.Places.{after_spaces}
-use Rattle.tokenizer.specs.Token.{token_at, sort_of, value_of, word_of, word_kind, string_token, until_quote, lparen, rparen, comma, colon, integer, double_quoted, single_quoted, type_word, time_unit, interval_unit, union_mode, map_sorted, nullability, field_word, some_word, none_word, x_word}
-use Rattle.tokenizer.specs.declared.Token.{Token}
+use Rattle.tokenizer.specs.Token.{Standing, token_at, sort_of, value_of, word_of, word_kind, string_token, until_quote, lparen, rparen, comma, colon, integer, double_quoted, single_quoted, type_word, time_unit, interval_unit, union_mode, map_sorted, nullability, field_word, some_word, none_word, x_word}
 use Rattle.tokenizer.specs.declared.TokenKind.{TokenKind}
 use Rattle.tokenizer.specs.declared.TokenKind.TheVariants.{DoubleQuotedString, SingleQuotedString}
 use Rattle.tokenizer.proofs.Runs.{spaces-end}
@@ -42,7 +41,7 @@ least decimal = word_bytes
 least mapping = word_bytes
 least run_end_encoded = word_bytes
 
-abbrev long : List ℕ → TokenKind → Bool
+abbrev long : List ℕ → Out TokenKind → Bool
 long w k = if eqb (sort_of k) type_word then leb (least (shape_of (value_of k))) (length w) else true
 
 -- by one test over the list of words
@@ -50,7 +49,7 @@ word_long : (c : ℕ) (w : List ℕ) → T (long (c ∷ w) (word_kind (c ∷ w))
 unfolding words shape_of
 word_long = Marks.word_holds long (λ w negative v h. tt) (λ w. tt) tt
 
-type_long : (w : List ℕ) (k : TokenKind) → T (long w k) → sort_of k ≡ type_word → least (shape_of (value_of k)) ≤ length w
+type_long : (w : List ℕ) (k : Out TokenKind) → T (long w k) → sort_of k ≡ type_word → least (shape_of (value_of k)) ≤ length w
 type_long w k t e =
     leb→le (least (shape_of (value_of k))) (length w)
     (subst (λ (s : ℕ). T (if eqb s type_word then leb (least (shape_of (value_of k))) (length w) else true)) e t)
@@ -59,16 +58,16 @@ module _ (text : List ℕ) where
   -- ---- tokens
 
   -- A token ends behind a place; a type's word, so many bytes behind it.
-  abbrev Past : ℕ → Token → Type 0
+  abbrev Past : ℕ → Standing → Type 0
   Past at t = at < t.next
 
-  abbrev PastWord : ℕ → Token → Type 0
+  abbrev PastWord : ℕ → Standing → Type 0
   PastWord at t = at + least (shape_of (value_of t.kind)) ≤ t.next
 
-  abbrev IfWord : ℕ → Token → Type 0
+  abbrev IfWord : ℕ → Standing → Type 0
   IfWord at t = sort_of t.kind ≡ type_word → PastWord at t
 
-  string-no-word : (k : TokenKind) (at p : ℕ) (o : Option ℕ) → (sort_of k ≡ type_word → ⊥) → IfWord at (string_token k p o)
+  string-no-word : (k : TokenKind) (at p : ℕ) (o : Option ℕ) → (sort_of (done k) ≡ type_word → ⊥) → IfWord at (string_token k p o)
   string-no-word k at p none n = λ e. absurd (omega arith)
   string-no-word k at p (some zero) n = λ e. absurd (omega arith)
   string-no-word k at p (some (suc m)) n = λ e. absurd (n e)
@@ -99,7 +98,7 @@ module _ (text : List ℕ) where
       (λ e. word-past at (eqb→eq (sort_of t.kind) type_word e)) tt
 
   -- a step that takes a token
-  taken : {A : Type 0} (P : A → Type 0) (sort at : ℕ) (f : Token → Out A) → T (leb 1 sort) → ((t : Token) → Past at t → Holds P (f t)) → Holds P (need text sort at >>= f)
+  taken : {A : Type 0} (P : A → Type 0) (sort at : ℕ) (f : Standing → Out A) → T (leb 1 sort) → ((t : Standing) → Past at t → Holds P (f t)) → Holds P (need text sort at >>= f)
   taken P sort at f l k = holds_then (Taken text at) P (need text sort at) f (need_taken text sort at l) λ t h. k t h.0
 
   number_past : (low most at : ℕ) → Holds (Past at) (number_in text low most at)

@@ -4,8 +4,7 @@ use Prim.Native.Nat.{ℕ, zero, suc, ◌-◌, ◌≤◌}
 use lib.ListN.{length}
 use lib.Dec.{T, leb}
 use Rattle.tokenizer.specs.Answer.{Out, ◌>>=◌}
-use Rattle.tokenizer.specs.Token.{value_of, lparen, rparen, comma, colon, type_word, time_unit, interval_unit, union_mode, map_sorted}
-use Rattle.tokenizer.specs.declared.Token.{Token}
+use Rattle.tokenizer.specs.Token.{Standing, value_of, lparen, rparen, comma, colon, type_word, time_unit, interval_unit, union_mode, map_sorted}
 use Rattle.datatype.specs.Kind.{Shape, leaf, timestamp, time, interval, fixed, list, fixed_list, struct, union, dictionary, decimal, mapping, run_end_encoded, shape_of, decimal_fits, ids_fit}
 use Rattle.datatype.specs.Tree.{Forest, Row, ∅}
 use Rattle.parser.specs.Parse.{Tree, Fields, Zone, Item, end, last, more, rows_in, need, stands, length_at, precision_at, signed_byte_at, unit_at, close_at, zone_string, zone_at, timestamp_at, time_at, interval_at, fixed_size_binary_at, scale_at, decimal_at, fields_from, items_by, id_of, field_at, list_field, struct_item, union_field, union_item, run_end_fields, entries_at, fixed_list_field, list_at, fixed_size_list_at, struct_at, union_at, dictionary_at, map_at, run_end_encoded_at, shape_at, type_with, type_at}
@@ -14,7 +13,7 @@ use Rattle.datatype_parse.proofs.TokenFacts.{Taken, need_taken}
 
 module _ (text : List ℕ) where
   -- A token, a type, fields and a turn that end inside the text.
-  abbrev TokenEnds : Token → Type 0
+  abbrev TokenEnds : Standing → Type 0
   TokenEnds t = t.next ≤ length text
 
   abbrev pub TypeEnds : Tree → Type 0
@@ -32,7 +31,7 @@ module _ (text : List ℕ) where
   ItemEnds (more t next) = next ≤ length text
 
   -- a step that takes a token
-  by_token : {A : Type 0} (P : A → Type 0) (sort at : ℕ) (f : Token → Out A) → T (leb 1 sort) → ((t : Token) → TokenEnds t → Holds P (f t)) → Holds P (need text sort at >>= f)
+  by_token : {A : Type 0} (P : A → Type 0) (sort at : ℕ) (f : Standing → Out A) → T (leb 1 sort) → ((t : Standing) → TokenEnds t → Holds P (f t)) → Holds P (need text sort at >>= f)
   by_token P sort at f l k = holds_then (Taken text at) P (need text sort at) f (need_taken text sort at l) λ t h. k t h.1
 
   close-ends : (r : Row) (kids : Forest Row) (at : ℕ) → Holds TypeEnds (close_at text r kids at)

@@ -9,8 +9,7 @@ use lib.ListN.{length, take}
 use lib.Dec.{T, leb, ltb, leb→le, ltb→lt}
 use Rattle.tokenizer.specs.Answer.{Out, refused, done, refuse}
 use Rattle.tokenizer.specs.Utf8.{is_utf8}
-use Rattle.tokenizer.specs.Token.{value_of, lparen, comma, type_word, union_mode, map_sorted}
-use Rattle.tokenizer.specs.declared.Token.{Token}
+use Rattle.tokenizer.specs.Token.{Standing, value_of, lparen, comma, type_word, union_mode, map_sorted}
 use Rattle.datatype.specs.Kind.{Shape, leaf, timestamp, time, interval, fixed, list, fixed_list, struct, union, dictionary, decimal, mapping, run_end_encoded, kinds, shape_of, ids_fit}
 use Rattle.datatype.specs.Tree.{Forest, ∅, node, count, Row, name_list}
 use Rattle.datatype.specs.Table.{row_words, table_of, rows_lent}
@@ -72,7 +71,7 @@ module _ (text : List ℕ) (good : T (is_utf8 text)) where
       unfolding union_at rules_of zone_ok arity_fits
       union-sound at e =
           holds_bind Over (need text lparen at) _ λ p.
-          holds_then (λ (m : Token). T (ltb (value_of m.kind) 2)) Over (need text union_mode p.next) _ (need-value text union_mode p.next) λ m h.
+          holds_then (λ (m : Standing). T (ltb (value_of m.kind) 2)) Over (need text union_mode p.next) _ (need-value text union_mode p.next) λ m h.
           holds_then (Run text level union_field rows) Over (items_by (union_item text type) (suc rows) m.next rows) _
           (items-sound text level union_field (union_item text type) (union-item-sound text good level type down) (suc rows) m.next rows) λ fs w.
           holds_when Over (ids_fit (ids fs.trees)) _ (refuse 15)
@@ -95,7 +94,7 @@ module _ (text : List ℕ) (good : T (is_utf8 text)) where
           holds_bind Over (need text lparen at) _ λ p.
           holds_then (Entries text level rows) Over (entries_at text type p.next rows) _ (entries-sound text good level type down p.next rows) λ t w.
           holds_bind Over (need text comma t.next) _ λ c.
-          holds_then (λ (s : Token). T (ltb (value_of s.kind) 2)) Over (need text map_sorted c.next) _ (need-value text map_sorted c.next) λ s h.
+          holds_then (λ (s : Standing). T (ltb (value_of s.kind) 2)) Over (need text map_sorted c.next) _ (need-value text map_sorted c.next) λ s h.
           closed text level rows (bare_row k (value_of s.kind) 0 0 0) (single t) s.next
           (over (value_of s.kind) (single t) mapping e (record { params = ltb→lt (value_of s.kind) 2 h; scales = omega arith; shape = tt; zone = tt; arity = tt; over = w.1 }) tt w.0)
 
@@ -127,7 +126,7 @@ module _ (text : List ℕ) (good : T (is_utf8 text)) where
     unfolding type_with
     with-sound at zero = tt
     with-sound at (suc rows) =
-        holds_then (λ (t : Token). T (ltb (value_of t.kind) 41)) (Typed text bare (suc level) (suc rows)) (need text type_word at) _ (need-value text type_word at) λ t h.
+        holds_then (λ (t : Standing). T (ltb (value_of t.kind) 41)) (Typed text bare (suc level) (suc rows)) (need text type_word at) _ (need-value text type_word at) λ t h.
         shape-sound rows (value_of t.kind) (ltb→lt (value_of t.kind) 41 h) (shape_of (value_of t.kind)) t.next refl
 
   -- a type that was read is sound, within its levels and rows

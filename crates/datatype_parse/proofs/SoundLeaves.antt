@@ -6,8 +6,7 @@ use native.Mathlib.Omega.{arith}
 use lib.Dec.{T, ltb, ltb→lt}
 use Rattle.tokenizer.specs.Answer.{done, refuse}
 use Rattle.tokenizer.specs.Utf8.{is_utf8}
-use Rattle.tokenizer.specs.Token.{value_of, lparen, rparen, comma, time_unit, interval_unit}
-use Rattle.tokenizer.specs.declared.Token.{Token}
+use Rattle.tokenizer.specs.Token.{Standing, value_of, lparen, rparen, comma, time_unit, interval_unit}
 use Rattle.datatype.specs.Kind.{Shape, leaf, timestamp, time, interval, fixed, decimal, kinds, shape_of, decimal_fits}
 use Rattle.datatype.specs.Tree.{Forest, ∅, node, Row}
 use Rattle.row_table.specs.Sound.{bare, arity_fits, rules_of}
@@ -40,7 +39,7 @@ module _ (text : List ℕ) (level rows : ℕ) where
     unfolding timestamp_at rules_of arity_fits
     timestamp-sound good at e =
         holds_bind Whole (need text lparen at) _ λ p.
-        holds_then (λ (u : Token). T (ltb (value_of u.kind) 4)) Whole (need text time_unit p.next) _ (need-value text time_unit p.next) λ u h.
+        holds_then (λ (u : Standing). T (ltb (value_of u.kind) 4)) Whole (need text time_unit p.next) _ (need-value text time_unit p.next) λ u h.
         holds_then (Zoned text good) Whole (zone_at text u.next) _ (zone-zoned text good u.next) λ z w.
         childless (value_of u.kind) 0 z.start z.size timestamp e
         (record { params = ltb→lt (value_of u.kind) 4 h; scales = omega arith; shape = tt; zone = w; arity = tt; over = tt })
@@ -57,7 +56,7 @@ module _ (text : List ℕ) (level rows : ℕ) where
     unfolding interval_at rules_of zone_ok arity_fits
     interval-sound at e =
         holds_bind Whole (need text lparen at) _ λ p.
-        holds_then (λ (u : Token). T (ltb (value_of u.kind) 3)) Whole (need text interval_unit p.next) _ (need-value text interval_unit p.next) λ u h.
+        holds_then (λ (u : Standing). T (ltb (value_of u.kind) 3)) Whole (need text interval_unit p.next) _ (need-value text interval_unit p.next) λ u h.
         closed (bare_row k (value_of u.kind) 0 0 0) ∅ u.next
         (childless (value_of u.kind) 0 0 0 interval e (record { params = ltb→lt (value_of u.kind) 3 h; scales = omega arith; shape = tt; zone = tt; arity = tt; over = tt }))
 

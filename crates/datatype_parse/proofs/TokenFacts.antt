@@ -15,8 +15,7 @@ use Rattle.tokenizer.specs.Answer.{Out, refused, done, refuse}
 use Rattle.tokenizer.specs.Utf8.{utf8_state, is_utf8}
 use Rattle.tokenizer.specs.Words.{words}
 use Rattle.tokenizer.specs.Places.{after_spaces}
-use Rattle.tokenizer.specs.Token.{token_at, sort_of, value_of, is_negative, word_of, word_kind, escaped_after, until_quote, string_token, integer, double_quoted, single_quoted, field_word, colon, time_unit, nullability, lparen, rparen, comma, none_word, some_word}
-use Rattle.tokenizer.specs.declared.Token.{Token}
+use Rattle.tokenizer.specs.Token.{Standing, token_at, sort_of, value_of, is_negative, word_of, word_kind, escaped_after, until_quote, string_token, integer, double_quoted, single_quoted, field_word, colon, time_unit, nullability, lparen, rparen, comma, none_word, some_word}
 use Rattle.tokenizer.specs.declared.TokenKind.{TokenKind}
 use Rattle.tokenizer.specs.declared.TokenKind.TheVariants.{DoubleQuotedString, SingleQuotedString}
 use Rattle.tokenizer.proofs.Basics.{and_l}
@@ -42,7 +41,7 @@ holds_as Q P (done a) q h = h a q
 -- ---- bounds
 
 -- a token that is taken has a byte at least, and lies inside the text
-abbrev pub Taken : List ℕ → ℕ → Token → Type 0
+abbrev pub Taken : List ℕ → ℕ → Standing → Type 0
 Taken text at t = (at < t.next) × (t.next ≤ length text)
 
 pub need_taken : (text : List ℕ) (sort at : ℕ) → T (leb 1 sort) → Holds (Taken text at) (need text sort at)
@@ -57,16 +56,16 @@ need_taken text sort at l =
 -- ---- values
 
 -- a number lies within its limits
-abbrev pub Limited : ℕ → ℕ → Token → Type 0
+abbrev pub Limited : ℕ → ℕ → Standing → Type 0
 Limited least most t = value_of t.kind ≤ (if is_negative t.kind then least else most)
 
 module _ (text : List ℕ) where
   -- a value is one of its sort's
-  pub need-value : (sort at : ℕ) → Holds (λ (t : Token). T (Marks.in_range sort (value_of t.kind))) (need text sort at)
+  pub need-value : (sort at : ℕ) → Holds (λ (t : Standing). T (Marks.in_range sort (value_of t.kind))) (need text sort at)
   unfolding need
   need-value sort at =
       let t = token_at text at in
-      holds_when (λ (t : Token). T (Marks.in_range sort (value_of t.kind))) (eqb (sort_of t.kind) sort) (done t) (refuse (refusal_of t.kind))
+      holds_when (λ (t : Standing). T (Marks.in_range sort (value_of t.kind))) (eqb (sort_of t.kind) sort) (done t) (refuse (refusal_of t.kind))
       (λ e. Marks.value-range text at sort (eqb→eq (sort_of t.kind) sort e)) tt
 
   -- a role is 1 or 2
@@ -94,21 +93,21 @@ module _ (text : List ℕ) where
       holds_when (Limited least most) (leb (value_of t.kind) (if is_negative t.kind then least else most)) (done t) (refuse 10)
       (λ e. leb→le (value_of t.kind) (if is_negative t.kind then least else most) e) tt
 
-  pub unit-value : (k at : ℕ) → Holds (λ (t : Token). T (ltb (value_of t.kind) 4) × T (unit_fits k (value_of t.kind))) (unit_at text k at)
+  pub unit-value : (k at : ℕ) → Holds (λ (t : Standing). T (ltb (value_of t.kind) 4) × T (unit_fits k (value_of t.kind))) (unit_at text k at)
   unfolding unit_at
   unit-value k at =
-      holds_then (λ (t : Token). T (ltb (value_of t.kind) 4)) (λ (t : Token). T (ltb (value_of t.kind) 4) × T (unit_fits k (value_of t.kind)))
+      holds_then (λ (t : Standing). T (ltb (value_of t.kind) 4)) (λ (t : Standing). T (ltb (value_of t.kind) 4) × T (unit_fits k (value_of t.kind)))
       (need text time_unit at) _ (need-value time_unit at) λ t h.
-      holds_when (λ (t : Token). T (ltb (value_of t.kind) 4) × T (unit_fits k (value_of t.kind))) (unit_fits k (value_of t.kind)) (done t) (refuse 11) (λ e. (h, e)) tt
+      holds_when (λ (t : Standing). T (ltb (value_of t.kind) 4) × T (unit_fits k (value_of t.kind))) (unit_fits k (value_of t.kind)) (done t) (refuse 11) (λ e. (h, e)) tt
 
-pub limit_most : (k : TokenKind) (most : ℕ) → value_of k ≤ (if is_negative k then 0 else most) → value_of k ≤ most
+pub limit_most : (k : Out TokenKind) (most : ℕ) → value_of k ≤ (if is_negative k then 0 else most) → value_of k ≤ most
 limit_most k most = go (is_negative k) (value_of k)
   where
     go : (b : Bool) (v : ℕ) → v ≤ (if b then 0 else most) → v ≤ most
     go true v h = omega arith
     go false v h = h
 
-pub scale_most : (k : TokenKind) → value_of k ≤ (if is_negative k then 128 else 127) → scale_of k < 256
+pub scale_most : (k : Out TokenKind) → value_of k ≤ (if is_negative k then 128 else 127) → scale_of k < 256
 scale_most k = go (is_negative k) (value_of k)
   where
     go : (b : Bool) (v : ℕ) → v ≤ (if b then 128 else 127) → (if b then 128 - v else (128 + v)) < 256
@@ -168,7 +167,7 @@ module _ (text : List ℕ) (good : T (is_utf8 text)) where
       part-utf8 text good (p + 1) (suc n) (omega arith) s ∙ rw (after-low p h l, boundary-low text good (p + 1 + suc n) i m) in
       rw (le-leb 1 (suc n) (omega arith), le-leb (p + 1 + suc n) (length text) s, u) tt
 
-  abbrev Cut : Token → Type 0
+  abbrev Cut : Standing → Type 0
   Cut t = T (is_quoted (sort_of t.kind)) → T (part_fits text t.start t.size)
 
   string-cut : (k : TokenKind) (p quote : ℕ) (o : Option ℕ) → p < length text → get_or text p 0 ≡ quote → quote < 128
@@ -199,7 +198,7 @@ module _ (text : List ℕ) (good : T (is_utf8 text)) where
             (subst (λ (w : List ℕ). T (not (is_quoted (sort_of (word_kind w))))) (sym (Marks.word_first text p h e)) (word_unquoted (get_or text p 0) (word_of (drop (suc p) text)))) t);
       })
 
-  abbrev pub Part : Token → Type 0
+  abbrev pub Part : Standing → Type 0
   Part t = T (part_fits text t.start t.size)
 
   pub need-part : (sort at : ℕ) → T (is_quoted sort) → Holds Part (need text sort at)

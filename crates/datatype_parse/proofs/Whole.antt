@@ -1,18 +1,18 @@
 -- A whole text: the end of it, and each return of the public reader as a law.
 use Rattle.std.specs.Prelude.{if◌then◌else◌}
-use mathlib.Core.Path.{◌≡◌, sym, ap, ◌∙◌}
+use mathlib.Core.Path.{◌≡◌, refl, sym, ap, ◌∙◌}
 use mathlib.Core.Bool.{Bool, true, false, not, ◌&&◌}
 use mathlib.Core.List.{List, ◌∷◌, ◌++◌}
 use mathlib.Core.Option.{Option, none, some}
 use Prim.Native.Nat.{ℕ, zero, suc, ◌+◌, ◌≤◌, ◌<◌, min}
 use native.Mathlib.Omega.{arith}
 use lib.ListN.{length, get_or, drop, replicate}
-use lib.Dec.{T, eqb}
+use lib.Dec.{T, eqb, leb}
+use borrow.Author.Tests.{leb-true, leb-false}
 use Rattle.tokenizer.specs.Answer.{Refusal, Out, refused, done, refuse, ◌>>=◌}
 use Rattle.tokenizer.specs.Places.{after_spaces}
 use Rattle.tokenizer.specs.Words.{words}
-use Rattle.tokenizer.specs.Token.{token_at, sort_of, value_of, word_of, word_kind, no_token, until_quote, string_token}
-use Rattle.tokenizer.specs.declared.Token.{Token}
+use Rattle.tokenizer.specs.Token.{Standing, token_at, sort_of, value_of, word_of, word_kind, no_token, until_quote, string_token}
 use Rattle.tokenizer.specs.declared.TokenKind.{TokenKind}
 use Rattle.tokenizer.specs.declared.TokenKind.TheVariants.{DoubleQuotedString, SingleQuotedString}
 use Rattle.tokenizer.proofs.Basics.{is_false}
@@ -25,34 +25,31 @@ use Rattle.subtrees.specs.Parents.{parented, parents_set}
 use Rattle.subtrees.proofs.ParentTree.{count_parented, first-parents-lent}
 use Rattle.parser.proofs.Holds.{Holds}
 use Rattle.datatype_parse.proofs.ReadSound.{Begun, first_read}
-use Rattle.parser.specs.Parse.{Tree, single, rows_in, stands, first_type, Extent, read_of, read_means, rows_of}
-use Rattle.parser.specs.declared.Read.{Read}
-use Rattle.parser.specs.declared.Read.TheVariants as R
-use Rattle.datatype_parse.specs.Parse.{text_over, parse, row_count, parse_answer, filled, parse_rows, parsed_means}
-use Rattle.datatype_parse.specs.declared.Parsed.{Parsed}
-use Rattle.datatype_parse.specs.declared.Parsed.TheVariants.{Rows, Refused}
+use Rattle.parser.specs.Parse.{Tree, single, rows_in, stands, first_type, read_of, rows_of}
+use Rattle.parser.specs.declared.Extent.{Extent}
+use Rattle.datatype_parse.specs.Parse.{text_over, parse, row_count, parse_answer, filled, parse_rows}
 
 -- ---- the end of the text
 
 -- a token that is no end of the text
-abbrev goes_on : TokenKind → Bool
+abbrev goes_on : Out TokenKind → Bool
 goes_on k = not (eqb (sort_of k) no_token && eqb (value_of k) 5)
 
 word_goes_on : (c : ℕ) (w : List ℕ) → T (goes_on (word_kind (c ∷ w)))
 unfolding words
 word_goes_on = Marks.word_holds (λ w k. goes_on k) (λ w negative v h. tt) (λ w. tt) tt
 
-string_goes_on : (k : TokenKind) (p : ℕ) (o : Option ℕ) → T (goes_on k) → T (goes_on (string_token k p o).kind)
+string_goes_on : (k : TokenKind) (p : ℕ) (o : Option ℕ) → T (goes_on (done k)) → T (goes_on (string_token k p o).kind)
 string_goes_on k p none h = tt
 string_goes_on k p (some zero) h = tt
 string_goes_on k p (some (suc n)) h = h
 
 module _ (text : List ℕ) (at p : ℕ) (e : p ≡ after_spaces text at) where
-  pub over-end : length text ≤ p → true ≡ text_over text at
+  over-end : length text ≤ p → true ≡ text_over text at
   unfolding text_over stands
-  over-end h = sym (ap (λ (t : Token). eqb (sort_of t.kind) no_token && eqb (value_of t.kind) 5) (sym (token_end text at p e h)))
+  over-end h = sym (ap (λ (t : Standing). eqb (sort_of t.kind) no_token && eqb (value_of t.kind) 5) (sym (token_end text at p e h)))
 
-  pub not-over : p < length text → false ≡ text_over text at
+  not-over : p < length text → false ≡ text_over text at
   unfolding text_over stands
   not-over h = sym (is_false (eqb (sort_of (token_at text at).kind) no_token && eqb (value_of (token_at text at).kind) 5) (go (rw e at h)))
     where
@@ -67,6 +64,14 @@ module _ (text : List ℕ) (at p : ℕ) (e : p ≡ after_spaces text at) where
             single = λ i f. string_goes_on SingleQuotedString q (until_quote 39 false (drop (q + 1) text)) tt;
             word = λ i f. rw (Marks.word_first text q i f) (word_goes_on (get_or text q 0) (word_of (drop (suc q) text)));
           })
+
+module _ (text : List ℕ) (at p : ℕ) (e : p ≡ after_spaces text at) where
+  pub over-is : leb (length text) p ≡ text_over text at
+  over-is = go (leb (length text) p) refl
+    where
+      go : (b : Bool) → leb (length text) p ≡ b → b ≡ text_over text at
+      go true z = over-end text at p e (leb-true (length text) p z)
+      go false z = not-over text at p e (leb-false (length text) p z)
 
 -- ---- what the public reader answers and leaves
 
@@ -84,59 +89,53 @@ begun_few text rows l = go (first_type text rows) (first_read text rows)
         let f = h.fits.few in
         omega (arith, count_parented 0 0 (single t), count_parented 0 0 (node h.root h.kids ∅))
 
-module _ (text before after : List ℕ) (r : Read) where
+module _ (text before after : List ℕ) where
   -- a tree, from the type that the text begins with
   abbrev ended : Out Tree → Out (Forest Row)
   ended o = o >>= (λ t. if text_over text t.next then done (parented (single t)) else refuse 16)
 
-  abbrev Ends : Parsed → Out Tree → Type 0
-  Ends a o = (parsed_means a ≡ row_count (ended o)) × (after ≡ filled before (ended o))
+  abbrev Ends : Out ℕ → Out Tree → Type 0
+  Ends a o = (a ≡ row_count (ended o)) × (after ≡ filled before (ended o))
 
-  refused-ends : (o : Out Tree) (x : ℕ) → read_means r ≡ read_of o → after ≡ rows_of before o → r ≡ R.Refused x → Ends (Refused x) o
-  unfolding read_of read_means rows_of parsed_means
-  refused-ends (refused y) x e w h =
-      let f : ◌≡◌ {A = Out Extent} (refuse x) (refused y) = sym (ap read_means h) ∙ e in
+  refused-ends : (o : Out Tree) (x : ℕ) → refuse x ≡ read_of o → after ≡ rows_of before o → Ends (refuse x) o
+  unfolding read_of rows_of
+  refused-ends (refused y) x e w =
       let z : ◌≡◌ {A = Refusal} (record { number = x }) y = cc in
       (ap refused z, w)
-  refused-ends (done t) x e w h =
-      let f : ◌≡◌ {A = Out Extent} (refuse x) (done (record { next = t.next; rows = rows_in t })) = sym (ap read_means h) ∙ e in
-      absurd (let z : ◌≡◌ {A = ℕ} 0 1 = cc in omega arith)
+  refused-ends (done t) x e w = absurd (let z : ◌≡◌ {A = ℕ} 0 1 = cc in omega arith)
 
-  module _ (n k : ℕ) (h : r ≡ R.Tree n k) (over : Bool) (l : over ≡ text_over text n) where
-    -- a type was read, and this is its place and row count
-    abbrev extent : Extent
-    extent = record { next = n; rows = k }
-
-    not-refused : (y : Refusal) → done extent ≡ refused y → ⊥
+  -- a type was read, and this is its place and row count
+  module _ (x : Extent) (over : Bool) (l : over ≡ text_over text x.next) where
+    not-refused : (y : Refusal) → done x ≡ refused y → ⊥
     not-refused y e = let z : ◌≡◌ {A = ℕ} 0 1 = cc in omega arith
 
-    is-extent : (x : Extent) → done extent ≡ done x → extent ≡ x
-    is-extent x e = cc
+    is-extent : (y : Extent) → done x ≡ done y → x ≡ y
+    is-extent y e = cc
 
-    over-ends : (o : Out Tree) (mid : List ℕ) → Holds (λ (t : Tree). count (single t) ≤ 1024) o → read_means r ≡ read_of o → mid ≡ rows_of before o
-        → after ≡ parents_set mid (min k (rows_lent (length mid))) → over ≡ true → Ends (Rows k) o
-    unfolding read_of read_means rows_of parsed_means
-    over-ends (refused y) mid few e m w b = absurd (not-refused y (sym (ap read_means h) ∙ e))
+    over-ends : (o : Out Tree) (mid : List ℕ) → Holds (λ (t : Tree). count (single t) ≤ 1024) o → done x ≡ read_of o → mid ≡ rows_of before o
+        → after ≡ parents_set mid (min x.used (rows_lent (length mid))) → over ≡ true → Ends (done x.used) o
+    unfolding read_of rows_of
+    over-ends (refused y) mid few e m w b = absurd (not-refused y e)
     over-ends (done t) mid few e m w b =
-        let x = is-extent (record { next = t.next; rows = rows_in t }) (sym (ap read_means h) ∙ e) in
-        let z : t.next ≡ n = sym (ap (λ (i : Extent). i.next) x) in
-        let c : k ≡ rows_in t = ap (λ (i : Extent). i.rows) x in
-        let d : k ≡ count (single t) = omega arith in
+        let s = is-extent (record { next = t.next; used = rows_in t }) e in
+        let z : t.next ≡ x.next = sym (ap (λ (i : Extent). i.next) s) in
+        let c : x.used ≡ rows_in t = ap (λ (i : Extent). i.used) s in
+        let d : x.used ≡ count (single t) = omega arith in
         let o : text_over text t.next ≡ true = ap (text_over text) z ∙ sym l ∙ b in
         let rest : List ℕ = drop (length (table_of (single t))) before in
         let long : length (table_of (parented (single t))) ≡ length (table_of (single t)) = omega (arith, length_table (single t), length_table (parented (single t)), count_parented 0 0 (single t)) in
         let set : after ≡ table_of (parented (single t)) ++ drop (length (table_of (parented (single t)))) before =
-        w ∙ ap (λ (l : List ℕ). parents_set l (min k (rows_lent (length l)))) m
+        w ∙ ap (λ (l : List ℕ). parents_set l (min x.used (rows_lent (length l)))) m
         ∙ ap (λ (i : ℕ). parents_set (table_of (single t) ++ rest) (min i (rows_lent (length (table_of (single t) ++ rest))))) d
         ∙ first-parents-lent (single t) rest few
         ∙ ap (λ (i : ℕ). table_of (parented (single t)) ++ drop i before) (sym long) in
         (rw o (ap (λ (i : ℕ). done i) (d ∙ sym (count_parented 0 0 (single t)))), rw o set)
 
-    more-ends : (o : Out Tree) → read_means r ≡ read_of o → after ≡ replicate (length before) 0 → over ≡ false → Ends (Refused 16) o
-    unfolding read_of read_means parsed_means
-    more-ends (refused y) e w b = absurd (not-refused y (sym (ap read_means h) ∙ e))
+    more-ends : (o : Out Tree) → done x ≡ read_of o → after ≡ replicate (length before) 0 → over ≡ false → Ends (refuse 16) o
+    unfolding read_of
+    more-ends (refused y) e w b = absurd (not-refused y e)
     more-ends (done t) e w b =
-        let z : t.next ≡ n = sym (ap (λ (i : Extent). i.next) (is-extent (record { next = t.next; rows = rows_in t }) (sym (ap read_means h) ∙ e))) in
+        let z : t.next ≡ x.next = sym (ap (λ (i : Extent). i.next) (is-extent (record { next = t.next; used = rows_in t }) e)) in
         let o : text_over text t.next ≡ false = ap (text_over text) z ∙ sym l ∙ b in
         (rw o, rw o w)
 
@@ -146,19 +145,18 @@ module _ (text before after : List ℕ) (r : Read) where
   few : Holds (λ (t : Tree). count (single t) ≤ 1024) first
   few = begun_few text (rows_lent (length before)) (lent_few before)
 
-  abbrev Meant : Parsed → Type 0
-  Meant a = (parsed_means a ≡ parse_answer text before) × (after ≡ parse_rows text before)
+  abbrev Meant : Out ℕ → Type 0
+  Meant a = (a ≡ parse_answer text before) × (after ≡ parse_rows text before)
 
-  module _ (e : read_means r ≡ read_of first) where
-    pub read-refused : (x : ℕ) → after ≡ rows_of before first → r ≡ R.Refused x → Meant (Refused x)
+  pub read-refused : (x : ℕ) → refuse x ≡ read_of first → after ≡ rows_of before first → Meant (refuse x)
+  unfolding parse parse_answer parse_rows
+  read-refused x e w = refused-ends first x e w
+
+  module _ (x : Extent) (e : done x ≡ read_of first) (over : Bool) (l : over ≡ text_over text x.next) where
+    pub read_done : (mid : List ℕ) → mid ≡ rows_of before first → after ≡ parents_set mid (min x.used (rows_lent (length mid))) → over ≡ true → Meant (done x.used)
     unfolding parse parse_answer parse_rows
-    read-refused x w h = refused-ends first x e w h
+    read_done mid m w b = over-ends x over l first mid few e m w b
 
-    module _ (n k : ℕ) (h : r ≡ R.Tree n k) (over : Bool) (l : over ≡ text_over text n) where
-      pub read_done : (mid : List ℕ) → mid ≡ rows_of before first → after ≡ parents_set mid (min k (rows_lent (length mid))) → over ≡ true → Meant (Rows k)
-      unfolding parse parse_answer parse_rows
-      read_done mid m w b = over-ends n k h over l first mid few e m w b
-
-      pub trailing : after ≡ replicate (length before) 0 → over ≡ false → Meant (Refused 16)
-      unfolding parse parse_answer parse_rows
-      trailing w b = more-ends n k h over l first e w b
+    pub trailing : after ≡ replicate (length before) 0 → over ≡ false → Meant (refuse 16)
+    unfolding parse parse_answer parse_rows
+    trailing w b = more-ends x over l first e w b

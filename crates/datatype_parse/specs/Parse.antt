@@ -6,8 +6,6 @@ use Rattle.datatype.specs.Tree.{Forest, count, Row}
 use Rattle.datatype.specs.Table.{table_of, rows_lent}
 use Rattle.subtrees.specs.Parents.{parented}
 use Rattle.parser.specs.Parse.{single, stands, first_type}
-use Rattle.datatype_parse.specs.declared.Parsed.{Parsed}
-use Rattle.datatype_parse.specs.declared.Parsed.TheVariants.{Rows, Refused}
 
 -- The text ends here, but for spaces.
 unfoldable pub text_over : List ℕ → ℕ → Bool
@@ -34,8 +32,3 @@ filled before (done f) = table_of f ++ drop (length (table_of f)) before
 
 unfoldable pub parse_rows : List ℕ → List ℕ → List ℕ
 parse_rows text before = filled before (parse text (rows_lent (length before)))
-
--- What the code's answer means.
-unfoldable pub parsed_means : Parsed → Out ℕ
-parsed_means (Rows n) = done n
-parsed_means (Refused n) = refuse n

@@ -1,22 +1,28 @@
 -- What prints in double quotes is ASCII: what the functions of `ascii.rt` find, and what their loops hold.
 use Rattle.std.specs.Prelude.{if◌then◌else◌}
 use mathlib.Core.Path.{◌≡◌, refl, sym, ap, ◌∙◌}
-use mathlib.Core.Bool.{Bool, true, false, not, ◌&&◌, ◌||◌, and-true, and_assoc, or-true, false≢true}
+use mathlib.Core.Bool.{Bool, true, false, not, ◌&&◌, ◌||◌, and-true, or-true, false≢true}
 use mathlib.Core.List.{List, [], ◌∷◌}
 use Prim.Native.Nat.{ℕ, zero, suc, ◌+◌, ◌-◌, ◌*◌, ◌/◌, ◌≤◌, ◌<◌, max}
 use native.Mathlib.Decide.{dec_lt}
 use native.Mathlib.Omega.{arith}
-use lib.ListN.{length, get_or, take, drop, drop_of_length-le}
+use lib.ListN.{length, get_or, get_or-eq_default, take, drop, drop_of_length-le}
 use lib.Seq.{drop-cons}
+use native.Mathlib.Numerals.{add-one}
 use lib.Dec.{T, leb, eqb, leb→le, le→leb}
-use borrow.Author.Tests.{le-leb, not-true}
+use borrow.Author.Tests.{le-leb, lt-leb, lt-ltb, le-ltb, not-true}
+use Rattle.std.specs.Bool.{MatchBool}
+use Rattle.std.specs.Str.{IsAscii, IsNotAscii}
+use Rattle.std.specs.List.{fold}
+use Rattle.std.specs.Cmp.Lexicographic.{pointwise}
+use Rattle.std.proofs.lemmas.List.Recursion.{and_is}
 use Rattle.tokenizer.specs.Text.{same, bytes, all}
 use Rattle.tokenizer.proofs.Basics.{and_l, and_r, both, is_true, of_true, all_take, all_drop}
 use Rattle.datatype.specs.Kind.{Shape, leaf, timestamp, time, interval, fixed, list, fixed_list, struct, union, dictionary, decimal, mapping, run_end_encoded, kinds, shape_of, has}
 use Rattle.datatype.specs.Tree.{Forest, ∅, node, count, roots, depth, Row, Label, part, name_of, zone_of, label_of, labels}
 use Rattle.datatype.specs.Table.{row_words, tree_of, rows_at}
 use Rattle.row_table.specs.Sound.{is_sound}
-use Rattle.subtrees.specs.Internal.Run.{row_at, forest_at, Nests}
+use Rattle.subtrees.specs.Internal.Run.{forest_at, Nests}
 use Rattle.datatype.proofs.Tests.{iff_eq, all_below, below_at}
 use Rattle.datatype.proofs.KindLaws.{past_kinds}
 use Rattle.datatype.proofs.ShapeLaws.{none_has}
@@ -24,11 +30,12 @@ use Rattle.tokenizer.proofs.Listed.{NoneOf}
 use Rattle.row_table.proofs.ChildLaws.{child-turn}
 use Rattle.subtrees.proofs.Runs.{Turn, turn, forest_none}
 use Rattle.row_table.proofs.SoundTree.{SoundTree, sound_tree, sound-count, sound-forest, sound-labels}
-use Rattle.row_table.proofs.LevelWalk.{walk_call, walk-rest}
-use Rattle.row_table.proofs.Walks.{labels-turn, kind_word_lem, zone-words}
+use Rattle.row_table.proofs.LevelWalk.{tree_call, walk_call, walk-rest}
+use Rattle.row_table.proofs.Walks.{labels-turn, kind_word_lem}
+use Rattle.display_length.proofs.StringLaws.{equal_is}
 use Rattle.display_length.specs.Display.{default_names}
 use Rattle.display_length.specs.PrintedLength.{quotes_names, is_ascii, names_ascii, quoted_ascii}
-use Rattle.display_length.specs.Internal.Steps.{label_at, row_ascii, Clean, is_clean}
+use Rattle.display_length.specs.Internal.Steps.{label_at, row_ascii, Clean, is_clean, clean_weight}
 
 -- ---- bytes
 
@@ -38,23 +45,51 @@ leb_max a b n =
     (λ t. let m = leb→le (max a b) n t in both (leb a n) (leb b n) (le→leb a n (omega arith)) (le→leb b n (omega arith)))
     (λ t. let p = leb→le a n (and_l (leb a n) (leb b n) t) in let q = leb→le b n (and_r (leb a n) (leb b n) t) in le→leb (max a b) n (omega arith))
 
--- What the loop holds: the greatest weight met and the rest tell of the whole. Bytes that pass the test are those whose
--- weight is at most a limit.
-pub record Tops (test : ℕ → Bool) (limit : ℕ) (s : List ℕ) (top i : ℕ) : Type 0 where
-  pub so : all test s ≡ (leb top limit && all test (drop i s))
+-- the greatest weight tells whether all bytes pass a test: those do whose weight is at most a limit
+greatest_of : (test : ℕ → Bool) (weight : ℕ → ℕ) (limit : ℕ) → ((c : ℕ) → leb (weight c) limit ≡ test c)
+    → (s : List ℕ) (top : ℕ) → leb (fold (λ t c. max (weight c) t) top s) limit ≡ (leb top limit && all test s)
+greatest_of test weight limit so [] top = sym (and-true (leb top limit))
+greatest_of test weight limit so (c ∷ s) top =
+    greatest_of test weight limit so s (max (weight c) top) ∙ rw (leb_max (weight c) top limit, so c) (swap (test c) (leb top limit) (all test s))
+  where
+    swap : (a b d : Bool) → (a && b && d) ≡ (b && (a && d))
+    swap true b d = refl
+    swap false true d = refl
+    swap false false d = refl
 
-module _ (test : ℕ → Bool) (limit : ℕ) (s : List ℕ) where
-  pub tops_start : Tops test limit s 0 0
-  tops_start = record { so = rw (le-leb 0 limit (omega arith)) }
+clean-by-weight : (c : ℕ) → leb (clean_weight c) 126 ≡ is_clean c
+unfolding is_clean
+clean-by-weight c =
+    elim (dec_lt c 32) [
+      | yes h ↦ rw (lt-ltb c 32 h, lt-leb 32 c h)
+      | no h ↦ rw (le-ltb c 32 (omega arith), le-leb 32 c (omega arith)) (go (eqb c 92))
+    ]
+  where
+    go : (b : Bool) → leb (if b then 255 else c) 126 ≡ (not b && leb c 126)
+    go true = refl
+    go false = refl
 
-  module _ (top i : ℕ) (t : Tops test limit s top i) where
-    pub tops-end : length s ≤ i → leb top limit ≡ all test s
-    tops-end h = sym (t.so ∙ ap (λ (l : List ℕ). leb top limit && all test l) (drop_of_length-le s {i = i} h) ∙ and-true (leb top limit))
+-- the greatest weight of bytes, behind a number
+abbrev pub greatest : ℕ → List ℕ → ℕ
+greatest top s = fold (λ t c. max (clean_weight c) t) top s
 
-    pub tops-more : i < length s → (w top' : ℕ) → leb w limit ≡ test (get_or s i 0) → top' ≡ max top w → Tops test limit s top' (i + 1)
-    tops-more h w top' f e =
-        let n : suc i ≡ i + 1 = omega arith in
-        record { so = t.so ∙ ap (λ (l : List ℕ). leb top limit && all test l) (drop-cons s i 0 h) ∙ sym (and_assoc (leb top limit) (test (get_or s i 0)) (all test (drop (suc i) s))) ∙ rw (e, leb_max top w limit, f, n) }
+pub clean_greatest : (s : List ℕ) → leb (greatest 0 s) 126 ≡ all is_clean s
+clean_greatest s = greatest_of is_clean clean_weight 126 clean-by-weight s 0
+
+module _ (s : List ℕ) (top i : ℕ) where
+  pub greatest-go : i < length s → greatest top (drop i s) ≡ greatest (max (clean_weight (get_or s i 0)) top) (drop (i + 1) s)
+  greatest-go h = rw (drop-cons s i 0 h, add-one i) refl
+
+  pub greatest-end : length s ≤ i → greatest top (drop i s) ≡ top
+  greatest-end h = rw (drop_of_length-le s h) refl
+
+-- what `is_ascii` of std answers
+pub ascii_is : (s : List ℕ) (r : Bool) → MatchBool r (IsAscii s) (IsNotAscii s) → r ≡ is_ascii s
+ascii_is s true h = and_is is_ascii (λ c. leb c 127) refl (λ _ _. refl) s 0 true (λ _ i l. le-leb (get_or s i 0) 127 (omega (arith, h i))) (λ e. absurd (false≢true (sym e)))
+ascii_is s false h = and_is is_ascii (λ c. leb c 127) refl (λ _ _. refl) s 0 false (λ e. absurd (false≢true e)) (λ _. (h.0, inside, lt-leb (get_or s h.0 0) 127 (omega (arith, h.1))))
+  where
+    inside : h.0 < length s
+    inside = elim (dec_lt h.0 (length s)) [ yes l ↦ l | no l ↦ absurd (omega (arith, h.1, get_or-eq_default s 0 {n = h.0} (omega arith))) ]
 
 -- ---- children side by side
 
@@ -96,23 +131,25 @@ module _ (text names table : List ℕ) where
               let w = t.within in
               rw (roots-turn start end t, roots-turn (start + rows_at table start) end (turn table (start + rows_at table start) end t.rest (omega arith)), e)
 
-pub pair_rooms : (table : List ℕ) (start end : ℕ) → Nests table start (end - start) → start ≤ end → (start ≡ end → ⊥) → (s : ℕ) → s ≡ rows_at table start → (start + s ≡ end → ⊥)
-    → (row_words * (start + 1) ≤ length table) × (row_words * (start + s + 1) ≤ length table)
-pair_rooms table start end h l some s is d =
+pub pair-room : (table : List ℕ) (start end : ℕ) → Nests table start (end - start) → start ≤ end → (start ≡ end → ⊥) → (s : ℕ) → s ≡ rows_at table start → (start + s ≡ end → ⊥)
+    → row_words * (start + s + 1) ≤ length table
+pair-room table start end h l some s is d =
     let w = (child-turn table start end h l some).within in
     let r = h.room in
-    (omega arith, omega arith)
+    omega arith
 
 -- the default names, by the bytes of the names
-module _ (l k : Label) (a : List ℕ) (p : Bool) where
-  pub default-not : a ≡ l.name → p ≡ same a (bytes "run_ends") → p ≡ false → false ≡ default_names l k
-  unfolding default_names
-  default-not e f g = sym (ap (λ (s : List ℕ). same s (bytes "run_ends") && same k.name (bytes "values")) (sym e) ∙ ap (λ (t : Bool). t && same k.name (bytes "values")) (sym f ∙ g))
+module _ (l k : Label) (a : List ℕ) (is : a ≡ l.name) (run_ends : List ℕ) (word : run_ends ≡ bytes "run_ends") (p : Bool) (e : p ≡ pointwise eqb a run_ends) where
+  first-is : p ≡ same l.name (bytes "run_ends")
+  first-is = e ∙ rw (is, word) (equal_is l.name (bytes "run_ends"))
 
-  pub default-both : a ≡ l.name → p ≡ same a (bytes "run_ends") → p ≡ true → (b : List ℕ) → b ≡ k.name → (q : Bool) → q ≡ same b (bytes "values") → q ≡ default_names l k
+  pub default-not : p ≡ false → p ≡ default_names l k
   unfolding default_names
-  default-both e f g b e' q f' =
-      sym (ap (λ (s : List ℕ). same s (bytes "run_ends") && same k.name (bytes "values")) (sym e) ∙ ap (λ (t : Bool). t && same k.name (bytes "values")) (sym f ∙ g) ∙ sym (f' ∙ ap (λ (s : List ℕ). same s (bytes "values")) e'))
+  default-not f = rw (← first-is, f)
+
+  pub default-both : p ≡ true → (b : List ℕ) → b ≡ k.name → (values : List ℕ) → values ≡ bytes "values" → (q : Bool) → q ≡ pointwise eqb b values → q ≡ default_names l k
+  unfolding default_names
+  default-both f b at values w q g = g ∙ rw (at, w, ← first-is, f) (equal_is k.name (bytes "values"))
 
 -- ---- the kinds that print names in double quotes
 
@@ -155,8 +192,11 @@ unfolding shape_of
 quoting_kinds = tt
 
 module _ (k : ℕ) (ks : List Label) where
-  pub quotes-at : (n : ℕ) (r : Bool) → k ≡ n → r ≡ quotes_names (shape_of n) ks → r ≡ quotes_names (shape_of k) ks
-  quotes-at n r e h = rw e h
+  pub quotes_two : 32 ≤ k → k < 34 → true ≡ quotes_names (shape_of k) ks
+  quotes_two h l = elim (dec_lt k 33) [ yes t ↦ at 32 (omega arith) (unfold quotes_names shape_of in refl) | no t ↦ at 33 (omega arith) (unfold quotes_names shape_of in refl) ]
+    where
+      at : (n : ℕ) → k ≡ n → true ≡ quotes_names (shape_of n) ks → true ≡ quotes_names (shape_of k) ks
+      at n e h = rw e h
 
   pub quotes-none : NoneOf k (Unit {0}) quoting → false ≡ quotes_names (shape_of k) ks
   quotes-none n =
@@ -172,9 +212,6 @@ pub record NamesSo (text names table : List ℕ) (start end at : ℕ) : Type 0 w
   pub so : names_ascii (roots (labels text names (forest_at table start (end - start)))) ≡ names_ascii (roots (labels text names (forest_at table at (end - at))))
 
 module _ (text names table : List ℕ) (start end : ℕ) where
-  pub names-start : Nests table start (end - start) → start ≤ end → NamesSo text names table start end start
-  names-start h l = record { upto = l; nests = h; so = refl }
-
   module _ (at : ℕ) (i : NamesSo text names table start end at) where
     pub names-end : end ≤ at → true ≡ names_ascii (roots (labels text names (forest_at table start (end - start))))
     names-end h = sym (i.so ∙ rw (run_none text names table at end h))
@@ -195,17 +232,14 @@ module _ (text names table : List ℕ) (start end : ℕ) where
 
 -- ---- one row
 
-module _ (text names table : List ℕ) (i : ℕ) (kids : List Label) (from size : ℕ) (a : from ≡ get_or table (row_words * i + 9) 0) (b : size ≡ get_or table (row_words * i + 10) 0) where
-  module _ (z : List ℕ) (e : z ≡ zone_of text from size) (p : Bool) (f : p ≡ is_ascii z) where
-    zone_is : p ≡ is_ascii (label_at text names table i).zone
-    unfolding label_at
-    zone_is =
-        let w : z ≡ (label_of text names (row_at table i)).zone = e ∙ rw (a, b) (sym (zone-words text names table i)) in
-        f ∙ ap is_ascii w
+module _ (text names table : List ℕ) (i : ℕ) (kids : List Label) where
+  module _ (z : List ℕ) (e : z ≡ (label_at text names table i).zone) (p : Bool) (f : p ≡ is_ascii z) where
+    zone_ascii : p ≡ is_ascii (label_at text names table i).zone
+    zone_ascii = f ∙ ap is_ascii e
 
     pub row-zone : p ≡ false → false ≡ row_ascii (label_at text names table i) kids
     unfolding row_ascii
-    row-zone g = rw (← zone_is, g)
+    row-zone g = rw (← zone_ascii, g)
 
     module _ (g : p ≡ true) (k : ℕ) (c : k ≡ get_or table (row_words * i + 0) 0) (q : Bool) (d : q ≡ quotes_names (shape_of k) kids) where
       names-is : q ≡ quotes_names (shape_of (label_at text names table i).kind) kids
@@ -214,11 +248,11 @@ module _ (text names table : List ℕ) (i : ℕ) (kids : List Label) (from size 
 
       pub row-quotes : q ≡ true → (r : Bool) → r ≡ names_ascii kids → r ≡ row_ascii (label_at text names table i) kids
       unfolding row_ascii
-      row-quotes y r w = w ∙ rw (← zone_is, g, ← names-is, y)
+      row-quotes y r w = w ∙ rw (← zone_ascii, g, ← names-is, y)
 
       pub row_plain : q ≡ false → true ≡ row_ascii (label_at text names table i) kids
       unfolding row_ascii
-      row_plain y = rw (← zone_is, g, ← names-is, y)
+      row_plain y = rw (← zone_ascii, g, ← names-is, y)
 
 -- ---- a run: what the loop over its trees holds
 
@@ -229,9 +263,6 @@ pub record QuotedSo (text names table : List ℕ) (level start end at : ℕ) : T
   pub so : quoted_ascii (labels text names (forest_at table start (end - start))) ≡ quoted_ascii (labels text names (forest_at table at (end - at)))
 
 module _ (text names table : List ℕ) (level start end : ℕ) where
-  pub quoted-start : Nests table start (end - start) → start ≤ end → depth (forest_at table start (end - start)) ≤ level → QuotedSo text names table level start end start
-  quoted-start h l d = record { upto = l; nests = h; flat = d; so = refl }
-
   module _ (at : ℕ) (i : QuotedSo text names table level start end at) where
     pub quoted-end : end ≤ at → true ≡ quoted_ascii (labels text names (forest_at table start (end - start)))
     unfolding quoted_ascii
@@ -330,3 +361,14 @@ module _ (text names table : List ℕ) (sound : T (is_sound text names table)) w
 
   pub tree_is : (r : Bool) → r ≡ quoted_ascii (labels text names (forest_at table 0 (length table / row_words - 0))) → r ≡ quoted_ascii (tree_of text names table)
   tree_is r e = e ∙ ap quoted_ascii (sym all-labels)
+
+-- what the functions of `names.rt` and `ascii.rt` use
+pub ruleset defaults = (default-not, default-both)
+
+pub ruleset pairs = (pair-none, pair_one, pair-two, pair-room, child-turn)
+
+pub ruleset name_turns = (ascii_is, names-end, names-turn, names-not, names_more)
+
+pub ruleset row_tests = (ascii_is, row-zone, row-quotes, row_plain)
+
+pub ruleset tree_tests = (ascii_is, tree-clean, tree-ascii, tree_is, tree_call)

@@ -10,13 +10,11 @@ use lib.Dec.{leb, eqb}
 use Rattle.tokenizer.specs.Text.{all}
 use Rattle.tokenizer.proofs.Basics.{of_true}
 use Rattle.datatype.specs.Kind.{Shape, leaf, timestamp, time, interval, fixed, list, fixed_list, struct, union, dictionary, decimal, mapping, run_end_encoded}
-use Rattle.datatype.specs.Tree.{part, name_of, zone_of, name_list, label_of}
-use Rattle.subtrees.specs.Internal.Run.{row_at}
-use Rattle.display_length.specs.Display.{zone_text}
-use Rattle.display_length.specs.Internal.Steps.{is_clean, Clean, label_at, behind_length, comma_length, nullity_length, field_length, around_length}
+use Rattle.datatype.specs.Tree.{part, name_of, zone_of, name_list}
+use Rattle.display_length.specs.Internal.Steps.{is_clean, Clean, behind_length, comma_length, nullity_length, field_length}
 use Rattle.display_length.proofs.AsciiLaws.{name-all, zone-all}
-use Rattle.display_length.proofs.StringLaws.{quoted_few, zone_few, list_name_few}
-use Rattle.display_length.proofs.WordLaws.{unit_few, interval_few, mode_few, sorted_few, digits_few, scale-few}
+use Rattle.display_length.proofs.StringLaws.{quoted_few, zone_few}
+use Rattle.display_length.proofs.WordLaws.{unit_few, interval_few, mode_few, sorted_few, digits_few, scale_few}
 
 part_short : (s : List ℕ) (start size : ℕ) → length (part s start size) ≤ length s
 part_short s start size = go (leb (start + size) (length s))
@@ -43,13 +41,11 @@ module _ (clean : Bool) where
         so = λ e. of_true _ (zone-all is_clean text (c.so e) start size);
       }
 
-  pub clean_name : (text names table : List ℕ) (i : ℕ) → Clean clean text → Clean clean names → Clean clean (label_at text names table i).name
-  unfolding label_at label_of
-  clean_name text names table i a b =
-      let r = row_at table i in
+  pub clean_name : (text names : List ℕ) (home start size : ℕ) → Clean clean text → Clean clean names → Clean clean (name_of text names home start size)
+  clean_name text names home start size a b =
       record {
-        short = name_short text names r.home r.name_start r.name_length a.short b.short;
-        so = λ e. of_true _ (name-all is_clean text names (a.so e) (b.so e) r.home r.name_start r.name_length);
+        short = name_short text names home start size a.short b.short;
+        so = λ e. of_true _ (name-all is_clean text names (a.so e) (b.so e) home start size);
       }
 
   -- the name list
@@ -63,9 +59,6 @@ module _ (clean : Bool) where
 
 -- ---- bounds
 
-pub zone_short : (clean : Bool) (text : List ℕ) (start size : ℕ) → Clean clean text → length (zone_text (zone_of text start size)) ≤ 98308
-zone_short clean text start size c = let e = zone_few (zone_of text start size) in let f = (clean_zone clean text start size c).short in omega arith
-
 pub behind_few : (s : Shape) (number scale : ℕ) (zone : List ℕ) → number < 4294967296 → scale < 4294967296 → length zone ≤ 16384 → behind_length s number scale zone ≤ 98400
 unfolding behind_length
 behind_few leaf number scale zone n c z = omega arith
@@ -78,7 +71,7 @@ behind_few fixed_list number scale zone n c z = let e = digits_few number n in o
 behind_few struct number scale zone n c z = omega arith
 behind_few union number scale zone n c z = let e = mode_few number in omega arith
 behind_few dictionary number scale zone n c z = omega arith
-behind_few decimal number scale zone n c z = let e = digits_few number n in let f = scale-few scale c in omega arith
+behind_few decimal number scale zone n c z = let e = digits_few number n in let f = scale_few scale c in omega arith
 behind_few mapping number scale zone n c z = let e = sorted_few number in omega arith
 behind_few run_end_encoded number scale zone n c z = omega arith
 
@@ -98,19 +91,3 @@ pub field_few : (q : Bool) (name : List ℕ) (role : ℕ) → length name ≤ 16
 unfolding field_length
 field_few true name role h = let e = quoted_few name in let f = nullity_few role in omega arith
 field_few false name role h = let f = nullity_few role in omega arith
-
-pub around_few : (s : Shape) (q first : Bool) (role id : ℕ) (name : List ℕ) → id < 4294967296 → length name ≤ 16384 → around_length s q first role id name ≤ 98500
-unfolding around_length
-around_few leaf q first role id name i h = omega arith
-around_few timestamp q first role id name i h = omega arith
-around_few time q first role id name i h = omega arith
-around_few interval q first role id name i h = omega arith
-around_few fixed q first role id name i h = omega arith
-around_few list q first role id name i h = let e = nullity_few role in let f = list_name_few name in omega arith
-around_few fixed_list q first role id name i h = let e = nullity_few role in let f = list_name_few name in omega arith
-around_few struct q first role id name i h = let e = comma_few first in let f = field_few q name role h in omega arith
-around_few union q first role id name i h = let e = digits_few id i in let f = field_few q name role h in omega arith
-around_few dictionary q first role id name i h = let e = comma_few first in omega arith
-around_few decimal q first role id name i h = omega arith
-around_few mapping q first role id name i h = let f = field_few q name role h in omega arith
-around_few run_end_encoded q first role id name i h = let e = comma_few first in let f = field_few q name role h in omega arith

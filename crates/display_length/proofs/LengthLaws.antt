@@ -2,32 +2,28 @@
 --   own-length      of one row over its children
 --   type-length     of a tree whose rows fit
 use Rattle.std.specs.Prelude.{if◌then◌else◌}
-use mathlib.Core.Path.{◌≡◌, refl}
+use mathlib.Core.Path.{ap, ◌≡◌, refl}
 use mathlib.Core.Bool.{Bool, true, false, not}
 use mathlib.Core.List.{List, [], ◌∷◌, ◌++◌, map}
 use Prim.Native.Nat.{ℕ, ◌+◌, ◌<◌}
 use native.Mathlib.Omega.{arith}
 use lib.ListN.{length, length-append}
-use lib.Dec.{T, eqb, eqb→eq}
+use lib.Dec.{T, eqb}
 use Rattle.tokenizer.specs.Text.{bytes}
-use Rattle.tokenizer.specs.Words.{words}
 use Rattle.datatype.specs.Kind.{Shape, leaf, timestamp, time, interval, fixed, list, fixed_list, struct, union, dictionary, decimal, mapping, run_end_encoded, kinds, shape_of}
 use Rattle.datatype.specs.Tree.{Forest, ∅, node, roots, Label}
-use Rattle.datatype.proofs.Tests.{all_below, below_at}
 use Rattle.row_table.specs.Sound.{Standing, arity_fits, rules_of, rows_fit}
 use Rattle.row_table.proofs.SoundTree.{RowFits, rows_fit_lem}
 use Rattle.display_length.specs.Display.{kind_word, list_name_text, untyped, nullity_text, field_text, list_field_text, struct_text, union_text, default_names, run_end_text, shape_text, type_text, own_length, display_length}
 use Rattle.display_length.specs.PrintedLength.{quotes_names}
+use Rattle.display_length.proofs.WordLaws.{kind_text_is}
 use Rattle.display_length.specs.Internal.Steps.{word_length, behind_length, row_length, comma_length, nullity_length, field_length, around_length, children_length, type_length}
 
 -- ---- words
 
-word_lengths_lem : T (all_below kinds (λ k. eqb (word_length k) (length (kind_word k))))
-unfolding word_length kind_word words
-word_lengths_lem = tt
-
 word_length_lem : (k : ℕ) → k < kinds → word_length k ≡ length (kind_word k)
-word_length_lem k h = eqb→eq (word_length k) (length (kind_word k)) (below_at kinds (λ i. eqb (word_length i) (length (kind_word i))) word_lengths_lem k h)
+unfolding word_length
+word_length_lem k h = ap length (kind_text_is k h)
 
 -- ---- what stands around a child's type
 

@@ -1,6 +1,5 @@
 pub mod Length
 pub mod AsciiLaws
-pub mod RowLaws
 pub mod StringLaws
 pub mod WordLaws
 pub mod LengthLaws

@@ -16,25 +16,24 @@ use Rattle.datatype.specs.Table.{tree_of}
 use Rattle.row_table.specs.Sound.{bare, is_sound}
 use Rattle.row_table.proofs.SoundTree.{SoundTree, sound_tree, sound-labels}
 use Rattle.display_length.specs.Display.{display, display_length}
-use Rattle.display_length.specs.PrintedLength.{quoted_ascii, printed_length, printed_length_means}
+use Rattle.display_length.specs.PrintedLength.{quoted_ascii, printed_length}
 use Rattle.display_length.specs.Internal.Steps.{is_clean, Clean, length_at}
-use Rattle.display_length.specs.declared.PrintedLength.TheVariants.{Length, Refused}
 use Rattle.display_length.proofs.Length.{display_length_lem}
 use Rattle.display_length.proofs.CleanLaws.{clean-text, clean-names}
-use Rattle.display_length.proofs.TreeLaws.{tree-length}
+use Rattle.display_length.proofs.TreeLaws.{subtree-room, tree_call, tree-length}
 
 module _ (text names table : List ℕ) where
-  pub printed-17 : is_sound text names table ≡ false → printed_length_means (Refused 17) ≡ printed_length text names table
-  unfolding printed_length printed_length_means
+  pub printed-17 : is_sound text names table ≡ false → refuse 17 ≡ printed_length text names table
+  unfolding printed_length
   printed-17 e = rw e
 
-  pub printed-18 : is_sound text names table ≡ true → (r : Bool) → r ≡ quoted_ascii (tree_of text names table) → r ≡ false → printed_length_means (Refused 18) ≡ printed_length text names table
-  unfolding printed_length printed_length_means
+  pub printed-18 : is_sound text names table ≡ true → (r : Bool) → r ≡ quoted_ascii (tree_of text names table) → r ≡ false → refuse 18 ≡ printed_length text names table
+  unfolding printed_length
   printed-18 e r is f = rw (e, sym is ∙ f)
 
   pub printed-length : is_sound text names table ≡ true → (r : Bool) → r ≡ quoted_ascii (tree_of text names table) → r ≡ true → (n : ℕ) → n ≡ length_at text names table 0
-      → printed_length_means (Length n) ≡ printed_length text names table
-  unfolding printed_length printed_length_means
+      → done n ≡ printed_length text names table
+  unfolding printed_length
   printed-length e r is f n so = rw (e, sym is ∙ f, so, tree-length text names table (of_true _ e))
 
   -- what is_clean says of a sound tree's text and names
@@ -68,8 +67,7 @@ module _ (text names table : List ℕ) where
   means sound ascii e f = rw (e, f)
 
   -- where a length is answered
-  pub prints : (n : ℕ) → printed_length_means (Length n) ≡ printed_length text names table → Prints text names table n
-  unfolding printed_length_means
+  pub prints : (n : ℕ) → done n ≡ printed_length text names table → Prints text names table n
   prints n h = go (is_sound text names table) (quoted_ascii (tree_of text names table)) refl refl
     where
       go : (sound ascii : Bool) → is_sound text names table ≡ sound → quoted_ascii (tree_of text names table) ≡ ascii → Prints text names table n
@@ -90,9 +88,8 @@ module _ (text names table : List ℕ) where
   number (done n) = 0
 
   -- where a refusal is answered
-  pub refuses : (n : ℕ) → printed_length_means (Refused n) ≡ printed_length text names table
+  pub refuses : (n : ℕ) → refuse n ≡ printed_length text names table
       → ((n ≡ 17) × (is_sound text names table ≡ false)) ⊎ ((n ≡ 18) × (is_sound text names table ≡ true) × (quoted_ascii (tree_of text names table) ≡ false))
-  unfolding printed_length_means
   refuses n h = go (is_sound text names table) (quoted_ascii (tree_of text names table)) refl refl
     where
       go : (sound ascii : Bool) → is_sound text names table ≡ sound → quoted_ascii (tree_of text names table) ≡ ascii
@@ -106,3 +103,6 @@ module _ (text names table : List ℕ) where
       go false ascii e f =
           let d : ◌≡◌ {A = Out ℕ} (refuse n) (refuse 17) = h ∙ means false ascii e f in
           inl (ap number d, e)
+
+-- what `printed_length` uses
+pub ruleset answers = (of_true, printed-17, printed-18, printed-length, text-clean, names-clean, tree_call, subtree-room)

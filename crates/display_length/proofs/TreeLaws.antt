@@ -1,16 +1,15 @@
 -- The walk of `tree.rt`: what is counted, and what is left to count.
 use mathlib.Core.Path.{◌≡◌, refl, sym, ap, ◌∙◌}
-use mathlib.Core.Bool.{Bool, true, false, ◌&&◌}
+use mathlib.Core.Bool.{Bool, true, false}
 use mathlib.Core.List.{List}
 use Prim.Native.Nat.{ℕ, suc, ◌+◌, ◌-◌, ◌*◌, ◌≤◌, ◌<◌, max}
 use native.Mathlib.Omega.{arith}
 use lib.ListN.{length, get_or}
-use lib.Dec.{T, leb, eqb, leb→le}
+use lib.Dec.{T, eqb}
 use borrow.Author.Tests.{eq-eqb, ne_eqb}
-use Rattle.tokenizer.proofs.Basics.{and_l, and_r}
 use Rattle.datatype.specs.Kind.{Shape, shape_of, is_word}
 use Rattle.datatype.proofs.ShapeLaws.{word_leaf}
-use Rattle.datatype.specs.Tree.{Forest, ∅, node, count, roots, depth, Label, zone_of, label_of, labels}
+use Rattle.datatype.specs.Tree.{Forest, ∅, node, count, roots, depth, Label, label_of, labels}
 use Rattle.datatype.specs.Table.{row_words, tree_of, rows_at}
 use Rattle.subtrees.specs.Internal.Run.{row_at, forest_at, Nests}
 use Rattle.row_table.specs.Sound.{bare, is_sound}
@@ -19,9 +18,7 @@ use Rattle.row_table.proofs.SoundTree.{SoundTree, sound_tree, sound-count, sound
 use Rattle.row_table.proofs.Walks.{labels-turn}
 use Rattle.display_length.specs.Display.{display_length}
 use Rattle.display_length.specs.PrintedLength.{quotes_names}
-use Rattle.display_length.specs.Internal.Steps.{Subtree, Clean, own_at, label_at, kids_at, word_length, behind_length, row_length, around_length, children_length, type_length, length_at}
-use Rattle.display_length.proofs.WordLaws.{word_few}
-use Rattle.display_length.proofs.CleanLaws.{clean-as, clean_zone, clean_name, behind_few, around_few}
+use Rattle.display_length.specs.Internal.Steps.{Subtree, own_at, label_at, kids_at, word_length, behind_length, row_length, around_length, children_length, type_length, length_at}
 use Rattle.display_length.proofs.LengthLaws.{type_length_lem}
 
 -- ---- the rows of a subtree
@@ -29,13 +26,6 @@ use Rattle.display_length.proofs.LengthLaws.{type_length_lem}
 module _ (table : List ℕ) (level i : ℕ) (w : Subtree table level i) where
   pub subtree-room : row_words * (i + 1) ≤ length table
   subtree-room = let a = w.some-rows in let r = w.room in omega arith
-
-  module _ (size : ℕ) (is : size ≡ rows_at table i) where
-    pub subtree-end : i + size ≤ 1024
-    subtree-end = rw is w.few
-
-    pub quotes-call : Nests table (i + 1) (i + size - (i + 1)) × (i + 1 ≤ i + size)
-    quotes-call = let a = w.some-rows in (rw is w.nests, omega arith)
 
 -- ---- the children's lengths
 
@@ -47,6 +37,10 @@ module _ (text names table : List ℕ) where
   -- around child j
   abbrev around_at : Shape → Bool → Bool → ℕ → ℕ
   around_at s q f j = around_length s q f (label_at text names table j).role (label_at text names table j).union_id (label_at text names table j).name
+
+  pub around_counted : (s : Shape) (q f : Bool) (j role id : ℕ) (name : List ℕ) → role ≡ (label_at text names table j).role → id ≡ (label_at text names table j).union_id
+      → name ≡ (label_at text names table j).name → (r : ℕ) → r ≡ around_length s q f role id name → r ≡ around_at s q f j
+  around_counted s q f j role id name a b c r e = e ∙ rw (a, b, c)
 
   module _ (s : Shape) (q f : Bool) (j end : ℕ) where
     -- the first tree of a run, and the rest
@@ -95,15 +89,9 @@ module _ (text names table : List ℕ) where
       pub counting-end : end ≤ j → total ≡ length_at text names table i
       counting-end h = let z = run_none s q (eqb j (i + 1)) j end h in let e = v.so in omega arith
 
-      pub counting-most : (size : ℕ) → size ≡ rows_at table i → end ≡ i + size → total + 100000 ≤ 200000 * rows_at table i
-      counting-most size is e = let m = v.most in let u = v.upto in omega arith
-
       module _ (h : j < end) where
         pub counting-turn : Turn table j end
         counting-turn = turn table j end v.nests h
-
-        pub counting-room : row_words * (j + 1) ≤ length table
-        counting-room = let r = v.nests.room in omega arith
 
         pub counting-size : (size : ℕ) → size ≡ rows_at table j → j + size ≤ 1024
         counting-size size is = let w = counting-turn.within in let k = v.few in omega arith
@@ -122,92 +110,46 @@ module _ (text names table : List ℕ) where
             let k = v.few in
             (omega arith, record { some-rows = t.some-rows; room = omega arith; nests = t.kids; few = omega arith; flat = omega arith })
 
-        module _ (f : Bool) (first : f ≡ eqb j (i + 1)) (a : ℕ) (l : a ≤ 100000) where
-          -- the sums fit a number
-          pub counting-sum : total + a ≤ 204900000
-          counting-sum = let m = v.most in let k = v.few in omega arith
+        module _ (f : Bool) (first : f ≡ eqb j (i + 1)) (a : ℕ) (l : a ≤ 100000) (b : ℕ) (n : b + 100000 ≤ 200000 * rows_at table j) where
+          pub counting-sum : total + a + b ≤ 410000000
+          counting-sum = let m = v.most in let k = v.few in let w = counting-turn.within in omega arith
 
-          module _ (b : ℕ) (n : b + 100000 ≤ 200000 * rows_at table j) where
-            pub counting-sum-2 : total + a + b ≤ 410000000
-            counting-sum-2 = let m = v.most in let k = v.few in let w = counting-turn.within in omega arith
-
-            pub counting-again : (size : ℕ) → size ≡ rows_at table j → a ≡ around_at s q f j → b ≡ length_at text names table j → Counting (j + size) (total + a + b)
-            counting-again size is x y = rw is (go counting-turn)
-              where
-                go : Turn table j end → Counting (j + rows_at table j) (total + a + b)
-                go t =
-                    let d = levels-here t in
-                    let fl = v.flat in
-                    let r = t.some-rows in
-                    let w = t.within in
-                    let c = v.behind in
-                    let m = v.most in
-                    let o = v.so in
-                    let later : eqb (j + rows_at table j) (i + 1) ≡ false = ne_eqb (j + rows_at table j) (i + 1) (λ z. omega arith) in
-                    let here : children_length s q (eqb j (i + 1)) (run j end) ≡ around_at s q f j + length_at text names table j + children_length s q false (run (j + rows_at table j) end) = rw (← first) (run-turn s q f j end t) in
-                    record {
-                      upto = w;
-                      few = v.few;
-                      behind = omega arith;
-                      nests = t.rest;
-                      flat = omega arith;
-                      most = omega arith;
-                      so = rw later (omega arith);
-                    }
+          pub counting-again : (size : ℕ) → size ≡ rows_at table j → a ≡ around_at s q f j → b ≡ length_at text names table j → Counting (j + size) (total + a + b)
+          counting-again size is x y = rw is (go counting-turn)
+            where
+              go : Turn table j end → Counting (j + rows_at table j) (total + a + b)
+              go t =
+                  let d = levels-here t in
+                  let fl = v.flat in
+                  let r = t.some-rows in
+                  let w = t.within in
+                  let c = v.behind in
+                  let m = v.most in
+                  let o = v.so in
+                  let later : eqb (j + rows_at table j) (i + 1) ≡ false = ne_eqb (j + rows_at table j) (i + 1) (λ z. omega arith) in
+                  let here : children_length s q (eqb j (i + 1)) (run j end) ≡ around_at s q f j + length_at text names table j + children_length s q false (run (j + rows_at table j) end) = rw (← first) (run-turn s q f j end t) in
+                  record {
+                    upto = w;
+                    few = v.few;
+                    behind = omega arith;
+                    nests = t.rest;
+                    flat = omega arith;
+                    most = omega arith;
+                    so = rw later (omega arith);
+                  }
 
 -- a row with nothing below it
-module _ (table : List ℕ) (i size : ℕ) (is : size ≡ rows_at table i) (one : size ≡ 1) (r : ℕ) where
-  pub single-length : (text names : List ℕ) → r ≡ own_at text table i → r ≡ length_at text names table i
+module _ (table : List ℕ) (i : ℕ) (one : rows_at table i ≡ 1) (r : ℕ) where
+  pub single_length : (text names : List ℕ) → r ≡ own_at text table i → r ≡ length_at text names table i
   unfolding own_at length_at type_length children_length kids_at label_at label_of row_at labels
-  single-length text names e =
+  single_length text names e =
       let z : i + rows_at table i - (i + 1) ≡ 0 = omega arith in
       e ∙ rw (z, forest_none table (i + 1)) (omega arith)
 
-  pub single-most : r ≤ 100000 → r + 100000 ≤ 200000 * rows_at table i
-  single-most h = omega arith
-
--- a row that is written by its word alone, and any other
-module _ (text names table : List ℕ) (j size kind below : ℕ) (is : size ≡ rows_at table j) (so : kind ≡ get_or table (row_words * j + 0) 0) where
-  alone : T (is_word kind) → size ≡ 1 → below ≡ word_length kind → below ≡ own_at text table j
-  unfolding row_length own_at behind_length
-  alone w one e = e ∙ rw (← so, word_leaf kind w) (omega arith)
-
-  pub word_below : 1 ≤ rows_at table j → (b : Bool) → b ≡ (leb size 1 && is_word kind) → b ≡ true → (w : ℕ) → w ≡ word_length kind → below ≡ w
-      → (below ≡ length_at text names table j) × (below + 100000 ≤ 200000 * rows_at table j)
-  word_below some b e t w l h =
-      let both : (leb size 1 && is_word kind) ≡ true = sym e ∙ t in
-      let one : size ≡ 1 = (let m = leb→le size 1 (and_l (leb size 1) (is_word kind) (rw both tt)) in omega arith) in
-      let f = word_few kind in
-      (single-length table j size is one below text names (alone (and_r (leb size 1) (is_word kind) (rw both tt)) one (h ∙ l)), omega arith)
-
-  pub type-below : (w : ℕ) → w ≡ length_at text names table j → w + 100000 ≤ 200000 * rows_at table j → below ≡ w → (below ≡ length_at text names table j) × (below + 100000 ≤ 200000 * rows_at table j)
-  type-below w l m h = (h ∙ l, omega arith)
-
--- ---- one row
-
--- the word, and what stands behind it
-module _ (text table : List ℕ) (i kind number scale start size : ℕ) (w b : ℕ) (is : w ≡ word_length kind) (so : b ≡ behind_length (shape_of kind) number scale (zone_of text start size)) where
-  pub row-counted : kind ≡ get_or table (row_words * i + 0) 0 → number ≡ get_or table (row_words * i + 4) 0 → scale ≡ get_or table (row_words * i + 5) 0
-      → start ≡ get_or table (row_words * i + 9) 0 → size ≡ get_or table (row_words * i + 10) 0 → w + b ≡ own_at text table i
-  unfolding row_length own_at
-  row-counted k n c s l = rw (is, so, k, n, c, s, l)
-
-  pub row-sum : (clean : Bool) → number < 4294967296 → scale < 4294967296 → Clean clean text → w + b ≤ 100000
-  row-sum clean n s c =
-      let f = word_few kind in
-      let g = behind_few (shape_of kind) number scale (zone_of text start size) n s (clean_zone clean text start size c).short in
-      omega arith
-
-pub around_counted : (text names table : List ℕ) (j : ℕ) (s : Shape) (q f : Bool) (role id : ℕ) (name : List ℕ) → role ≡ get_or table (row_words * j + 2) 0 → id ≡ get_or table (row_words * j + 3) 0
-    → name ≡ (label_at text names table j).name → (r : ℕ) → r ≡ around_length s q f role id name → r ≡ around_at text names table s q f j
-around_counted text names table j s q f role id name a b c r e =
-    e ∙ rw (a, b, c) (unfold label_at label_of row_at in refl)
-
-pub around_sum : (text names table : List ℕ) (j : ℕ) (clean : Bool) (s : Shape) (q f : Bool) (role id : ℕ) (name : List ℕ) → id < 4294967296 → name ≡ (label_at text names table j).name
-    → Clean clean text → Clean clean names → (r : ℕ) → r ≡ around_length s q f role id name → r ≤ 100000
-around_sum text names table j clean s q f role id name i e a b r is =
-    let g = around_few s q f role id name i (clean-as clean name (label_at text names table j).name e (clean_name clean text names table j a b)).short in
-    omega arith
+-- a row that is written by its word alone
+pub single_word : (text names table : List ℕ) (i kind : ℕ) → rows_at table i ≡ 1 → kind ≡ get_or table (row_words * i + 0) 0 → T (is_word kind) → (r : ℕ) → r ≡ word_length kind → r ≡ length_at text names table i
+unfolding row_length own_at behind_length
+single_word text names table i kind one so w r e = single_length table i one r text names (e ∙ rw (← so, word_leaf kind w) (omega arith))
 
 -- ---- the whole tree
 

@@ -5,26 +5,27 @@ use mathlib.Core.List.{List, [], ◌∷◌}
 use Prim.Native.Nat.{ℕ, zero, suc, ◌+◌, ◌-◌, ◌≤◌, ◌<◌}
 use native.Mathlib.Decide.{dec_lt}
 use native.Mathlib.Omega.{arith}
-use lib.ListN.{length, get_or-eq_default}
+use lib.ListN.{length}
 use lib.Dec.{T, leb, eqb, leb→le}
 use borrow.Author.Tests.{lt-ltb, le-ltb}
+use Rattle.tokenizer.specs.Words.{words}
 use Rattle.tokenizer.proofs.Listed.{NoneOf}
 use Rattle.datatype.specs.Kind.{kinds, has}
 use Rattle.datatype.proofs.Tests.{all_below, below_at}
 use Rattle.datatype.proofs.ShapeLaws.{else_value}
 use Rattle.output.specs.Digits.{digits}
 use Rattle.output.proofs.DigitLaws.{digits_at_most}
-use Rattle.display_length.specs.Display.{unit_text, interval_text, mode_text, sorted_text, scale_text}
-use Rattle.display_length.specs.Internal.Steps.{word_lengths, word_length}
+use Rattle.display_length.specs.Display.{kind_word, kind_text, unit_text, interval_text, mode_text, sorted_text, scale_text}
+use Rattle.display_length.specs.Internal.Steps.{word_length}
 
 -- ---- kinds
 
 no_word : (k : ℕ) → kinds ≤ k → word_length k ≡ 0
-unfolding word_length
-no_word k h = get_or-eq_default word_lengths 0 {n = k} h
+unfolding word_length kind_text
+no_word k h = rw (le-ltb k kinds h)
 
 words_few : T (all_below kinds (λ k. leb (word_length k) 15))
-unfolding word_length
+unfolding word_length kind_text kind_word words
 words_few = tt
 
 pub word_few : (k : ℕ) → word_length k ≤ 15
@@ -41,20 +42,26 @@ every =
     ∷ 31 ∷ 32 ∷ 33 ∷ 34 ∷ 35 ∷ 36 ∷ 37 ∷ 38 ∷ 39 ∷ 40 ∷ []
 
 all_kinds : T (all_below kinds (λ k. has k every || eqb (word_length k) 0))
-unfolding word_length
+unfolding word_length kind_text kind_word words
 all_kinds = tt
 
-pub word_rest : (k : ℕ) → NoneOf k (Unit {0}) every → 0 ≡ word_length k
+word_rest : (k : ℕ) → NoneOf k (Unit {0}) every → 0 ≡ word_length k
 word_rest k n = elim (dec_lt k kinds) [ yes h ↦ else_value word_length 0 every all_kinds k h n | no h ↦ sym (no_word k (omega arith)) ]
 
--- ---- units, modes, sorted
+none_long : (s : List ℕ) → 0 ≡ length s → [] ≡ s
+none_long [] e = refl
+none_long (c ∷ s) e = absurd (omega arith)
 
-pub unit_rest : (k : ℕ) → NoneOf k (Unit {0}) (0 ∷ 1 ∷ 2 ∷ []) → 2 ≡ length (unit_text k)
-unfolding unit_text
-unit_rest zero n = absurd (n.0.0.1 refl)
-unit_rest (suc zero) n = absurd (n.0.1 refl)
-unit_rest (suc (suc zero)) n = absurd (n.1 refl)
-unit_rest (suc (suc (suc k))) n = refl
+pub word_rest_text : (k : ℕ) → NoneOf k (Unit {0}) every → [] ≡ kind_text k
+unfolding word_length
+word_rest_text k n = none_long (kind_text k) (word_rest k n)
+
+-- a kind has its word
+pub kind_text_is : (k : ℕ) → k < kinds → kind_text k ≡ kind_word k
+unfolding kind_text
+kind_text_is k h = rw (lt-ltb k kinds h)
+
+-- ---- units, modes, sorted
 
 pub unit_few : (k : ℕ) → length (unit_text k) ≤ 3
 unfolding unit_text
@@ -63,32 +70,16 @@ unit_few (suc zero) = omega arith
 unit_few (suc (suc zero)) = omega arith
 unit_few (suc (suc (suc k))) = omega arith
 
-pub interval_rest : (k : ℕ) → NoneOf k (Unit {0}) (0 ∷ 1 ∷ []) → 12 ≡ length (interval_text k)
-unfolding interval_text
-interval_rest zero n = absurd (n.0.1 refl)
-interval_rest (suc zero) n = absurd (n.1 refl)
-interval_rest (suc (suc k)) n = refl
-
 pub interval_few : (k : ℕ) → length (interval_text k) ≤ 12
 unfolding interval_text
 interval_few zero = omega arith
 interval_few (suc zero) = omega arith
 interval_few (suc (suc k)) = omega arith
 
-pub mode_rest : (k : ℕ) → (k ≡ 0 → ⊥) → 5 ≡ length (mode_text k)
-unfolding mode_text
-mode_rest zero n = absurd (n refl)
-mode_rest (suc k) n = refl
-
 pub mode_few : (k : ℕ) → length (mode_text k) ≤ 6
 unfolding mode_text
 mode_few zero = omega arith
 mode_few (suc k) = omega arith
-
-pub sorted_rest : (k : ℕ) → (k ≡ 0 → ⊥) → 6 ≡ length (sorted_text k)
-unfolding sorted_text
-sorted_rest zero n = absurd (n refl)
-sorted_rest (suc k) n = refl
 
 pub sorted_few : (k : ℕ) → length (sorted_text k) ≤ 8
 unfolding sorted_text
@@ -109,8 +100,8 @@ module _ (s : ℕ) where
   unfolding scale_text
   scale-positive h r e = rw (le-ltb s 128 h) e
 
-  pub scale-few : s < 4294967296 → length (scale_text s) ≤ 11
-  scale-few h =
+  pub scale_few : s < 4294967296 → length (scale_text s) ≤ 11
+  scale_few h =
       elim (dec_lt s 128) [
         | yes l ↦ (let d = digits_few (128 - s) (omega arith) in let e = scale-negative l _ refl in omega arith)
         | no l ↦ (let d = digits_few (s - 128) (omega arith) in let e = scale-positive (omega arith) _ refl in omega arith)

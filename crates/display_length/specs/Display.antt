@@ -2,16 +2,20 @@
 use Rattle.std.specs.Prelude.{Bool, ◌&&◌, ◌||◌, List, [], ◌∷◌, ◌++◌, map, ℕ, zero, suc, ◌+◌, ◌-◌, ◌/◌, ◌%◌, length, get_or, ltb, eqb, if◌then◌else◌}
 use Rattle.tokenizer.specs.Text.{bytes, same}
 use Rattle.tokenizer.specs.Words.{words, ◌is◌}
-use Rattle.tokenizer.specs.declared.TokenKind.TheVariants.{Refused}
+use Rattle.tokenizer.specs.declared.TokenKind.TheVariants.{X}
 use Rattle.output.specs.Digits.{digits}
-use Rattle.datatype.specs.Kind.{Shape, leaf, timestamp, time, interval, fixed, list, fixed_list, struct, union, dictionary, decimal, mapping, run_end_encoded, shape_of}
+use Rattle.datatype.specs.Kind.{kinds, Shape, leaf, timestamp, time, interval, fixed, list, fixed_list, struct, union, dictionary, decimal, mapping, run_end_encoded, shape_of}
 use Rattle.datatype.specs.Tree.{Forest, ∅, node, roots, Label}
 
 -- ---- words and numbers
 
 -- The word of a kind: the listed words begin with the kinds' words, in their order.
 unfoldable pub kind_word : ℕ → List ℕ
-kind_word k = (get_or words k ("" is Refused 8)).word
+kind_word k = (get_or words k ("" is X)).word
+
+-- The same of any number: what is no kind has no word.
+unfoldable pub kind_text : ℕ → List ℕ
+kind_text k = if ltb k kinds then kind_word k else []
 
 unfoldable pub unit_text : ℕ → List ℕ
 unit_text zero = bytes "s"

@@ -1,5 +1,5 @@
--- What is printed in double quotes, and the printed length of a tree (document 01, 'Numbers a caller may get': 17 and 18,
--- in that order).
+-- What is printed in double quotes, and the printed length of a tree (document 01, 'Numbers a caller may get': 17 and
+-- 18, in that order).
 use Rattle.std.specs.Prelude.{Bool, true, false, not, ◌&&◌, ◌||◌, List, [], ◌∷◌, ℕ, leb, if◌then◌else◌}
 use Rattle.tokenizer.specs.Text.{all}
 use Rattle.tokenizer.specs.Answer.{Out, done, refuse}
@@ -8,8 +8,6 @@ use Rattle.datatype.specs.Tree.{Forest, ∅, node, roots, Label}
 use Rattle.datatype.specs.Table.{tree_of}
 use Rattle.row_table.specs.Sound.{is_sound}
 use Rattle.display_length.specs.Display.{default_names, display_length}
-use Rattle.display_length.specs.declared.PrintedLength.{PrintedLength}
-use Rattle.display_length.specs.declared.PrintedLength.TheVariants.{Length, Refused}
 
 -- Whether a shape prints its children's names in double quotes.
 unfoldable pub quotes_names : Shape → List Label → Bool
@@ -49,8 +47,3 @@ printed_length text names table =
     let tree = tree_of text names table in
     let ascii = if quoted_ascii tree then done (display_length tree) else refuse 18 in
     if is_sound text names table then ascii else refuse 17
-
--- What the code's answer means.
-unfoldable pub printed_length_means : PrintedLength → Out ℕ
-printed_length_means (Length n) = done n
-printed_length_means (Refused n) = refuse n

@@ -1,11 +1,10 @@
 // A row's own bytes around its children's types: names, nullability and marks.
-ghost use Rattle.std.specs.Prelude.{◌≡◌, ◌+◌, ◌*◌, ◌≤◌, length};
+ghost use Rattle.std.specs.Prelude.{◌≡◌, ◌≤◌};
 ghost use Rattle.datatype.specs.Kind.{shape_of};
-ghost use Rattle.datatype.specs.Table.{row_words};
-ghost use Rattle.display_length.specs.Internal.Steps.{Clean, label_at, comma_length, nullity_length, field_length, around_length};
+ghost use Rattle.display_length.specs.Internal.Steps.{label_at, comma_length, nullity_length, field_length, around_length};
 
-use crate::rows::{name_at, word};
-use crate::strings::{list_name_length, quoted_length};
+use crate::rows::Row;
+use crate::strings::Part;
 use datatype::kind;
 use datatype::rows::{NON_NULL, ROLE, UNION_ID};
 use output::digits_length;
@@ -14,84 +13,75 @@ use output::digits_length;
 fn comma_length(first: bool) -> usize
     ensures { result ≡ comma_length first }
 {
-    if first {
-        return 0;
-    }
-    2
+    if first { 0 } else { b", ".len() }
 }
 
 // `non-null ` and a space; nullable is the default.
+#[tactic(auto, unfolding(crate::specs::Internal::Steps::nullity_length))]
 fn nullability_length(role: u32) -> usize
     ensures { result ≡ nullity_length role }
 {
     if role == NON_NULL {
-        return 9;
-    }
-    0
-}
-
-// A field without its type: its name, where names print in double quotes, and its nullability.
-fn field_length(clean: bool, quotes: bool, name: &[u8], role: u32) -> usize
-    requires { Clean clean name.now }
-    ensures { result ≡ field_length quotes name.now role }
-{
-    if !quotes {
-        return nullability_length(role);
-    }
-    quoted_length(clean, name) + 2 + nullability_length(role)
-}
-
-// What stands around the type of a child with these words and this name, by its parent's kind.
-fn child_length(
-    kind: u32,
-    clean: bool,
-    quotes: bool,
-    first: bool,
-    role: u32,
-    id: u32,
-    name: &[u8],
-) -> usize
-    requires { Clean clean name.now }
-    ensures { result ≡ around_length (shape_of kind) quotes first role id name.now }
-{
-    match kind {
-        kind::STRUCT | kind::RUN_END_ENCODED => comma_length(first)
-            + field_length(clean, quotes, name, role),
-        kind::UNION => 6 + digits_length(id) + field_length(clean, quotes, name, role),
-        kind::MAP => field_length(clean, quotes, name, role),
-        kind::DICTIONARY => comma_length(first),
-        kind::LIST
-        | kind::LIST_VIEW
-        | kind::FIXED_SIZE_LIST
-        | kind::LARGE_LIST
-        | kind::LARGE_LIST_VIEW => nullability_length(role) + list_name_length(name),
-        _ => 0,
+        b"non-null ".len()
+    } else {
+        0
     }
 }
 
-// What stands around the type of child j.
-pub(crate) fn around_length<'a>(
-    text: &'a [u8],
-    names: &'a [u8],
-    rows: &[u32],
-    clean: bool,
-    kind: u32,
-    quotes: bool,
-    first: bool,
-    j: usize,
-) -> usize
-    requires { Clean clean text.now × Clean clean names.now × (row_words * (j + 1) ≤ length rows.now) }
-    ensures value { result ≡ around_length (shape_of kind) quotes first (label_at text.now names.now rows.now j).role (label_at text.now names.now rows.now j).union_id (label_at text.now names.now rows.now j).name }
-    ensures few { result ≤ 100000 }
-{
-    let name = name_at(text, names, rows, j);
-    child_length(
-        kind,
-        clean,
-        quotes,
-        first,
-        word(rows, j, ROLE),
-        word(rows, j, UNION_ID),
-        name,
-    )
+// What a row says of itself as a child.
+#[derive(Clone, Copy)]
+pub(crate) struct Child<'a> {
+    pub(crate) role: u32,
+    pub(crate) id: u32,
+    pub(crate) name: Part<'a>,
+}
+
+impl<'a> Child<'a> {
+    // A field without its type: its name, where names print in double quotes, and its nullability.
+    #[tactic(auto, using(crate::proofs::StringLaws::quoted_few, crate::proofs::CleanLaws::nullity_few), unfolding(crate::specs::Internal::Steps::field_length))]
+    fn field_length(&self, quotes: bool) -> usize
+        ensures { result ≡ field_length quotes self.now.name.bytes.now self.now.role }
+    {
+        let nullability = nullability_length(self.role);
+        if !quotes {
+            return nullability;
+        }
+        self.name.quoted_length() + b": ".len() + nullability
+    }
+
+    // What stands around the child's type, by its parent's kind.
+    #[tactic(auto, using(crate::proofs::CleanLaws::comma_few, crate::proofs::CleanLaws::nullity_few, crate::proofs::CleanLaws::field_few, crate::proofs::WordLaws::digits_few, crate::proofs::StringLaws::list_name_few), unfolding(crate::specs::Internal::Steps::around_length, datatype::specs::Kind::shape_of))]
+    pub(crate) fn around_length(&self, kind: u32, quotes: bool, first: bool) -> usize
+        ensures value { result ≡ around_length (shape_of kind) quotes first self.now.role self.now.id self.now.name.bytes.now }
+        ensures few { result ≤ 100000 }
+    {
+        match kind {
+            kind::STRUCT | kind::RUN_END_ENCODED => comma_length(first) + self.field_length(quotes),
+            kind::UNION => b", : ()".len() + digits_length(self.id) + self.field_length(quotes),
+            kind::MAP => self.field_length(quotes),
+            kind::DICTIONARY => comma_length(first),
+            kind::LIST
+            | kind::LIST_VIEW
+            | kind::FIXED_SIZE_LIST
+            | kind::LARGE_LIST
+            | kind::LARGE_LIST_VIEW => nullability_length(self.role) + self.name.list_name_length(),
+            _ => 0,
+        }
+    }
+}
+
+impl<'a> Row<'a> {
+    // What the row says of itself as a child.
+    #[tactic(auto, unfolding(crate::specs::Internal::Steps::label_at, datatype::specs::Tree::label_of, subtrees::specs::Internal::Run::row_at))]
+    pub(crate) fn child(&self) -> Child<'a>
+        ensures role { result.role ≡ (label_at self.now.tree.now.text.now self.now.tree.now.names.now self.now.tree.now.rows.now self.now.at).role }
+        ensures id { result.id ≡ (label_at self.now.tree.now.text.now self.now.tree.now.names.now self.now.tree.now.rows.now self.now.at).union_id }
+        ensures name { result.name.bytes.now ≡ (label_at self.now.tree.now.text.now self.now.tree.now.names.now self.now.tree.now.rows.now self.now.at).name }
+    {
+        Child {
+            role: self.word(ROLE),
+            id: self.word(UNION_ID),
+            name: self.name(),
+        }
+    }
 }

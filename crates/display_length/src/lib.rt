@@ -3,10 +3,14 @@
 #![tactic(auto)]
 
 ghost use Rattle.std.specs.Prelude.{◌≡◌};
-ghost use Rattle.display_length.specs.PrintedLength.{printed_length, printed_length_means};
+ghost use Rattle.tokenizer.specs.Answer.{answer_of};
+ghost use Rattle.display_length.specs.PrintedLength.{printed_length};
 
+use crate::rows::{Row, Tree};
+use crate::strings::is_clean;
+use datatype::rows::MAX_LEVELS;
 use row_table::is_sound;
-use tokenizer::refusal;
+use tokenizer::Refusal;
 
 mod around;
 mod ascii;
@@ -17,23 +21,25 @@ mod strings;
 mod tree;
 mod words;
 
-// The printed length, or the refusal's number.
-#[derive(Clone, Copy)]
-pub enum PrintedLength {
-    Length(usize),
-    Refused(u32),
-}
+pub use words::kind_word;
 
 // How many bytes a tree prints.
-pub fn printed_length<'a>(text: &'a [u8], names: &'a [u8], rows: &[u32]) -> PrintedLength
-    ensures { printed_length_means result ≡ printed_length text.now names.now rows.now }
+#[tactic(auto, using(crate::proofs::PrintedLaws::answers))]
+pub fn printed_length<'a>(text: &'a [u8], names: &'a [u8], rows: &[u32]) -> Result<usize, Refusal>
+    ensures { answer_of result ≡ printed_length text.now names.now rows.now }
 {
     if !is_sound(text, names, rows) {
-        return PrintedLength::Refused(refusal::NOT_SOUND);
+        return Err(Refusal::NotSound);
     }
-    let clean = strings::is_clean(text);
-    if !ascii::ascii_tree(text, names, rows, clean) {
-        return PrintedLength::Refused(refusal::NOT_ASCII);
+    let tree = Tree {
+        text,
+        names,
+        rows,
+        clean: is_clean(text),
+    };
+    if !tree.is_ascii() {
+        return Err(Refusal::NotAscii);
     }
-    PrintedLength::Length(tree::tree_length(text, names, rows, clean))
+    let root = Row { tree: &tree, at: 0 };
+    Ok(root.type_length(MAX_LEVELS))
 }

@@ -1,91 +1,65 @@
 // The walk: a row's type is its own bytes and its children's types.
-ghost use Rattle.std.specs.Prelude.{◌≡◌, ◌&&◌, ◌+◌, ◌*◌, ◌≤◌, leb};
-ghost use Rattle.datatype.specs.Kind.{is_word};
-ghost use Rattle.datatype.specs.Limits.{max_levels};
+ghost use Rattle.std.specs.Prelude.{◌≡◌, ◌+◌, ◌*◌, ◌≤◌};
 ghost use Rattle.datatype.specs.Table.{rows_at};
-ghost use Rattle.display_length.specs.Internal.Steps.{Clean, Subtree, length_at};
+ghost use Rattle.display_length.specs.Internal.Steps.{Subtree, length_at};
 
-use crate::around::around_length;
-use crate::names::quotes_names;
-use crate::own::row_length;
-use crate::rows::{subtree, word};
+use crate::names::Run;
+use crate::rows::Row;
 use crate::words::word_length;
 use datatype::kind::is_word;
-use datatype::rows::{KIND, MAX_LEVELS};
+use datatype::rows::KIND;
 
-// Whether a row of a kind, with so many rows in its subtree, is written by its word alone: most rows are.
-fn single_word(size: usize, kind: u32) -> bool
-    ensures { result ≡ (leb size 1 && is_word kind) }
-{
-    if 1 < size {
-        return false;
-    }
-    is_word(kind)
-}
-
-// How many bytes the type of row i has, with all that stands below it. No sum overflows: a row has at most 100,000 bytes
-// of its own, and as many around its type.
-#[cycle(lengths)]
-fn nested_length<'a>(
-    text: &'a [u8],
-    names: &'a [u8],
-    rows: &[u32],
-    clean: bool,
-    level: usize,
-    i: usize,
-) -> usize
-    requires { Subtree rows.now level i × Clean clean text.now × Clean clean names.now }
-    ensures value { result ≡ length_at text.now names.now rows.now i }
-    ensures few { result + 100000 ≤ 200000 * rows_at rows.now i }
-{
-    let kind = word(rows, i, KIND);
-    let end = i + subtree(rows, i);
-    let quotes = quotes_names(text, names, rows, kind, i + 1, end);
-    let mut total = row_length(text, rows, clean, i);
-    let mut j = i + 1;
-    while j < end {
-        let around = around_length(text, names, rows, clean, kind, quotes, j == i + 1, j);
-        let size = subtree(rows, j);
-        let own = word(rows, j, KIND);
-        let below = if single_word(size, own) {
-            word_length(own)
-        } else {
-            type_length(text, names, rows, clean, level - 1, j)
+impl Row<'_> {
+    // How many bytes the row's type has, with all that stands below it. No sum overflows: a row has at most 100,000
+    // bytes of its own, and as many around its type.
+    #[cycle(lengths)]
+    fn nested_length(&self, level: usize) -> usize
+        requires { Subtree self.now.tree.now.rows.now level self.now.at }
+        ensures value { result ≡ length_at self.now.tree.now.text.now self.now.tree.now.names.now self.now.tree.now.rows.now self.now.at }
+        ensures few { result + 100000 ≤ 200000 * rows_at self.now.tree.now.rows.now self.now.at }
+    {
+        let kind = self.word(KIND);
+        let children = Run {
+            tree: self.tree,
+            start: self.at + 1,
+            end: self.at + self.subtree(),
         };
-        total = total + around + below;
-        j = j + size;
+        let quotes = children.quotes_names(kind);
+        let mut total = self.own_length();
+        // A step is a whole subtree, so no range has the places.
+        let mut at = children.start;
+        while at < children.end {
+            let row = Row {
+                tree: self.tree,
+                at,
+            };
+            let around = row
+                .child()
+                .around_length(kind, quotes, at == children.start);
+            let below = row.type_length(level - 1);
+            total = total + around + below;
+            at += row.subtree();
+        }
+        total
     }
-    total
-}
 
-// The same; a row with nothing below it is not walked.
-#[cycle(lengths)]
-fn type_length<'a>(
-    text: &'a [u8],
-    names: &'a [u8],
-    rows: &[u32],
-    clean: bool,
-    level: usize,
-    i: usize,
-) -> usize
-    requires { Subtree rows.now level i × Clean clean text.now × Clean clean names.now }
-    ensures value { result ≡ length_at text.now names.now rows.now i }
-    ensures few { result + 100000 ≤ 200000 * rows_at rows.now i }
-{
-    if subtree(rows, i) == 1 {
-        return row_length(text, rows, clean, i);
+    // The same: a row with nothing below it is not walked, and most of those are their word alone. It is made part of
+    // the walk.
+    #[inline(always)]
+    #[cycle(lengths)]
+    #[tactic(auto, using(crate::proofs::TreeLaws::single_length, crate::proofs::TreeLaws::single_word, crate::proofs::WordLaws::word_few))]
+    pub(crate) fn type_length(&self, level: usize) -> usize
+        requires { Subtree self.now.tree.now.rows.now level self.now.at }
+        ensures value { result ≡ length_at self.now.tree.now.text.now self.now.tree.now.names.now self.now.tree.now.rows.now self.now.at }
+        ensures few { result + 100000 ≤ 200000 * rows_at self.now.tree.now.rows.now self.now.at }
+    {
+        if self.subtree() != 1 {
+            return self.nested_length(level);
+        }
+        let kind = self.word(KIND);
+        if is_word(kind) {
+            return word_length(kind);
+        }
+        self.own_length()
     }
-    nested_length(text, names, rows, clean, level, i)
-}
-
-// How many bytes a tree's type has. As `type_length` does, but that one is then called from a single place, which the
-// compiler makes part of the walk.
-pub(crate) fn tree_length<'a>(text: &'a [u8], names: &'a [u8], rows: &[u32], clean: bool) -> usize
-    requires { Subtree rows.now max_levels 0 × Clean clean text.now × Clean clean names.now }
-    ensures { result ≡ length_at text.now names.now rows.now 0 }
-{
-    if subtree(rows, 0) == 1 {
-        return row_length(text, rows, clean, 0);
-    }
-    nested_length(text, names, rows, clean, MAX_LEVELS, 0)
 }

@@ -1,105 +1,119 @@
 // The lengths of words that stand for numbers: kinds, units, modes, scales.
 ghost use Rattle.std.specs.Prelude.{◌≡◌, length};
-ghost use Rattle.display_length.specs.Display.{unit_text, interval_text, mode_text, sorted_text, scale_text};
+ghost use Rattle.display_length.specs.Display.{kind_text, unit_text, interval_text, mode_text, sorted_text, scale_text};
 ghost use Rattle.display_length.specs.Internal.Steps.{word_length};
 
 use datatype::kind;
 use output::digits_length;
 
-// How long a kind's word is.
-pub(crate) fn word_length(kind: u32) -> usize
-    ensures { result ≡ word_length kind }
+// A kind's word; what is no kind has none.
+#[tactic(auto, unfolding(crate::specs::Display::kind_text, crate::specs::Display::kind_word, tokenizer::specs::Words::words))]
+pub fn kind_word(kind: u32) -> &'static [u8]
+    ensures { result.now ≡ kind_text kind }
 {
     match kind {
-        kind::NULL => 4,
-        kind::BOOLEAN => 7,
-        kind::INT8 => 4,
-        kind::INT16 => 5,
-        kind::INT32 => 5,
-        kind::INT64 => 5,
-        kind::UINT8 => 5,
-        kind::UINT16 => 6,
-        kind::UINT32 => 6,
-        kind::UINT64 => 6,
-        kind::FLOAT16 => 7,
-        kind::FLOAT32 => 7,
-        kind::FLOAT64 => 7,
-        kind::TIMESTAMP => 9,
-        kind::DATE32 => 6,
-        kind::DATE64 => 6,
-        kind::TIME32 => 6,
-        kind::TIME64 => 6,
-        kind::DURATION => 8,
-        kind::INTERVAL => 8,
-        kind::BINARY => 6,
-        kind::FIXED_SIZE_BINARY => 15,
-        kind::LARGE_BINARY => 11,
-        kind::BINARY_VIEW => 10,
-        kind::UTF8 => 4,
-        kind::LARGE_UTF8 => 9,
-        kind::UTF8_VIEW => 8,
-        kind::LIST => 4,
-        kind::LIST_VIEW => 8,
-        kind::FIXED_SIZE_LIST => 13,
-        kind::LARGE_LIST => 9,
-        kind::LARGE_LIST_VIEW => 13,
-        kind::STRUCT => 6,
-        kind::UNION => 5,
-        kind::DICTIONARY => 10,
-        kind::DECIMAL32 => 9,
-        kind::DECIMAL64 => 9,
-        kind::DECIMAL128 => 10,
-        kind::DECIMAL256 => 10,
-        kind::MAP => 3,
-        kind::RUN_END_ENCODED => 13,
-        _ => 0,
+        kind::NULL => b"Null",
+        kind::BOOLEAN => b"Boolean",
+        kind::INT8 => b"Int8",
+        kind::INT16 => b"Int16",
+        kind::INT32 => b"Int32",
+        kind::INT64 => b"Int64",
+        kind::UINT8 => b"UInt8",
+        kind::UINT16 => b"UInt16",
+        kind::UINT32 => b"UInt32",
+        kind::UINT64 => b"UInt64",
+        kind::FLOAT16 => b"Float16",
+        kind::FLOAT32 => b"Float32",
+        kind::FLOAT64 => b"Float64",
+        kind::TIMESTAMP => b"Timestamp",
+        kind::DATE32 => b"Date32",
+        kind::DATE64 => b"Date64",
+        kind::TIME32 => b"Time32",
+        kind::TIME64 => b"Time64",
+        kind::DURATION => b"Duration",
+        kind::INTERVAL => b"Interval",
+        kind::BINARY => b"Binary",
+        kind::FIXED_SIZE_BINARY => b"FixedSizeBinary",
+        kind::LARGE_BINARY => b"LargeBinary",
+        kind::BINARY_VIEW => b"BinaryView",
+        kind::UTF8 => b"Utf8",
+        kind::LARGE_UTF8 => b"LargeUtf8",
+        kind::UTF8_VIEW => b"Utf8View",
+        kind::LIST => b"List",
+        kind::LIST_VIEW => b"ListView",
+        kind::FIXED_SIZE_LIST => b"FixedSizeList",
+        kind::LARGE_LIST => b"LargeList",
+        kind::LARGE_LIST_VIEW => b"LargeListView",
+        kind::STRUCT => b"Struct",
+        kind::UNION => b"Union",
+        kind::DICTIONARY => b"Dictionary",
+        kind::DECIMAL32 => b"Decimal32",
+        kind::DECIMAL64 => b"Decimal64",
+        kind::DECIMAL128 => b"Decimal128",
+        kind::DECIMAL256 => b"Decimal256",
+        kind::MAP => b"Map",
+        kind::RUN_END_ENCODED => b"RunEndEncoded",
+        _ => b"",
     }
 }
 
+// How long a kind's word is.
+#[tactic(auto, unfolding(crate::specs::Internal::Steps::word_length))]
+pub(crate) fn word_length(kind: u32) -> usize
+    ensures { result ≡ word_length kind }
+{
+    kind_word(kind).len()
+}
+
 // How long a time unit is: s, ms, µs or ns.
+#[tactic(auto, unfolding(crate::specs::Display::unit_text))]
 pub(crate) fn unit_length(unit: u32) -> usize
     ensures { result ≡ length (unit_text unit) }
 {
     match unit {
-        0 => 1,
-        1 => 2,
-        2 => 3,
-        _ => 2,
+        0 => b"s".len(),
+        1 => b"ms".len(),
+        2 => b"\xC2\xB5s".len(),
+        _ => b"ns".len(),
     }
 }
 
 // How long an interval's unit is: YearMonth, DayTime or MonthDayNano.
+#[tactic(auto, unfolding(crate::specs::Display::interval_text))]
 pub(crate) fn interval_length(unit: u32) -> usize
     ensures { result ≡ length (interval_text unit) }
 {
     match unit {
-        0 => 9,
-        1 => 7,
-        _ => 12,
+        0 => b"YearMonth".len(),
+        1 => b"DayTime".len(),
+        _ => b"MonthDayNano".len(),
     }
 }
 
 // How long a union's mode is: Sparse or Dense.
+#[tactic(auto, unfolding(crate::specs::Display::mode_text))]
 pub(crate) fn mode_length(mode: u32) -> usize
     ensures { result ≡ length (mode_text mode) }
 {
-    if mode == 0 {
-        return 6;
+    match mode {
+        0 => b"Sparse".len(),
+        _ => b"Dense".len(),
     }
-    5
 }
 
 // How long unsorted or sorted is.
+#[tactic(auto, unfolding(crate::specs::Display::sorted_text))]
 pub(crate) fn sorted_length(sorted: u32) -> usize
     ensures { result ≡ length (sorted_text sorted) }
 {
-    if sorted == 0 {
-        return 8;
+    match sorted {
+        0 => b"unsorted".len(),
+        _ => b"sorted".len(),
     }
-    6
 }
 
 // How long a decimal's scale is, of which the word is 128 more.
+#[tactic(auto, using(crate::proofs::WordLaws::digits_few), unfolding(crate::specs::Display::scale_text))]
 pub(crate) fn scale_length(scale: u32) -> usize
     ensures { result ≡ length (scale_text scale) }
 {

@@ -1,7 +1,6 @@
 -- The verdict of a tree depends on its kinds and its nesting alone.
-use Rattle.std.specs.Prelude.{if◌then◌else◌}
+use Rattle.std.specs.Prelude.{Option, Some, None, if◌then◌else◌}
 use mathlib.Core.Path.{◌≡◌, refl, sym, ap, ◌∙◌}
-use mathlib.Core.Option.{Option, none, some}
 use Prim.Native.Nat.{ℕ, suc, ◌+◌}
 use Rattle.datatype.specs.Kind.{shape_of}
 use Rattle.datatype.specs.Tree.{Forest, ∅, node, count, map_forest, Label}
@@ -13,11 +12,11 @@ kinds_of f = map_forest (λ l. l.kind) f
 
 -- the first row that breaks a rule, by the kinds alone
 unfoldable pub broken_kind : Asked → ℕ → Forest ℕ → Option ℕ
-broken_kind asked i ∅ = none
+broken_kind asked i ∅ = None
 broken_kind asked i (node k kids next) =
     let below = broken_kind (asked_of_first (shape_of k)) (suc i) kids in
     let beyond = broken_kind anything (i + suc (count kids)) next in
-    if kind_allowed asked k then first below beyond else some i
+    if kind_allowed asked k then first below beyond else Some i
 
 count_kinds : (f : Forest Label) → count (kinds_of f) ≡ count f
 unfolding kinds_of

@@ -1,13 +1,10 @@
 -- The layout verdict (document 01, 'The layout verdict').
-use Rattle.std.specs.Prelude.{Bool, true, ◌&&◌, List, ℕ, suc, ◌+◌, leb, if◌then◌else◌}
-use Rattle.std.proofs.Math.Option.{Option, none, some}
+use Rattle.std.specs.Prelude.{Option, Some, None, Bool, true, ◌&&◌, List, ℕ, suc, ◌+◌, leb, if◌then◌else◌}
 use Rattle.tokenizer.specs.Answer.{Out, done, refuse}
 use Rattle.datatype.specs.Kind.{Shape, leaf, timestamp, time, interval, fixed, list, fixed_list, struct, union, dictionary, decimal, mapping, run_end_encoded, shape_of}
 use Rattle.datatype.specs.Tree.{Forest, ∅, node, count, Label}
 use Rattle.datatype.specs.Table.{tree_of}
 use Rattle.row_table.specs.Sound.{is_sound}
-use Rattle.layout.specs.declared.Verdict.{Verdict}
-use Rattle.layout.specs.declared.Verdict.TheVariants.{Yes, Row, Refused}
 
 -- What the layout asks of a row's kind.
 pub data Asked : Type 0 where
@@ -37,23 +34,17 @@ asked_of_first mapping = anything
 asked_of_first run_end_encoded = run_end
 
 abbrev pub first : Option ℕ → Option ℕ → Option ℕ
-first none later = later
-first (some i) later = some i
+first None later = later
+first (Some i) later = Some i
 
 -- The first row that breaks a rule, of a run of trees whose first row is row i and is asked something.
 unfoldable pub broken_row : Asked → ℕ → Forest Label → Option ℕ
-broken_row asked i ∅ = none
+broken_row asked i ∅ = None
 broken_row asked i (node l kids next) =
     let below = broken_row (asked_of_first (shape_of l.kind)) (suc i) kids in
     let beyond = broken_row anything (i + suc (count kids)) next in
-    if kind_allowed asked l.kind then first below beyond else some i
+    if kind_allowed asked l.kind then first below beyond else Some i
 
--- The verdict of a sound tree: none is yes, else the first row that breaks a rule; 17 if the tree is not sound.
+-- The verdict of a sound tree: None is yes, else the first row that breaks a rule; 17 if the tree is not sound.
 unfoldable pub verdict_of : List ℕ → List ℕ → List ℕ → Out (Option ℕ)
 verdict_of text names table = if is_sound text names table then done (broken_row anything 0 (tree_of text names table)) else refuse 17
-
--- What the code's answer means.
-unfoldable pub verdict_means : Verdict → Out (Option ℕ)
-verdict_means Yes = done none
-verdict_means (Row i) = done (some i)
-verdict_means (Refused n) = refuse n

@@ -2,7 +2,7 @@
 -- they are.
 use mathlib.Core.Path.{◌≡◌, sym, ap, ◌∙◌}
 use mathlib.Core.List.{List, [], ◌∷◌, ◌++◌}
-use Prim.Native.Nat.{ℕ, zero, suc, ◌+◌, ◌/◌, ◌%◌, ◌^◌, ◌≤◌, ◌<◌}
+use Prim.Native.Nat.{ℕ, zero, suc, ◌+◌, ◌/◌, ◌%◌, ◌^◌, ◌*◌, ◌≤◌, ◌<◌}
 use native.Mathlib.Decide.{dec_lt}
 use native.Mathlib.Omega.{arith}
 use lib.ListN.{length, length-append}
@@ -48,6 +48,13 @@ digits_between (suc k) n h l =
     let e = digits_length_lem n (omega arith) in
     let f = digits_between k (n / 10) (omega arith) (omega arith) in
     omega arith
+
+-- The logarithm to base 10, and one, is how many digits there are.
+pub log_digits : (k n : ℕ) → 10 ^ k ≤ n → n < 10 * 10 ^ k → k + 1 ≡ length (digits n)
+log_digits zero n h l = one_digit n (omega arith)
+log_digits (suc k) n h l = let e = digits_between k n h (omega arith) in omega arith
+
+pub ruleset how_many = (one_digit, log_digits)
 
 -- A number below a power of ten has no more digits than the power says.
 pub digits_at_most : (k n : ℕ) → n < 10 ^ suc k → length (digits n) ≤ suc k

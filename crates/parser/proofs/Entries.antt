@@ -49,9 +49,6 @@ module _ (rows : List ℕ) (row end : ℕ) (n : Nests rows row (end - row)) (h :
   unfolding role_of row_at
   role-is = let t = turn rows row end n h in rw t.is
 
-  pub row_room : row_words * (row + 1) ≤ length rows
-  row_room = let m = n.room in omega arith
-
 -- ---- what was read is there
 
 module _ (o : Out Tree) (n k at left : ℕ) (before after : List ℕ) (g : GotTree o n k at left before after) (fits : row_words * (at + left) ≤ length before) where

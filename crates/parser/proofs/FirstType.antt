@@ -1,5 +1,5 @@
 -- The type that a text begins with: the buffer, and each return of the public function as a law.
-use mathlib.Core.Path.{◌≡◌, sym, ap, ◌∙◌}
+use mathlib.Core.Path.{◌≡◌, ap, ◌∙◌}
 use mathlib.Core.Bool.{true, false}
 use mathlib.Core.List.{List, ◌++◌}
 use Prim.Native.Nat.{ℕ, suc, ◌+◌, ◌≤◌, ◌<◌}
@@ -7,15 +7,18 @@ use native.Mathlib.Omega.{arith}
 use lib.ListN.{length, drop, replicate}
 use lib.Seq.{sets-eq}
 use borrow.Author.Tests.{le-leb, lt-leb}
-use Rattle.tokenizer.specs.Answer.{done, refuse}
+use Rattle.std.specs.Prelude.{Ok, Err}
+use Rattle.tokenizer.specs.Answer.{done, refuse, number_of}
+use Rattle.tokenizer.specs.declared.refusal.Refusal as R
 use Rattle.tokenizer.specs.Utf8.{is_utf8}
 use Rattle.datatype.specs.Tree.{Forest, ∅, node, count, Row}
 use Rattle.datatype.specs.Table.{table_of, rows_lent}
 use Rattle.datatype.proofs.Table.{length_table}
-use Rattle.parser.specs.Parse.{type_at, first_type, read_of, read_means, rows_of}
-use Rattle.parser.specs.Internal.Steps.{Room}
-use Rattle.parser.specs.declared.Read.TheVariants as R
-use Rattle.parser.proofs.Answers.{GotTree}
+use Rattle.parser.specs.Parse.{type_at, first_type, read_of, rows_of}
+use Rattle.parser.specs.Internal.Steps.{extent, Room, Meets}
+use Rattle.parser.specs.declared.Extent.{Extent}
+use Rattle.parser.proofs.Answers.{Read, got-tree, lost-tree}
+use Rattle.parser.proofs.Readers.{meets-refused}
 
 -- ---- the rows lent
 
@@ -39,32 +42,34 @@ module _ (text : List ℕ) (rows : ℕ) where
     unfolding first_type
     first-type u = rw (le-leb (length text) 16384 short, u)
 
--- ---- what the public function answers and leaves
+-- ---- what the text's reader answers
 
 module _ (text before : List ℕ) where
   abbrev rows : ℕ
   rows = rows_lent (length before)
 
-  module _ (x : ℕ) (after : List ℕ) (e : first_type text rows ≡ refuse x) (w : after ≡ replicate (length before) 0) where
-    pub first-refused : (read_means (R.Refused x) ≡ read_of (first_type text rows)) × (after ≡ rows_of before (first_type text rows))
-    unfolding read_of read_means rows_of
-    first-refused = (rw e, rw e w)
+  module _ (after : List ℕ) where
+    pub text-refused : (e : R.Refusal) → first_type text rows ≡ refuse (number_of e) → Meets (first_type text rows) 0 rows before (Err e) after
+    text-refused e w = meets-refused 0 rows before after (first_type text rows) e w
 
-  module _ (short : length text ≤ 16384) (u : is_utf8 text ≡ true) (left : ℕ) (l : left ≡ rows) where
-    begins : first_type text rows ≡ type_at text 64 0 left
-    begins = first-type text rows short u ∙ ap (λ (n : ℕ). type_at text 64 0 n) (sym l)
+    pub text-read : (left : ℕ) (a : Read) → length text ≤ 16384 → is_utf8 text ≡ true → left ≡ rows → Meets (type_at text 64 0 left) 0 left before a after
+        → Meets (first_type text rows) 0 rows before a after
+    text-read left a short u l h = rw (first-type text rows short u, ← l) h
 
-    pub type-refused : (x : ℕ) → type_at text 64 0 left ≡ refuse x → first_type text rows ≡ refuse x
-    type-refused x e = begins ∙ e
+    -- what the public function leaves
+    pub first-refused : (e : R.Refusal) (cleared : List ℕ) → Meets (first_type text rows) 0 rows before (Err e) after → cleared ≡ replicate (length before) 0
+        → (refuse (number_of e) ≡ read_of (first_type text rows)) × (cleared ≡ rows_of before (first_type text rows))
+    unfolding read_of rows_of
+    first-refused e cleared h w = let f = lost-tree 0 rows before after (first_type text rows) e h in (rw f, rw f w)
 
-    module _ (n k : ℕ) (after : List ℕ) (g : GotTree (type_at text 64 0 left) n k 0 left before after) where
-      pub first_read : (read_means (R.Tree n k) ≡ read_of (first_type text rows)) × (after ≡ rows_of before (first_type text rows))
-      unfolding read_of read_means rows_of rows_lent
-      first_read =
-          let f : Forest Row = node g.row g.kids ∅ in
-          let e = begins ∙ g.is in
-          let m = g.stored.room in
-          let fits : 0 + length (table_of f) ≤ length before = omega (arith, length_table f) in
-          let z : 0 + length (table_of f) ≡ length (table_of f) = omega arith in
-          let c : k ≡ suc (count g.kids) = let r = g.rows in omega arith in
-          (rw e (ap (λ (i : ℕ). done (record { next = n; rows = i })) c), rw e (g.stored.rows ∙ sets-eq (table_of f) before 0 fits ∙ ap (λ (i : ℕ). table_of f ++ drop i before) z))
+    pub first_read : (e : Extent) → Meets (first_type text rows) 0 rows before (Ok e) after
+        → (done e ≡ read_of (first_type text rows)) × (after ≡ rows_of before (first_type text rows))
+    unfolding read_of rows_of rows_lent
+    first_read e h =
+        let g = got-tree 0 rows before after (first_type text rows) e h in
+        let f : Forest Row = node g.row g.kids ∅ in
+        let m = g.stored.room in
+        let fits : 0 + length (table_of f) ≤ length before = omega (arith, length_table f) in
+        let z : 0 + length (table_of f) ≡ length (table_of f) = omega arith in
+        let c : e.used ≡ suc (count g.kids) = let r = g.rows in omega arith in
+        (rw g.is (ap (λ (i : ℕ). done (extent e.next i)) c), rw g.is (g.stored.rows ∙ sets-eq (table_of f) before 0 fits ∙ ap (λ (i : ℕ). table_of f ++ drop i before) z))

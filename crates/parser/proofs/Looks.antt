@@ -7,12 +7,11 @@ use Prim.Native.Nat.{ℕ}
 use native.Mathlib.Omega.{arith}
 use lib.Dec.{eqb}
 use Rattle.tokenizer.specs.Answer.{Refusal, refused, done, refuse}
-use Rattle.tokenizer.specs.Token.{token_at, sort_of}
-use Rattle.tokenizer.specs.declared.Token.{Token}
+use Rattle.tokenizer.specs.Token.{Standing, token_at, sort_of}
 use Rattle.parser.specs.Parse.{refusal_of, need, stands}
 
 module _ (text : List ℕ) (sort at : ℕ) where
-  pub needed-stands : (t : Token) → need text sort at ≡ done t → stands text sort at ≡ true
+  pub needed-stands : (t : Standing) → need text sort at ≡ done t → stands text sort at ≡ true
   unfolding need stands
   needed-stands t = go (eqb (sort_of (token_at text at).kind) sort)
     where

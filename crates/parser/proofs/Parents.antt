@@ -5,15 +5,13 @@ use Prim.Native.Nat.{ℕ, suc, ◌+◌, ◌-◌, ◌^◌}
 use native.Mathlib.Omega.{arith}
 use borrow.Author.Tests.{eq-eqb, ne_eqb}
 use Rattle.tokenizer.specs.Answer.{Out, done, refuse, ◌>>=◌}
-use Rattle.tokenizer.specs.Token.{value_of, lparen, rparen, comma, map_sorted}
-use Rattle.tokenizer.specs.declared.Token.{Token}
+use Rattle.tokenizer.specs.Token.{Standing, value_of, lparen, rparen, comma, map_sorted}
 use Rattle.datatype.specs.Kind.{entries_refusal}
 use Rattle.datatype.specs.Tree.{Forest, ∅, node, count, roots, Row}
 use Rattle.parser.specs.Parse.{Tree, bare_row, need, number_in, close_at, field_at, list_field, fixed_list_field, entries_at, run_end_fields, list_at, fixed_size_list_at, dictionary_at, map_at, run_end_encoded_at}
 use Rattle.parser.specs.Internal.Steps.{Stored, Meets, Closed}
-use Rattle.parser.specs.declared.Read.{Read}
 use Rattle.parser.proofs.Stores.{written_behind}
-use Rattle.parser.proofs.Answers.{behind, GotValue, GotTree, GotFields}
+use Rattle.parser.proofs.Answers.{Read, behind, GotWord, GotTree, GotFields}
 use Rattle.parser.proofs.Readers.{closes}
 
 -- two trees, one behind the other
@@ -53,7 +51,7 @@ module _ (text : List ℕ) (type : ℕ → ℕ → Out Tree) (k at left : ℕ) w
   unfolding run_end_encoded_at
   run-end-1 x e = rw e refl
 
-  module _ (p : Token) (b : ℕ) (e : need text lparen at ≡ done (behind p b)) where
+  module _ (p : Standing) (b : ℕ) (e : need text lparen at ≡ done (behind p b)) where
     pub list-2 : (x : ℕ) → list_field text type b left ≡ refuse x → list_at text type k at left ≡ refuse x
     unfolding list_at
     list-2 x f = rw (e, f) refl
@@ -68,7 +66,7 @@ module _ (text : List ℕ) (type : ℕ → ℕ → Out Tree) (k at left : ℕ) w
     unfolding fixed_size_list_at
     fixed-list-2 x f = rw (e, f) refl
 
-    module _ (v c : ℕ) (l : GotValue (number_in text 0 (2 ^ 31 - 1) b) v c) where
+    module _ (v c : ℕ) (l : GotWord (number_in text 0 (2 ^ 31 - 1) b) v c) where
       pub fixed-list-3 : (x : ℕ) → fixed_list_field text type c left ≡ refuse x → fixed_size_list_at text type k at left ≡ refuse x
       unfolding fixed_size_list_at
       fixed-list-3 x f = rw (e, l.is, f) refl
@@ -89,7 +87,7 @@ module _ (text : List ℕ) (type : ℕ → ℕ → Out Tree) (k at left : ℕ) w
       unfolding dictionary_at
       dictionary-3 x f = rw (e, g.is, f) refl
 
-      module _ (c : Token) (d : ℕ) (f : need text comma n ≡ done (behind c d)) where
+      module _ (c : Standing) (d : ℕ) (f : need text comma n ≡ done (behind c d)) where
         pub dictionary-4 : (x : ℕ) → type d (left - used) ≡ refuse x → dictionary_at text type k at left ≡ refuse x
         unfolding dictionary_at
         dictionary-4 x h = rw (e, g.is, f, ← g.rows, h) refl
@@ -123,11 +121,11 @@ module _ (text : List ℕ) (type : ℕ → ℕ → Out Tree) (k at left : ℕ) w
         pub map-4 : (y : ℕ) → need text comma n ≡ refuse y → map_at text type k at left ≡ refuse y
         map-4 y f = map-entries ∙ rw f refl
 
-        module _ (c : Token) (d : ℕ) (f : need text comma n ≡ done (behind c d)) where
+        module _ (c : Standing) (d : ℕ) (f : need text comma n ≡ done (behind c d)) where
           pub map-5 : (y : ℕ) → need text map_sorted d ≡ refuse y → map_at text type k at left ≡ refuse y
           map-5 y h = map-entries ∙ rw (f, h) refl
 
-          pub map-6 : (v m : ℕ) (after : List ℕ) (a : Read) → GotValue (need text map_sorted d) v m → Closed (need text rparen m) row used (bare_row k v 0 0 0) mid a after
+          pub map-6 : (v m : ℕ) (after : List ℕ) (a : Read) → GotWord (need text map_sorted d) v m → Closed (need text rparen m) row used (bare_row k v 0 0 0) mid a after
               → Meets (map_at text type k at left) row (left + 1) before a after
           map-6 v m after a h w =
               rw (map-entries, f, h.is, h.value)

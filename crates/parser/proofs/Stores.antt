@@ -30,16 +30,6 @@ sets_row xs i k n p s zs zl =
     let e11 : i + 11 ≡ suc (suc (suc (suc (suc (suc (suc (suc (suc (suc (suc i)))))))))) = omega arith in
     rw (e1, e2, e3, e4, e5, e6, e7, e8, e9, e10, e11)
 
--- the five stores that make a row a field's are two runs
-pub sets_field : (xs : List ℕ) (i role id home start size : ℕ)
-    → set (set (set (set (set xs (i + 2) role) (i + 3) id) (i + 6) home) (i + 7) start) (i + 8) size
-    ≡ sets (sets xs (i + 2) (role ∷ id ∷ [])) (i + 6) (home ∷ start ∷ size ∷ [])
-sets_field xs i role id home start size =
-    let e3 : i + 3 ≡ suc (i + 2) = omega arith in
-    let e7 : i + 7 ≡ suc (i + 6) = omega arith in
-    let e8 : i + 8 ≡ suc (suc (i + 6)) = omega arith in
-    rw (e3, e7, e8)
-
 -- a store below a run may come first or last
 pub sets_set : (xs : List ℕ) (j v i : ℕ) (vs : List ℕ) → j < i → sets (set xs j v) i vs ≡ set (sets xs i vs) j v
 sets_set xs j v i [] h = refl

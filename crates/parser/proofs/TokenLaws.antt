@@ -1,83 +1,78 @@
 -- Tokens where one is needed or looked for: each return of the small functions as a law.
-use Rattle.std.specs.Prelude.{if◌then◌else◌}
+use Rattle.std.specs.Prelude.{if◌then◌else◌, Some, None, nat_abs}
 use mathlib.Core.Path.{◌≡◌, refl, sym, ap, ◌∙◌, subst}
-use mathlib.Core.Bool.{Bool, true, false, not}
+use mathlib.Core.Bool.{true, false, not}
 use mathlib.Core.List.{List, [], ◌∷◌}
-use Prim.Native.Nat.{ℕ, ◌+◌, ◌%◌, ◌≤◌, ◌<◌}
+use Prim.Native.Nat.{ℕ, ◌+◌, ◌-◌, ◌≤◌, ◌<◌}
 use native.Mathlib.Omega.{arith}
-use lib.ListN.{length, get_or, get_or-eq_default}
+use lib.ListN.{length, get_or}
+use lib.IntN.{ℤ, pos, negsuc}
 use lib.Dec.{T, eqb}
-use borrow.Author.Tests.{eq-eqb, ne_eqb, le-leb, lt-leb}
+use borrow.Author.Tests.{eq-eqb, ne_eqb}
 use types.Run.{OneOf, miss}
 use mir.Val.{has_key}
 use denote.Enum.Declared.{tag_of}
 use Rattle.tokenizer.specs.contracts.TokenKind.{the_type}
-use Rattle.tokenizer.specs.Answer.{done, refuse}
+use Rattle.tokenizer.specs.Answer.{Out, done, refuse}
 use Rattle.tokenizer.specs.Places.{after_spaces}
-use Rattle.tokenizer.specs.Token.{token, token_at, sort_of, value_of, no_token, integer, nullability}
+use Rattle.tokenizer.specs.Token.{Standing, token, token_at, token_or_refusal, sort_of, value_of, signed, is_below_zero, no_token, integer, nullability}
 use Rattle.tokenizer.specs.declared.Token.{Token}
 use Rattle.tokenizer.specs.declared.TokenKind.{TokenKind}
-use Rattle.tokenizer.specs.declared.TokenKind.TheVariants.{LParen, RParen, Comma, Colon, Integer, DoubleQuotedString, SingleQuotedString, DataType, TimeUnit, IntervalUnit, UnionMode, MapSorted, Nullability, Field, Some, None, X, Refused}
+use Rattle.tokenizer.specs.declared.TokenKind.TheVariants as K
 use Rattle.tokenizer.proofs.Marks as Marks
 use Rattle.tokenizer.proofs.Basics.{of_true}
 use Rattle.tokenizer.proofs.Tokens.{token-spaces, token_end}
 use Rattle.tokenizer.proofs.Runs.{spaces-stop}
-use Rattle.parser.specs.Parse.{refusal_of, need, stands, role_at, after_role, number_in}
-use Rattle.parser.specs.Internal.Steps.{word, number, span, mark_sort, is_mark, step_of, look_of, valued_of, number_of, quoted_of}
-use Rattle.parser.specs.declared.Step.TheVariants as S
-use Rattle.parser.specs.declared.Look.TheVariants as L
-use Rattle.parser.specs.declared.Valued.TheVariants as W
-use Rattle.parser.specs.declared.Number.TheVariants as N
-use Rattle.parser.specs.declared.Quoted.TheVariants as Q
+use Rattle.parser.specs.Parse.{refusal_of, need, stands, role_at, after_role}
+use Rattle.parser.specs.Internal.Steps.{mark_sort, is_mark, next_of, look_of, word_of, integer_of, signed_of, span_of}
+use Rattle.parser.specs.declared.Word.{Word}
+use Rattle.parser.specs.declared.Span.{Span}
+use Rattle.parser.proofs.Answers.{standing, got_token, lost_token}
 use Rattle.parser.proofs.Looks.{need-is, need-not}
 
--- ---- sorts and tags: a sort is one more than the tag, and no token is the last tag
+-- ---- sorts and tags: a token's sort is one more than its tag
 
 abbrev pub tag_for : ℕ → ℕ
-tag_for s = (s + 17) % 18
+tag_for s = s - 1
 
-abbrev sort_for : ℕ → ℕ
-sort_for t = (t + 1) % 18
+sort_of_tag : (k : TokenKind) → sort_of (done k) ≡ tag_of the_type k + 1
+sort_of_tag K.LParen = refl
+sort_of_tag K.RParen = refl
+sort_of_tag K.Comma = refl
+sort_of_tag K.Colon = refl
+sort_of_tag (K.Integer b) = refl
+sort_of_tag K.DoubleQuotedString = refl
+sort_of_tag K.SingleQuotedString = refl
+sort_of_tag (K.DataType k) = refl
+sort_of_tag (K.TimeUnit u) = refl
+sort_of_tag (K.IntervalUnit u) = refl
+sort_of_tag (K.UnionMode m) = refl
+sort_of_tag (K.MapSorted b) = refl
+sort_of_tag (K.Nullability r) = refl
+sort_of_tag K.Field = refl
+sort_of_tag K.Some = refl
+sort_of_tag K.None = refl
+sort_of_tag K.X = refl
 
-tag_of_sort : (k : TokenKind) → tag_of the_type k ≡ tag_for (sort_of k)
-tag_of_sort LParen = refl
-tag_of_sort RParen = refl
-tag_of_sort Comma = refl
-tag_of_sort Colon = refl
-tag_of_sort (Integer b m) = refl
-tag_of_sort DoubleQuotedString = refl
-tag_of_sort SingleQuotedString = refl
-tag_of_sort (DataType k) = refl
-tag_of_sort (TimeUnit u) = refl
-tag_of_sort (IntervalUnit u) = refl
-tag_of_sort (UnionMode m) = refl
-tag_of_sort (MapSorted b) = refl
-tag_of_sort (Nullability r) = refl
-tag_of_sort Field = refl
-tag_of_sort Some = refl
-tag_of_sort None = refl
-tag_of_sort X = refl
-tag_of_sort (Refused n) = refl
-
-sort_of_tag : (k : TokenKind) → sort_of k ≡ sort_for (tag_of the_type k)
-sort_of_tag LParen = refl
-sort_of_tag RParen = refl
-sort_of_tag Comma = refl
-sort_of_tag Colon = refl
-sort_of_tag (Integer b m) = refl
-sort_of_tag DoubleQuotedString = refl
-sort_of_tag SingleQuotedString = refl
-sort_of_tag (DataType k) = refl
-sort_of_tag (TimeUnit u) = refl
-sort_of_tag (IntervalUnit u) = refl
-sort_of_tag (UnionMode m) = refl
-sort_of_tag (MapSorted b) = refl
-sort_of_tag (Nullability r) = refl
-sort_of_tag Field = refl
-sort_of_tag Some = refl
-sort_of_tag None = refl
-sort_of_tag X = refl
-sort_of_tag (Refused n) = refl
+-- a token of another sort is refused with 9
+pub nine : (k : TokenKind) → refusal_of (done k) ≡ 9
+nine K.LParen = refl
+nine K.RParen = refl
+nine K.Comma = refl
+nine K.Colon = refl
+nine (K.Integer b) = refl
+nine K.DoubleQuotedString = refl
+nine K.SingleQuotedString = refl
+nine (K.DataType k) = refl
+nine (K.TimeUnit u) = refl
+nine (K.IntervalUnit u) = refl
+nine (K.UnionMode m) = refl
+nine (K.MapSorted b) = refl
+nine (K.Nullability r) = refl
+nine K.Field = refl
+nine K.Some = refl
+nine K.None = refl
+nine K.X = refl
 
 -- all tags but one
 abbrev without : ℕ → List ℕ → List ℕ
@@ -85,102 +80,111 @@ without t [] = []
 without t (x ∷ xs) = if eqb x t then without t xs else (x ∷ without t xs)
 
 abbrev pub but : ℕ → List ℕ
-but t = without t (0 ∷ 1 ∷ 2 ∷ 3 ∷ 4 ∷ 5 ∷ 6 ∷ 7 ∷ 8 ∷ 9 ∷ 10 ∷ 11 ∷ 12 ∷ 13 ∷ 14 ∷ 15 ∷ 16 ∷ 17 ∷ [])
+but t = without t (0 ∷ 1 ∷ 2 ∷ 3 ∷ 4 ∷ 5 ∷ 6 ∷ 7 ∷ 8 ∷ 9 ∷ 10 ∷ 11 ∷ 12 ∷ 13 ∷ 14 ∷ 15 ∷ 16 ∷ [])
 
--- the arm of one tag, and the arm of all others
-pub only_sort : (t : ℕ) (k : TokenKind) → OneOf (t ∷ []) (tag_of the_type k) → sort_of k ≡ sort_for t
-only_sort t k o = sort_of_tag k ∙ ap sort_for o
-
-pub other_sort : (sort : ℕ) (others : List ℕ) (k : TokenKind) → T (not (has_key others (tag_for sort))) → OneOf others (tag_of the_type k) → eqb (sort_of k) sort ≡ false
-other_sort sort others k h o = ne_eqb (sort_of k) sort (λ e. miss others (tag_for sort) h (subst (OneOf others) (tag_of_sort k ∙ ap tag_for e) o))
-
--- ---- the refusal at a token
-
-pub refusal_own : (k : TokenKind) (n : ℕ) → k ≡ Refused n → n ≡ refusal_of k
-refusal_own k n e = rw e refl
-
-pub refusal_nine : (k : TokenKind) (others : List ℕ) → T (not (has_key others (tag_for no_token))) → OneOf others (tag_of the_type k) → 9 ≡ refusal_of k
-refusal_nine k others h o = rw (other_sort no_token others k h o)
+-- the arm of all tags but one
+pub other_sort : (sort : ℕ) (others : List ℕ) (k : TokenKind) → T (not (has_key others (tag_for sort))) → OneOf others (tag_of the_type k) → eqb (sort_of (done k)) sort ≡ false
+other_sort sort others k h o =
+    ne_eqb (sort_of (done k)) sort
+    (λ e. let t : tag_of the_type k ≡ tag_for sort = omega (arith, sort_of_tag k) in miss others (tag_for sort) h (subst (OneOf others) t o))
 
 -- ---- one token, taken or refused
 
-module _ (text : List ℕ) (sort at : ℕ) (t : Token) (e : t ≡ token_at text at) where
+module _ (text : List ℕ) (sort at : ℕ) (t : Standing) (e : t ≡ token_at text at) where
   pub here : sort_of t.kind ≡ sort → need text sort at ≡ done t
-  here s = need-is text sort at (eq-eqb _ sort (sym (ap (λ (x : Token). sort_of x.kind) e) ∙ s)) ∙ ap done (sym e)
+  here s = need-is text sort at (eq-eqb _ sort (sym (ap (λ (x : Standing). sort_of x.kind) e) ∙ s)) ∙ ap done (sym e)
 
   pub not-here : eqb (sort_of t.kind) sort ≡ false → need text sort at ≡ refuse (refusal_of t.kind)
-  not-here s = need-not text sort at (sym (ap (λ (x : Token). eqb (sort_of x.kind) sort) e) ∙ s) ∙ ap (λ (x : Token). refuse (refusal_of x.kind)) (sym e)
+  not-here s = need-not text sort at (sym (ap (λ (x : Standing). eqb (sort_of x.kind) sort) e) ∙ s) ∙ ap (λ (x : Standing). refuse (refusal_of x.kind)) (sym e)
 
-  pub valued-here : (v : ℕ) → sort_of t.kind ≡ sort → value_of t.kind ≡ v → W.Value (word v t.next) ≡ valued_of (need text sort at)
-  unfolding valued_of
-  valued-here v s w = rw (here s, w)
+-- the token that was read, where it is of the sort
+module _ (text : List ℕ) (sort at : ℕ) (t : Token) (e : done t ≡ token_or_refusal (token_at text at)) where
+  taken : sort_of (done t.kind) ≡ sort → need text sort at ≡ done (standing t)
+  taken s = here text sort at (standing t) (sym (got_token (token_at text at) t e)) s
 
-  pub quoted-here : sort_of t.kind ≡ sort → Q.String (span t.start t.size t.next) ≡ quoted_of (need text sort at)
-  unfolding quoted_of
-  quoted-here s = rw (here s)
+  pub word-here : (v : ℕ) → sort_of (done t.kind) ≡ sort → value_of (done t.kind) ≡ v → ◌≡◌ {A = Out Word} (done (record { value = v; next = t.next })) (word_of (need text sort at))
+  unfolding word_of
+  word-here v s w = rw (taken s, w)
 
-  pub step-here : sort_of t.kind ≡ sort → S.Next t.next ≡ step_of (need text sort at)
-  unfolding step_of
-  step-here s = rw (here s)
+  pub span-here : sort_of (done t.kind) ≡ sort → ◌≡◌ {A = Out Span} (done (record { start = t.start; size = t.size; next = t.next })) (span_of (need text sort at))
+  unfolding span_of
+  span-here s = rw (taken s)
 
-  pub look-here : sort_of t.kind ≡ sort → L.Next t.next ≡ look_of (need text sort at)
+  pub next-here : sort_of (done t.kind) ≡ sort → done t.next ≡ next_of (need text sort at)
+  unfolding next_of
+  next-here s = rw (taken s)
+
+  pub look-here : sort_of (done t.kind) ≡ sort → Some t.next ≡ look_of (need text sort at)
   unfolding look_of
-  look-here s = rw (here s)
+  look-here s = rw (taken s)
 
-  pub stands_here : sort_of t.kind ≡ sort → true ≡ stands text sort at
+  pub stands_here : sort_of (done t.kind) ≡ sort → true ≡ stands text sort at
   unfolding stands
-  stands_here s = sym (eq-eqb _ sort (sym (ap (λ (x : Token). sort_of x.kind) e) ∙ s))
+  stands_here s = sym (eq-eqb _ sort (ap (λ (x : Standing). sort_of x.kind) (got_token (token_at text at) t e) ∙ s))
 
+  -- and where it is of another
   module _ (others : List ℕ) (h : T (not (has_key others (tag_for sort)))) (o : OneOf others (tag_of the_type t.kind)) where
-    gone : need text sort at ≡ refuse (refusal_of t.kind)
-    gone = not-here (other_sort sort others t.kind h o)
+    pub gone : need text sort at ≡ refuse 9
+    gone =
+        not-here text sort at (standing t) (sym (got_token (token_at text at) t e)) (other_sort sort others t.kind h o)
+        ∙ ap (λ (n : ℕ). refuse n) (nine t.kind)
 
-    pub valued-lost : (x : ℕ) → x ≡ refusal_of t.kind → W.Refused x ≡ valued_of (need text sort at)
-    unfolding valued_of
-    valued-lost x w = rw (gone, w)
-
-    pub quoted-lost : (x : ℕ) → x ≡ refusal_of t.kind → Q.Refused x ≡ quoted_of (need text sort at)
-    unfolding quoted_of
-    quoted-lost x w = rw (gone, w)
-
-    pub step-lost : (x : ℕ) → x ≡ refusal_of t.kind → S.Refused x ≡ step_of (need text sort at)
-    unfolding step_of
-    step-lost x w = rw (gone, w)
-
-    pub look-lost : L.Other ≡ look_of (need text sort at)
+    pub look-gone : None ≡ look_of (need text sort at)
     unfolding look_of
-    look-lost = rw gone
+    look-gone = rw gone
 
-    pub stands-lost : false ≡ stands text sort at
+    pub stands-gone : false ≡ stands text sort at
     unfolding stands
-    stands-lost = sym (sym (ap (λ (x : Token). eqb (sort_of x.kind) sort) e) ∙ other_sort sort others t.kind h o)
+    stands-gone = sym (ap (λ (x : Standing). eqb (sort_of x.kind) sort) (got_token (token_at text at) t e) ∙ other_sort sort others t.kind h o)
 
--- ---- behind the spaces, where a string begins
+-- where no token was read
+module _ (text : List ℕ) (sort at : ℕ) (n : eqb no_token sort ≡ false) (x : ℕ) (e : refuse x ≡ token_or_refusal (token_at text at)) where
+  not-there : eqb (sort_of (token_at text at).kind) sort ≡ false
+  not-there = ap (λ (k : Out TokenKind). eqb (sort_of k) sort) (lost_token (token_at text at) x e) ∙ n
 
-module _ (text : List ℕ) (at from : ℕ) (f : from ≡ after_spaces text at) where
-  behind-spaces : token_at text from ≡ token_at text at
-  behind-spaces = ap (token_at text) f ∙ sym (token-spaces text at)
+  pub lost : need text sort at ≡ refuse x
+  lost = need-not text sort at not-there ∙ ap (λ (k : Out TokenKind). refuse (refusal_of k)) (lost_token (token_at text at) x e)
 
--- behind the text's end no byte stands
-pub no_byte : (text : List ℕ) (at byte : ℕ) → length text ≤ at → 0 < byte → get_or text at 0 ≡ byte → ⊥
-no_byte text at byte h z e = let d = get_or-eq_default text 0 {n = at} h in omega arith
+  pub look-lost : None ≡ look_of (need text sort at)
+  unfolding look_of
+  look-lost = rw lost
+
+  pub stands-lost : false ≡ stands text sort at
+  unfolding stands
+  stands-lost = sym not-there
+
+-- a refusal of what is needed
+module _ (o : Out Standing) (x : ℕ) (e : o ≡ refuse x) where
+  pub next-refused : refuse x ≡ next_of o
+  unfolding next_of
+  next-refused = rw e
+
+  pub word-refused : refuse x ≡ word_of o
+  unfolding word_of
+  word-refused = rw e
+
+  pub span-refused : refuse x ≡ span_of o
+  unfolding span_of
+  span-refused = rw e
+
+  pub integer-refused : refuse x ≡ integer_of o
+  unfolding integer_of
+  integer-refused = rw e
+
+  pub number-refused : refuse x ≡ signed_of o
+  unfolding signed_of
+  number-refused = rw e
 
 -- ---- numbers
 
-module _ (text : List ℕ) (least most at : ℕ) (t : Token) (e : t ≡ token_at text at) where
-  pub number-lost : (others : List ℕ) → T (not (has_key others (tag_for integer))) → OneOf others (tag_of the_type t.kind)
-      → (x : ℕ) → x ≡ refusal_of t.kind → N.Refused x ≡ number_of (number_in text least most at)
-  unfolding number_of number_in
-  number-lost others h o x w = rw (gone text integer at t e others h o, w)
+signed_back : (z : ℤ) → signed (is_below_zero z) (nat_abs z) ≡ z
+signed_back (pos n) = refl
+signed_back (negsuc n) = refl
 
-  module _ (negative : Bool) (magnitude limit : ℕ) (k : t.kind ≡ Integer negative magnitude) (l : limit ≡ (if negative then least else most)) where
-    pub number-out : limit < magnitude → N.Refused 10 ≡ number_of (number_in text least most at)
-    unfolding number_of number_in
-    number-out h = rw (here text integer at t e (ap sort_of k), k, ← l, lt-leb magnitude limit h)
-
-    pub number-in : magnitude ≤ limit → N.Value (number negative magnitude t.next) ≡ number_of (number_in text least most at)
-    unfolding number_of number_in
-    number-in h = rw (here text integer at t e (ap sort_of k), k, ← l, le-leb magnitude limit h)
+module _ (text : List ℕ) (at : ℕ) (t : Token) (e : done t ≡ token_or_refusal (token_at text at)) (z : ℤ) (k : t.kind ≡ K.Integer z) where
+  pub integer-found : done (record { value = z; next = t.next }) ≡ integer_of (need text integer at)
+  unfolding integer_of
+  integer-found = rw (taken text integer at t e (ap (λ (x : TokenKind). sort_of (done x)) k), k, signed_back z)
 
 -- ---- marks, by the first byte that is no space
 
@@ -194,7 +198,7 @@ module _ (text : List ℕ) (at mark : ℕ) (m : T (is_mark mark)) where
   over : length text ≤ after_spaces text at → need text (mark_sort mark) at ≡ refuse 5
   over h =
       need-not text (mark_sort mark) at (Marks.text-over text at h (mark_sort mark) (mark_some mark m))
-      ∙ ap (λ (t : Token). refuse (refusal_of t.kind)) (sym (token_end text at (after_spaces text at) refl h))
+      ∙ ap (λ (t : Standing). refuse (refusal_of t.kind)) (sym (token_end text at (after_spaces text at) refl h))
 
   found : after_spaces text at < length text → get_or text (after_spaces text at) 0 ≡ mark → need text (mark_sort mark) at ≡ done (token (Marks.mark_kind mark) (after_spaces text at) 1)
   found h e =
@@ -206,30 +210,39 @@ module _ (text : List ℕ) (at mark : ℕ) (m : T (is_mark mark)) where
       need-not text (mark_sort mark) at
       (Marks.marks (λ (x : ℕ). (get_or text (after_spaces text at) 0 ≡ x → ⊥) → eqb (sort_of (token_at text at).kind) (mark_sort x) ≡ false)
       (Marks.no-lparen text at) (Marks.no-rparen text at) (Marks.no-comma text at) (Marks.no-colon text at) mark m h)
-      ∙ ap (λ (t : Token). refuse (refusal_of t.kind)) (token-spaces text at)
+      ∙ ap (λ (t : Standing). refuse (refusal_of t.kind)) (token-spaces text at)
 
 module _ (text : List ℕ) (at from mark : ℕ) (f : from ≡ after_spaces text at) (m : is_mark mark ≡ true) where
-  pub expect-over : length text ≤ from → S.Refused 5 ≡ step_of (need text (mark_sort mark) at)
-  unfolding step_of
+  pub expect-over : length text ≤ from → refuse 5 ≡ next_of (need text (mark_sort mark) at)
+  unfolding next_of
   expect-over h = rw (over text at mark (of_true (is_mark mark) m) (rw f at h))
 
-  pub expect-here : from < length text → get_or text from 0 ≡ mark → S.Next (from + 1) ≡ step_of (need text (mark_sort mark) at)
-  unfolding step_of
+  pub expect-here : from < length text → get_or text from 0 ≡ mark → done (from + 1) ≡ next_of (need text (mark_sort mark) at)
+  unfolding next_of
   expect-here h e = rw (found text at mark (of_true (is_mark mark) m) (rw f at h) (rw f at e), f)
 
-  pub expect-other : (get_or text from 0 ≡ mark → ⊥) → (t : Token) (x : ℕ) → t ≡ token_at text from → x ≡ refusal_of t.kind → S.Refused x ≡ step_of (need text (mark_sort mark) at)
-  unfolding step_of
-  expect-other h t x e w = rw (other text at mark (of_true (is_mark mark) m) (rw f at h), w, e, f)
+  -- where another byte stands, its token is refused, or its own refusal is handed on
+  module _ (h : get_or text from 0 ≡ mark → ⊥) where
+    pub expect-lost : (x : ℕ) → refuse x ≡ token_or_refusal (token_at text from) → need text (mark_sort mark) at ≡ refuse x
+    expect-lost x e =
+        other text at mark (of_true (is_mark mark) m) (rw f at h) ∙ ap (λ (i : ℕ). refuse (refusal_of (token_at text i).kind)) (sym f)
+        ∙ ap (λ (k : Out TokenKind). refuse (refusal_of k)) (lost_token (token_at text from) x e)
 
-  pub look-over : length text ≤ from → L.Other ≡ look_of (need text (mark_sort mark) at)
+    pub expect-other : (t : Token) → done t ≡ token_or_refusal (token_at text from) → need text (mark_sort mark) at ≡ refuse 9
+    expect-other t e =
+        other text at mark (of_true (is_mark mark) m) (rw f at h) ∙ ap (λ (i : ℕ). refuse (refusal_of (token_at text i).kind)) (sym f)
+        ∙ ap (λ (s : Standing). refuse (refusal_of s.kind)) (got_token (token_at text from) t e)
+        ∙ ap (λ (n : ℕ). refuse n) (nine t.kind)
+
+  pub look-over : length text ≤ from → None ≡ look_of (need text (mark_sort mark) at)
   unfolding look_of
   look-over h = rw (over text at mark (of_true (is_mark mark) m) (rw f at h))
 
-  pub look-found : from < length text → get_or text from 0 ≡ mark → L.Next (from + 1) ≡ look_of (need text (mark_sort mark) at)
+  pub look-found : from < length text → get_or text from 0 ≡ mark → Some (from + 1) ≡ look_of (need text (mark_sort mark) at)
   unfolding look_of
   look-found h e = rw (found text at mark (of_true (is_mark mark) m) (rw f at h) (rw f at e), f)
 
-  pub look-other : (get_or text from 0 ≡ mark → ⊥) → L.Other ≡ look_of (need text (mark_sort mark) at)
+  pub look-other : (get_or text from 0 ≡ mark → ⊥) → None ≡ look_of (need text (mark_sort mark) at)
   unfolding look_of
   look-other h = rw (other text at mark (of_true (is_mark mark) m) (rw f at h))
 
@@ -245,10 +258,10 @@ module _ (text : List ℕ) (at mark : ℕ) (m : is_mark mark ≡ true) (h : at <
   no_space_lem : at ≡ after_spaces text at
   no_space_lem = sym (spaces-stop text at h (λ z. mark_no_space mark m (sym e ∙ z)))
 
-  pub expect-at : S.Next (at + 1) ≡ step_of (need text (mark_sort mark) at)
+  pub expect-at : done (at + 1) ≡ next_of (need text (mark_sort mark) at)
   expect-at = expect-here text at at mark no_space_lem m h e
 
-  pub look_at : L.Next (at + 1) ≡ look_of (need text (mark_sort mark) at)
+  pub look_at : Some (at + 1) ≡ look_of (need text (mark_sort mark) at)
   look_at = look-found text at at mark no_space_lem m h e
 
 -- ---- nullability
@@ -259,16 +272,24 @@ module _ (text : List ℕ) (at : ℕ) where
   plain e = (rw e, rw e)
 
   module _ (from : ℕ) (f : from ≡ after_spaces text at) where
+    same-place : token_at text at ≡ token_at text from
+    same-place = token-spaces text at ∙ ap (token_at text) (sym f)
+
     pub null-other : (get_or text from 0 ≡ 110 → ⊥) → (1 ≡ role_at text at) × (at ≡ after_role text at)
     null-other h = plain (Marks.no-nullability text at (rw f at h))
 
-    module _ (t : Token) (e : t ≡ token_at text from) where
-      same-token : t ≡ token_at text at
-      same-token = e ∙ ap (token_at text) f ∙ sym (token-spaces text at)
+    pub null-lost : (x : ℕ) → refuse x ≡ token_or_refusal (token_at text from) → (1 ≡ role_at text at) × (at ≡ after_role text at)
+    null-lost x e =
+        let k : (token_at text at).kind ≡ refuse x = ap (λ (s : Standing). s.kind) same-place ∙ lost_token (token_at text from) x e in
+        plain (ap (λ (k : Out TokenKind). eqb (sort_of k) nullability) k)
+
+    module _ (t : Token) (e : done t ≡ token_or_refusal (token_at text from)) where
+      same-token : token_at text at ≡ standing t
+      same-token = same-place ∙ got_token (token_at text from) t e
 
       pub null-not : (others : List ℕ) → T (not (has_key others (tag_for nullability))) → OneOf others (tag_of the_type t.kind) → (1 ≡ role_at text at) × (at ≡ after_role text at)
-      null-not others h o = plain (ap (λ (x : Token). eqb (sort_of x.kind) nullability) (sym same-token) ∙ other_sort nullability others t.kind h o)
+      null-not others h o = plain (ap (λ (x : Standing). eqb (sort_of x.kind) nullability) same-token ∙ other_sort nullability others t.kind h o)
 
-      pub null-here : (r : ℕ) → t.kind ≡ Nullability r → (r ≡ role_at text at) × (t.next ≡ after_role text at)
+      pub null-here : (r : ℕ) → t.kind ≡ K.Nullability r → (r ≡ role_at text at) × (t.next ≡ after_role text at)
       unfolding role_at after_role stands
-      null-here r k = rw (← same-token, k) (refl, refl)
+      null-here r k = rw (same-token, k) (refl, refl)

@@ -2,32 +2,30 @@
 use mathlib.Core.Path.{◌≡◌, refl, sym, ap, ◌∙◌, subst}
 use mathlib.Core.Bool.{Bool, true, false}
 use mathlib.Core.List.{List, map}
-use Prim.Native.Nat.{ℕ, zero, suc, ◌+◌, ◌-◌, ◌*◌, ◌≤◌, ◌<◌}
+use Prim.Native.Nat.{ℕ, zero, suc, ◌+◌, ◌-◌, ◌≤◌, ◌<◌}
 use native.Mathlib.Omega.{arith}
-use lib.ListN.{length}
+use Rattle.std.specs.Prelude.{Ok}
 use Rattle.tokenizer.specs.Answer.{Refusal, Out, refused, done, refuse}
-use Rattle.tokenizer.specs.Token.{lparen, rparen, comma, union_mode, type_word}
-use Rattle.tokenizer.specs.declared.Token.{Token}
-use Rattle.datatype.specs.Limits.{max_rows}
+use Rattle.tokenizer.specs.Token.{Standing, lparen, rparen, comma, union_mode, type_word}
 use Rattle.datatype.proofs.ShapeLaws.{shapes_of, leaf_number}
 use Rattle.datatype.specs.Kind.{Shape, leaf, time, list, decimal, shape_of, ids_fit}
 use Rattle.datatype.specs.Tree.{Forest, ∅, count, roots, Row}
-use Rattle.datatype.specs.Table.{row_words, table_of}
+use Rattle.datatype.specs.Table.{table_of}
 use Rattle.parser.specs.Parse.{Tree, bare_row, need, field_at, items_by, struct_item, union_item, struct_at, union_at, shape_at, type_with, type_at}
-use Rattle.parser.specs.Internal.Steps.{Room, Stored, Meets, Put, Closed}
-use Rattle.parser.specs.declared.Read.{Read}
+use Rattle.parser.specs.Internal.Steps.{extent, Stored, Meets, Put, Closed}
+use Rattle.parser.specs.declared.Extent.{Extent}
 use Rattle.parser.proofs.Stores.{in_front}
-use Rattle.parser.proofs.Answers.{behind, GotValue, GotTree, GotFields}
+use Rattle.parser.proofs.Answers.{Read, behind, GotWord, GotTree, GotFields}
 use Rattle.parser.proofs.Readers.{meets-lost, meets-done, meets-more}
 use Rattle.parser.proofs.FieldLaws.{struct-last}
 use Rattle.parser.proofs.Loops.{Loop, loop-lost, loop-last}
 
 -- a row in front of its fields
-fronted : (o : Out Tree) (r : Row) (kids : Forest Row) (n used row left : ℕ) (before mid after : List ℕ) (a : Read) → o ≡ done (record { row = r; kids = kids; next = n })
-    → Stored kids (row + 1) left before mid → used ≡ count kids → Put n row used r mid a after → Meets o row (left + 1) before a after
+fronted : (o : Out Tree) (r : Row) (kids : Forest Row) (n used row left : ℕ) (before mid after : List ℕ) (a : Extent) → o ≡ done (record { row = r; kids = kids; next = n })
+    → Stored kids (row + 1) left before mid → used ≡ count kids → Put n row used r mid a after → Meets o row (left + 1) before (Ok a) after
 fronted o r kids n used row left before mid after a e s u w =
     let m = s.room in
-    subst (λ (x : Read). Meets o row (left + 1) before x after) (sym w.0)
+    subst (λ (x : Extent). Meets o row (left + 1) before (Ok x) after) (sym w.0)
     (meets-done row (left + 1) before after o r kids n (used + 1) e (omega arith)
     (record { room = omega arith; rows = in_front before mid after row (used + 1) r kids s.rows w.1 (omega arith) }))
 
@@ -40,13 +38,13 @@ module _ (text : List ℕ) (type : ℕ → ℕ → Out Tree) (k at left : ℕ) w
   unfolding union_at
   union-at-1 x e = rw e refl
 
-  module _ (p : Token) (b : ℕ) (e : need text lparen at ≡ done (behind p b)) where
+  module _ (p : Standing) (b : ℕ) (e : need text lparen at ≡ done (behind p b)) where
     pub struct-2 : (x : ℕ) → items_by (struct_item text type) (suc left) b left ≡ refuse x → struct_at text type k at left ≡ refuse x
     unfolding struct_at
     struct-2 x f = rw (e, f) refl
 
-    pub struct-3 : (row n used : ℕ) (before mid after : List ℕ) (a : Read) → GotFields (items_by (struct_item text type) (suc left) b left) n used (row + 1) left before mid
-        → Put n row used (bare_row k 0 0 0 0) mid a after → Meets (struct_at text type k at left) row (left + 1) before a after
+    pub struct-3 : (row n used : ℕ) (before mid after : List ℕ) (a : Extent) → GotFields (items_by (struct_item text type) (suc left) b left) n used (row + 1) left before mid
+        → Put n row used (bare_row k 0 0 0 0) mid a after → Meets (struct_at text type k at left) row (left + 1) before (Ok a) after
     unfolding struct_at
     struct-3 row n used before mid after a g w = fronted (struct_at text type k at left) (bare_row k 0 0 0 0) g.trees n used row left before mid after a (rw (e, g.is) refl) g.stored g.rows w
 
@@ -57,21 +55,22 @@ module _ (text : List ℕ) (type : ℕ → ℕ → Out Tree) (k at left : ℕ) w
       unfolding Closed
       struct-4 after a = go (need text rparen n) refl
         where
-          go : (o : Out Token) → need text rparen n ≡ o → Closed o row (used + more) (bare_row k 0 0 0 0) mid a after → Meets (struct_at text type k at left) row (left + 1) before a after
+          go : (o : Out Standing) → need text rparen n ≡ o → Closed o row (used + more) (bare_row k 0 0 0 0) mid a after → Meets (struct_at text type k at left) row (left + 1) before a after
           go (refused x) e₁ h =
               meets-lost row (left + 1) before after (struct_at text type k at left) a x.number h
               (struct-2 x.number (loop-lost (struct_item text type) b left (row + 1) before now next used l x.number
               (struct-last text type next (left - used) s z (row + 1 + used) n more now mid g t y ∙ rw e₁ refl)))
           go (done c) e₁ h =
-              struct-3 row c.next (used + more) before mid after a
+              subst (λ (x : Read). Meets (struct_at text type k at left) row (left + 1) before x after) (sym h.0)
+              (struct-3 row c.next (used + more) before mid after (extent c.next (used + more + 1))
               (loop-last (struct_item text type) b left (row + 1) before now next used l (field_at text type 0 next (left - used)) n more mid g c.next
-              (struct-last text type next (left - used) s z (row + 1 + used) n more now mid g t y ∙ rw e₁ refl)) h
+              (struct-last text type next (left - used) s z (row + 1 + used) n more now mid g t y ∙ rw e₁ refl)) (refl, h.1))
 
     pub union-at-2 : (x : ℕ) → need text union_mode b ≡ refuse x → union_at text type k at left ≡ refuse x
     unfolding union_at
     union-at-2 x f = rw (e, f) refl
 
-    module _ (v c : ℕ) (m : GotValue (need text union_mode b) v c) where
+    module _ (v c : ℕ) (m : GotWord (need text union_mode b) v c) where
       pub union-at-3 : (x : ℕ) → items_by (union_item text type) (suc left) c left ≡ refuse x → union_at text type k at left ≡ refuse x
       unfolding union_at
       union-at-3 x f = rw (e, m.is, f) refl
@@ -82,7 +81,7 @@ module _ (text : List ℕ) (type : ℕ → ℕ → Out Tree) (k at left : ℕ) w
         unfolding union_at
         union-at-4 z = rw (e, m.is, g.is, ← q, z) refl
 
-        pub union-at-5 : (after : List ℕ) (a : Read) → fit ≡ true → Put n row used (bare_row k v 0 0 0) mid a after → Meets (union_at text type k at left) row (left + 1) before a after
+        pub union-at-5 : (after : List ℕ) (a : Extent) → fit ≡ true → Put n row used (bare_row k v 0 0 0) mid a after → Meets (union_at text type k at left) row (left + 1) before (Ok a) after
         unfolding union_at
         union-at-5 after a z w =
             fronted (union_at text type k at left) (bare_row k v 0 0 0) g.trees n used row left before mid after a
@@ -133,22 +132,6 @@ leaf_high k l a b = leaf_number k ((((((((((((((((((((tt, λ e. omega arith), λ
 
 -- ---- a type
 
-pub room_less : (text rows : List ℕ) (row left : ℕ) → Room text rows row left → (left ≡ 0 → ⊥) → Room text rows row (left - 1 + 1)
-room_less text rows row left r z =
-    let s = r.small in
-    let f = r.fits in
-    let e : left - 1 + 1 ≡ left = omega arith in
-    record { short = r.short; small = omega arith; fits = omega arith }
-
-pub room_one : (text rows : List ℕ) (row left : ℕ) → Room text rows row left → (left ≡ 0 → ⊥) → Room text rows row 1
-room_one text rows row left r z =
-    let s = r.small in
-    let f = r.fits in
-    record { short = r.short; small = omega arith; fits = omega arith }
-
-pub leaf_asks : (text rows : List ℕ) (row left : ℕ) → Room text rows row left → (left ≡ 0 → ⊥) → (row_words * row + row_words ≤ length rows) × (0 < max_rows)
-leaf_asks text rows row left r z = let f = r.fits in (omega arith, omega arith)
-
 module _ (text : List ℕ) (level at left : ℕ) where
   pub type-deep : level ≡ 0 → type_at text level at left ≡ refuse 3
   unfolding type_at
@@ -172,7 +155,7 @@ module _ (text : List ℕ) (level at left : ℕ) where
       type-word x e = one-row ∙ rw e refl
 
       -- its word is read: the rest is the reader's of its shape
-      module _ (k n : ℕ) (g : GotValue (need text type_word at) k n) (s : Shape) (i : shape_of k ≡ s) (row : ℕ) (before after : List ℕ) (a : Read) where
+      module _ (k n : ℕ) (g : GotWord (need text type_word at) k n) (s : Shape) (i : shape_of k ≡ s) (row : ℕ) (before after : List ℕ) (a : Read) where
         pub type-parent : Meets (shape_at text (type_at text (level - 1)) s k n (left - 1)) row (left - 1 + 1) before a after → Meets (type_at text level at left) row left before a after
         unfolding type_with
         type-parent h =
@@ -183,9 +166,9 @@ module _ (text : List ℕ) (level at left : ℕ) where
         type-childless h = type-parent (meets-more row 1 before after (shape_at text (type_at text (level - 1)) s k n (left - 1)) a (left - 1 + 1) (omega arith) h)
 
       -- a leaf's row
-      pub type-leaf : (k n row : ℕ) (before after : List ℕ) (a : Read) → GotValue (need text type_word at) k n → shape_of k ≡ leaf → Put n row 0 (bare_row k 0 0 0 0) before a after
-          → Meets (type_at text level at left) row left before a after
+      pub type-leaf : (k n row : ℕ) (before after : List ℕ) (a : Extent) → GotWord (need text type_word at) k n → shape_of k ≡ leaf → Put n row 0 (bare_row k 0 0 0 0) before a after
+          → Meets (type_at text level at left) row left before (Ok a) after
       unfolding shape_at table_of
       type-leaf k n row before after a g i w =
-          type-childless k n g leaf i row before after a
+          type-childless k n g leaf i row before after (Ok a)
           (fronted (done (record { row = bare_row k 0 0 0 0; kids = ∅; next = n })) (bare_row k 0 0 0 0) ∅ n 0 row 0 before before after a refl (record { room = omega arith; rows = refl }) refl w)

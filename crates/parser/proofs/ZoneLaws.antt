@@ -1,90 +1,130 @@
 -- Units, lengths, zones and list names: each return of their functions as a law.
-use Rattle.std.specs.Prelude.{if◌then◌else◌}
-use mathlib.Core.Path.{◌≡◌, refl, sym, ap, ◌∙◌}
+use Rattle.std.specs.Prelude.{if◌then◌else◌, nat_abs, unsigned_abs}
+use mathlib.Core.Path.{◌≡◌, refl, sym, ap, subst, ◌∙◌}
 use mathlib.Core.Bool.{Bool, true, false, not}
 use mathlib.Core.List.{List}
-use Prim.Native.Nat.{ℕ, ◌+◌, ◌≤◌}
+use Prim.Native.Nat.{ℕ, ◌+◌, ◌≤◌, ◌<◌}
 use native.Mathlib.Omega.{arith}
 use lib.ListN.{length}
-use lib.Dec.{T, eqb, leb}
-use borrow.Author.Tests.{eq-eqb, leb-true}
+use lib.IntN.{ℤ}
+use lib.Dec.{T, eqb}
+use borrow.Author.Tests.{eq-eqb, le-leb, lt-leb}
 use types.Run.{OneOf}
-use mir.Val.{has_key, Fits}
-use mir.Syntax.{w32}
+use mir.Val.{has_key, Fits, to_z, of_z}
+use mir.Syntax.{w8, w32}
+use Rattle.std.specs.Int.{FitsUnsignedBits}
+use Rattle.std.specs.Int.RustNames.{FitsSigned}
+use Rattle.std.proofs.Common.{to_z-of_z}
 use denote.Enum.Declared.{tag_of}
 use Rattle.tokenizer.specs.contracts.TokenKind.{the_type}
 use Rattle.tokenizer.specs.Answer.{Refusal, Out, refused, done, refuse}
-use Rattle.tokenizer.specs.Token.{token_at, sort_of, value_of, is_negative, no_token, lparen, rparen, comma, colon, integer, double_quoted, single_quoted, field_word, time_unit, some_word, none_word}
+use Rattle.tokenizer.specs.Token.{Standing, token_at, sort_of, is_below_zero, no_token, lparen, rparen, comma, colon, integer, double_quoted, single_quoted, field_word, time_unit, some_word, none_word}
 use Rattle.tokenizer.specs.declared.Token.{Token}
 use Rattle.tokenizer.specs.declared.TokenKind.{TokenKind}
 use Rattle.tokenizer.proofs.Marks.{bounds}
 use Rattle.datatype.specs.Kind.{unit_fits}
 use Rattle.parser.specs.Parse.{Zone, refusal_of, need, stands, number_in, unit_at, some_zone, zone_string, zone_at, list_name_at}
-use Rattle.parser.specs.Internal.Steps.{word, span, valued_of, quoted_of, zone_step}
-use Rattle.parser.specs.declared.Valued.TheVariants as W
-use Rattle.parser.specs.declared.Quoted.TheVariants as Q
+use Rattle.parser.specs.Internal.Steps.{word_of, signed_of, zone_of}
+use Rattle.parser.specs.declared.Word.{Word}
+use Rattle.parser.specs.declared.Span.{Span}
 use Rattle.parser.proofs.Holds.{Holds, holds_bind, holds_then, holds_if}
-use Rattle.parser.proofs.Answers.{behind, string, GotValue, GotNumber}
+use Rattle.parser.proofs.Answers.{standing, behind, string, GotWord, GotNumber}
+use Rattle.parser.proofs.Values.{sign-is, magnitude-is, byte_in, byte_out, positive, positive_out}
 use Rattle.parser.proofs.Looks.{needed-stands, refused-stands}
-use Rattle.parser.proofs.TokenLaws.{tag_for, here, not-here, other_sort}
+use Rattle.parser.proofs.TokenLaws.{tag_for, here, nine, not-here, other_sort}
+
+-- a word and a string that were read
+abbrev pub word : ℕ → ℕ → Word
+word v n = record { value = v; next = n }
+
+abbrev pub span : ℕ → ℕ → ℕ → Span
+span s l n = record { start = s; size = l; next = n }
 
 -- ---- units and lengths
 
 module _ (text : List ℕ) (k at : ℕ) where
-  pub unit-1 : (x : ℕ) → need text time_unit at ≡ refuse x → W.Refused x ≡ valued_of (unit_at text k at)
-  unfolding unit_at valued_of
+  pub unit-1 : (x : ℕ) → need text time_unit at ≡ refuse x → refuse x ≡ word_of (unit_at text k at)
+  unfolding unit_at word_of
   unit-1 x e = rw e
 
-  module _ (u n : ℕ) (g : GotValue (need text time_unit at) u n) (fits : Bool) (w : fits ≡ unit_fits k u) where
-    pub unit-2 : fits ≡ true → W.Value (word u n) ≡ valued_of (unit_at text k at)
-    unfolding unit_at valued_of
+  module _ (u n : ℕ) (g : GotWord (need text time_unit at) u n) (fits : Bool) (w : fits ≡ unit_fits k u) where
+    pub unit-2 : fits ≡ true → done (word u n) ≡ word_of (unit_at text k at)
+    unfolding unit_at word_of
     unit-2 z = rw (g.is, g.value, ← w, z, g.value)
 
-    pub unit-3 : fits ≡ false → W.Refused 11 ≡ valued_of (unit_at text k at)
-    unfolding unit_at valued_of
+    pub unit-3 : fits ≡ false → refuse 11 ≡ word_of (unit_at text k at)
+    unfolding unit_at word_of
     unit-3 z = rw (g.is, g.value, ← w, z)
 
--- a number that was read is in its range
-number_range : (text : List ℕ) (least most at : ℕ) → Holds (λ (t : Token). value_of t.kind ≤ (if is_negative t.kind then least else most)) (number_in text least most at)
-unfolding number_in
-number_range text least most at =
-    holds_bind (λ (t : Token). value_of t.kind ≤ (if is_negative t.kind then least else most)) (need text integer at) _
-    λ t. go t (leb (value_of t.kind) (if is_negative t.kind then least else most)) refl
-  where
-    go : (t : Token) (b : Bool) → leb (value_of t.kind) (if is_negative t.kind then least else most) ≡ b
-        → Holds (λ (t : Token). value_of t.kind ≤ (if is_negative t.kind then least else most)) (if b then done t else refuse 10)
-    go t true e = leb-true (value_of t.kind) (if is_negative t.kind then least else most) e
-    go t false e = tt
+-- a number where one is needed, and its range
+module _ (text : List ℕ) (least most at : ℕ) where
+  pub number_lost : (x : ℕ) → need text integer at ≡ refuse x → number_in text least most at ≡ refuse x
+  unfolding number_in
+  number_lost x e = rw e refl
 
-module _ (text : List ℕ) (least most at : ℕ) (negative : Bool) (v n : ℕ) (g : GotNumber (number_in text least most at) negative v n) where
-  pub number-limit : v ≤ (if negative then least else most)
-  number-limit =
-      let h : Holds (λ (t : Token). value_of t.kind ≤ (if is_negative t.kind then least else most)) (done (behind g.token n)) = rw g.is at (number_range text least most at) in
-      rw (g.sign, g.value) at h
+  module _ (z : ℤ) (n : ℕ) (g : GotNumber (need text integer at) z n) where
+    pub number-out : (if is_below_zero z then least else most) < nat_abs z → number_in text least most at ≡ refuse 10
+    unfolding number_in
+    number-out h =
+        let l = lt-leb (nat_abs z) (if is_below_zero z then least else most) h in
+        rw (g.is, sign-is _ _ _ g, magnitude-is _ _ _ g, l) refl
 
-  pub number-valued : W.Value (word v n) ≡ valued_of (number_in text least most at)
-  unfolding valued_of
-  number-valued = rw (g.is, g.value)
+    number-in : nat_abs z ≤ (if is_below_zero z then least else most) → number_in text least most at ≡ done (behind g.token n)
+    unfolding number_in
+    number-in h =
+        let l = le-leb (nat_abs z) (if is_below_zero z then least else most) h in
+        rw (g.is, sign-is _ _ _ g, magnitude-is _ _ _ g, l) refl
 
-  pub number-most : least ≤ most → v ≤ most
-  number-most h = go negative number-limit
-    where
-      go : (b : Bool) → v ≤ (if b then least else most) → v ≤ most
-      go true l = omega arith
-      go false l = l
+    pub signed-in : nat_abs z ≤ (if is_below_zero z then least else most) → done (record { value = z; next = n }) ≡ signed_of (number_in text least most at)
+    unfolding signed_of
+    signed-in h = rw (number-in h, g.value)
 
-pub unsigned_lost : (text : List ℕ) (most at x : ℕ) → number_in text 0 most at ≡ refuse x → W.Refused x ≡ valued_of (number_in text 0 most at)
-unfolding valued_of
-unsigned_lost text most at x e = rw e
+    pub word-in : (v : ℕ) → v ≡ nat_abs z → nat_abs z ≤ (if is_below_zero z then least else most) → done (word v n) ≡ word_of (number_in text least most at)
+    unfolding word_of
+    word-in v e h = rw (number-in h, magnitude-is _ _ _ g, e)
+
+-- a number from 0 on, by the word that it is
+pub unsigned_large : (z : ℤ) (v most : ℕ) → is_below_zero z ≡ false → v ≡ nat_abs z → most < v → (if is_below_zero z then 0 else most) < nat_abs z
+unsigned_large z v most s e h = rw s (omega arith)
+
+pub unsigned_small : (z : ℤ) (v most : ℕ) → is_below_zero z ≡ false → v ≡ nat_abs z → v ≤ most → nat_abs z ≤ (if is_below_zero z then 0 else most)
+unsigned_small z v most s e h = rw s (omega arith)
+
+-- a signed byte, as it is converted from a number z that is handed on as y
+module _ (text : List ℕ) (at : ℕ) (z y : ℤ) (n : ℕ) (e : y ≡ z) (g : GotNumber (need text integer at) z n) where
+  pub byte-out : (FitsSigned w8 y → ⊥) → number_in text 128 127 at ≡ refuse 10
+  byte-out h = number-out text 128 127 at z n g (byte_out z (subst (λ (x : ℤ). FitsSigned w8 x → ⊥) e h))
+
+  pub byte-in : (v : ℤ) → FitsSigned w8 y × (v ≡ y) → done (record { value = to_z w8 (of_z w8 v); next = n }) ≡ signed_of (number_in text 128 127 at)
+  byte-in v h =
+      let f = subst (FitsSigned w8) e h.0 in
+      let i = h.1 ∙ e in
+      ap (λ (x : ℤ). done (record { value = x; next = n })) (to_z-of_z (subst (FitsSigned w8) (sym i) f) ∙ i)
+      ∙ signed-in text 128 127 at z n g (byte_in z f)
+
+  pub positive-out : (most : ℕ) → (FitsUnsignedBits 32 y → ⊥) → most < 4294967296 → number_in text 0 most at ≡ refuse 10
+  positive-out most h m = number-out text 0 most at z n g (positive_out z most (subst (λ (x : ℤ). FitsUnsignedBits 32 x → ⊥) e h) m)
+
+  module _ (most v : ℕ) (h : FitsUnsignedBits 32 y × (v ≡ unsigned_abs y)) where
+    above : (is_below_zero z ≡ false) × (v ≡ nat_abs z)
+    above =
+        let p = positive z (subst (FitsUnsignedBits 32) e h.0) in
+        (p.0, h.1 ∙ ap unsigned_abs e ∙ sym p.1)
+
+    pub positive-large : most < v → number_in text 0 most at ≡ refuse 10
+    positive-large l = number-out text 0 most at z n g (unsigned_large z v most above.0 above.1 l)
+
+    pub positive-in : v ≤ most → done (word v n) ≡ word_of (number_in text 0 most at)
+    positive-in l = word-in text 0 most at z n g v above.1 (unsigned_small z v most above.0 above.1 l)
 
 -- ---- zones
 
-pub zone_refused : (o : Out Zone) (x : ℕ) → o ≡ refuse x → Q.Refused x ≡ zone_step o
-unfolding zone_step
+pub zone_refused : (o : Out Zone) (x : ℕ) → o ≡ refuse x → refuse x ≡ zone_of o
+unfolding zone_of
 zone_refused o x e = rw e
 
-pub zone_done : (o : Out Zone) (s l n : ℕ) → o ≡ done (record { start = s; size = l; next = n }) → Q.String (span s l n) ≡ zone_step o
-unfolding zone_step
+pub zone_done : (o : Out Zone) (s l n : ℕ) → o ≡ done (record { start = s; size = l; next = n }) → done (span s l n) ≡ zone_of o
+unfolding zone_of
 zone_done o s l n e = rw e
 
 module _ (text : List ℕ) (at : ℕ) where
@@ -93,29 +133,29 @@ module _ (text : List ℕ) (at : ℕ) where
   unfolding some_zone
   some-1 x e = rw e refl
 
-  module _ (p : Token) (a : ℕ) (e : need text lparen at ≡ done (behind p a)) where
+  module _ (p : Standing) (a : ℕ) (e : need text lparen at ≡ done (behind p a)) where
     pub some-2 : (x : ℕ) → need text double_quoted a ≡ refuse x → some_zone text at ≡ refuse x
     unfolding some_zone
     some-2 x f = rw (e, f) refl
 
-    module _ (q : TokenKind) (s l b : ℕ) (f : need text double_quoted a ≡ done (string q s l b)) where
+    module _ (q : Out TokenKind) (s l b : ℕ) (f : need text double_quoted a ≡ done (string q s l b)) where
       pub some-3 : (x : ℕ) → need text rparen b ≡ refuse x → some_zone text at ≡ refuse x
       unfolding some_zone
       some-3 x g = rw (e, f, g) refl
 
-      pub some-4 : (c : Token) (n : ℕ) → need text rparen b ≡ done (behind c n) → some_zone text at ≡ done (record { start = s; size = l; next = n })
+      pub some-4 : (c : Standing) (n : ℕ) → need text rparen b ≡ done (behind c n) → some_zone text at ≡ done (record { start = s; size = l; next = n })
       unfolding some_zone
       some-4 c n g = rw (e, f, g) refl
 
   -- behind the comma
-  module _ (t : Token) (e : t ≡ token_at text at) where
+  module _ (t : Standing) (e : t ≡ token_at text at) where
     stood : (sort : ℕ) → sort_of t.kind ≡ sort → stands text sort at ≡ true
     unfolding stands
-    stood sort s = eq-eqb _ sort (sym (ap (λ (x : Token). sort_of x.kind) e) ∙ s)
+    stood sort s = eq-eqb _ sort (sym (ap (λ (x : Standing). sort_of x.kind) e) ∙ s)
 
     stood-not : (sort : ℕ) → eqb (sort_of t.kind) sort ≡ false → stands text sort at ≡ false
     unfolding stands
-    stood-not sort s = sym (ap (λ (x : Token). eqb (sort_of x.kind) sort) e) ∙ s
+    stood-not sort s = sym (ap (λ (x : Standing). eqb (sort_of x.kind) sort) e) ∙ s
 
     pub zone-none : sort_of t.kind ≡ none_word → zone_string text at ≡ done (record { start = 0; size = 0; next = t.next })
     unfolding zone_string
@@ -129,18 +169,23 @@ module _ (text : List ℕ) (at : ℕ) where
     unfolding zone_string
     zone-string s = rw (stood-not none_word (rw s), stood-not some_word (rw s), here text double_quoted at t e s) refl
 
-    pub zone-other : (others : List ℕ) → T (not (has_key others (tag_for none_word))) → T (not (has_key others (tag_for some_word))) → T (not (has_key others (tag_for double_quoted)))
-        → OneOf others (tag_of the_type t.kind) → zone_string text at ≡ refuse (refusal_of t.kind)
-    unfolding zone_string
-    zone-other others h₁ h₂ h₃ o =
-        rw (
-          stood-not none_word (other_sort none_word others t.kind h₁ o),
-          stood-not some_word (other_sort some_word others t.kind h₂ o),
-          not-here text double_quoted at t e (other_sort double_quoted others t.kind h₃ o),
-        ) refl
+  pub zone-lost : (x : ℕ) → (token_at text at).kind ≡ refuse x → zone_string text at ≡ refuse x
+  unfolding zone_string stands need
+  zone-lost x w = rw w refl
+
+  pub zone-other : (t : Token) → standing t ≡ token_at text at → (others : List ℕ)
+      → T (not (has_key others (tag_for none_word))) → T (not (has_key others (tag_for some_word))) → T (not (has_key others (tag_for double_quoted)))
+      → OneOf others (tag_of the_type t.kind) → zone_string text at ≡ refuse 9
+  unfolding zone_string
+  zone-other t e others h₁ h₂ h₃ o =
+      rw (
+        stood-not (standing t) e none_word (other_sort none_word others t.kind h₁ o),
+        stood-not (standing t) e some_word (other_sort some_word others t.kind h₂ o),
+        not-here text double_quoted at (standing t) e (other_sort double_quoted others t.kind h₃ o),
+      ) (ap (λ (n : ℕ). refuse n) (nine t.kind))
 
   -- behind the unit
-  pub zone-1 : (c : Token) (n : ℕ) → need text rparen at ≡ done (behind c n) → zone_at text at ≡ done (record { start = 0; size = 0; next = n })
+  pub zone-1 : (c : Standing) (n : ℕ) → need text rparen at ≡ done (behind c n) → zone_at text at ≡ done (record { start = 0; size = 0; next = n })
   unfolding zone_at
   zone-1 c n e = rw (needed-stands text rparen at (behind c n) e, e) refl
 
@@ -149,7 +194,7 @@ module _ (text : List ℕ) (at : ℕ) where
     unfolding zone_at
     zone-2 x e = rw (refused-stands text rparen at r z, e) refl
 
-    module _ (c : Token) (a : ℕ) (e : need text comma at ≡ done (behind c a)) where
+    module _ (c : Standing) (a : ℕ) (e : need text comma at ≡ done (behind c a)) where
       pub zone-3 : (x : ℕ) → zone_string text a ≡ refuse x → zone_at text at ≡ refuse x
       unfolding zone_at
       zone-3 x f = rw (refused-stands text rparen at r z, e, f) refl
@@ -159,7 +204,7 @@ module _ (text : List ℕ) (at : ℕ) where
         unfolding zone_at
         zone-4 x g = rw (refused-stands text rparen at r z, e, f, g) refl
 
-        pub zone-5 : (d : Token) (n : ℕ) → need text rparen b ≡ done (behind d n) → zone_at text at ≡ done (record { start = s; size = l; next = n })
+        pub zone-5 : (d : Standing) (n : ℕ) → need text rparen b ≡ done (behind d n) → zone_at text at ≡ done (record { start = s; size = l; next = n })
         unfolding zone_at
         zone-5 d n g = rw (refused-stands text rparen at r z, e, f, g) refl
 
@@ -169,12 +214,12 @@ module _ (text : List ℕ) (at : ℕ) where
 abbrev Inside : List ℕ → ℕ → ℕ → Type 0
 Inside text start size = start + size ≤ length text
 
-need_inside : (text : List ℕ) (sort at : ℕ) → (sort ≡ no_token → ⊥) → Holds (λ (t : Token). Inside text t.start t.size) (need text sort at)
+need_inside : (text : List ℕ) (sort at : ℕ) → (sort ≡ no_token → ⊥) → Holds (λ (t : Standing). Inside text t.start t.size) (need text sort at)
 unfolding need
 need_inside text sort at z = go (eqb (sort_of (token_at text at).kind) sort) refl
   where
     go : (b : Bool) → eqb (sort_of (token_at text at).kind) sort ≡ b
-        → Holds (λ (t : Token). Inside text t.start t.size) (if b then done (token_at text at) else refuse (refusal_of (token_at text at).kind))
+        → Holds (λ (t : Standing). Inside text t.start t.size) (if b then done (token_at text at) else refuse (refusal_of (token_at text at).kind))
     go true e = (bounds text at).bytes (λ y. z (sym (borrow.Author.Tests.eqb-true (sort_of (token_at text at).kind) sort e) ∙ y))
     go false e = tt
 
@@ -182,7 +227,7 @@ need_inside text sort at z = go (eqb (sort_of (token_at text at).kind) sort) ref
 abbrev ZoneIn : List ℕ → Zone → Type 0
 ZoneIn text v = Inside text v.start v.size
 
-abbrev TokenIn : List ℕ → Token → Type 0
+abbrev TokenIn : List ℕ → Standing → Type 0
 TokenIn text t = Inside text t.start t.size
 
 some_inside : (text : List ℕ) (at : ℕ) → Holds (ZoneIn text) (some_zone text at)
@@ -223,7 +268,7 @@ module _ (text : List ℕ) (at s l n : ℕ) (short : length text ≤ 16384) wher
       let h : Holds (ZoneIn text) (done (record { start = s; size = l; next = n })) = rw e at (zone_inside text at) in
       (omega arith, omega arith)
 
-  module _ (q : TokenKind) where
+  module _ (q : Out TokenKind) where
     pub name-fits : need text double_quoted at ≡ done (string q s l n) → Fits w32 s × Fits w32 l
     name-fits e =
         let h : Holds (TokenIn text) (done (string q s l n)) = rw e at (need_inside text double_quoted at (λ y. omega arith)) in
@@ -235,7 +280,3 @@ module _ (text : List ℕ) (at s l n : ℕ) (short : length text ≤ 16384) wher
         (omega arith, omega arith)
 
 -- ---- list names
-
-pub quoted_refused : (o : Out Token) (x : ℕ) → o ≡ refuse x → Q.Refused x ≡ quoted_of o
-unfolding quoted_of
-quoted_refused o x e = rw e

@@ -3,15 +3,13 @@
 use Rattle.std.specs.Prelude.{Bool, List, ◌++◌, map, ℕ, zero, suc, ◌+◌, ◌-◌, ◌%◌, ◌^◌, length, drop, replicate, leb, eqb, if◌then◌else◌}
 use Rattle.tokenizer.specs.Answer.{Out, refused, done, refuse, ◌>>=◌}
 use Rattle.tokenizer.specs.Utf8.{is_utf8}
-use Rattle.tokenizer.specs.Token.{token_at, sort_of, value_of, is_negative, no_token, lparen, rparen, comma, colon, integer, double_quoted, single_quoted, type_word, time_unit, interval_unit, union_mode, map_sorted, nullability, field_word, some_word, none_word, x_word}
-use Rattle.tokenizer.specs.declared.Token.{Token}
+use Rattle.tokenizer.specs.Token.{Standing, token_at, sort_of, value_of, is_negative, no_token, lparen, rparen, comma, colon, integer, double_quoted, single_quoted, type_word, time_unit, interval_unit, union_mode, map_sorted, nullability, field_word, some_word, none_word, x_word}
 use Rattle.tokenizer.specs.declared.TokenKind.{TokenKind}
 use Rattle.datatype.specs.Limits.{max_text, max_levels}
 use Rattle.datatype.specs.Kind.{Shape, leaf, timestamp, time, interval, fixed, list, fixed_list, struct, union, dictionary, decimal, mapping, run_end_encoded, shape_of, unit_fits, decimal_fits, entries_refusal, ids_fit}
 use Rattle.datatype.specs.Tree.{Forest, ∅, node, count, roots, Row}
 use Rattle.datatype.specs.Table.{table_of}
-use Rattle.parser.specs.declared.Read.{Read}
-use Rattle.parser.specs.declared.Read.TheVariants as R
+use Rattle.parser.specs.declared.Extent.{Extent}
 
 -- ---- rows
 
@@ -32,7 +30,7 @@ abbrev pub values : Name
 values = record { home = 2; start = 12; size = 6 }
 
 -- A name read from the text, even `item`.
-abbrev pub text_name : Token → Name
+abbrev pub text_name : Standing → Name
 text_name t = record { home = 1; start = t.start; size = t.size }
 
 -- The row of a type that is no field: kind, words 4 and 5, and the zone.
@@ -96,22 +94,22 @@ items_by item (suc most) at rows = item at rows >>= fields_from (items_by item m
 -- ---- signed bytes
 
 -- A union id: 256 is added to a negative one, and -0 is 0.
-abbrev pub id_of : TokenKind → ℕ
+abbrev pub id_of : Out TokenKind → ℕ
 id_of k = if is_negative k then (256 - value_of k) % 256 else value_of k
 
 -- A scale plus 128.
-abbrev pub scale_of : TokenKind → ℕ
+abbrev pub scale_of : Out TokenKind → ℕ
 scale_of k = if is_negative k then 128 - value_of k else (128 + value_of k)
 
 -- ---- tokens where one is needed
 
 -- The refusal at a token that is not of the sort needed: 9, or its own where there is no token.
-abbrev pub refusal_of : TokenKind → ℕ
+abbrev pub refusal_of : Out TokenKind → ℕ
 refusal_of k = if eqb (sort_of k) no_token then value_of k else 9
 
 module _ (text : List ℕ) where
   -- A token of a sort is needed.
-  unfoldable pub need : ℕ → ℕ → Out Token
+  unfoldable pub need : ℕ → ℕ → Out Standing
   need sort at =
       let t = token_at text at in
       if eqb (sort_of t.kind) sort then done t else refuse (refusal_of t.kind)
@@ -128,23 +126,23 @@ module _ (text : List ℕ) where
   after_role at = if stands nullability at then (token_at text at).next else at
 
   -- A number from -least to most; one outside is refused at the number.
-  unfoldable pub number_in : ℕ → ℕ → ℕ → Out Token
+  unfoldable pub number_in : ℕ → ℕ → ℕ → Out Standing
   number_in least most at = do
     t ← need integer at
     if leb (value_of t.kind) (if is_negative t.kind then least else most) then done t else refuse 10
 
   -- A length: signed 32 bits, not negative. A precision: 0 to 255. A scale or a union id: signed 8 bits.
-  abbrev pub length_at : ℕ → Out Token
+  abbrev pub length_at : ℕ → Out Standing
   length_at at = number_in 0 (2 ^ 31 - 1) at
 
-  abbrev pub precision_at : ℕ → Out Token
+  abbrev pub precision_at : ℕ → Out Standing
   precision_at at = number_in 0 255 at
 
-  abbrev pub signed_byte_at : ℕ → Out Token
+  abbrev pub signed_byte_at : ℕ → Out Standing
   signed_byte_at at = number_in 128 127 at
 
   -- The unit of a kind: one that it does not take is refused at the unit.
-  unfoldable pub unit_at : ℕ → ℕ → Out Token
+  unfoldable pub unit_at : ℕ → ℕ → Out Standing
   unit_at k at = do
     u ← need time_unit at
     if unit_fits k (value_of u.kind) then done u else refuse 11
@@ -230,7 +228,7 @@ module _ (text : List ℕ) where
     scale_at k (value_of n.kind) c.next
 
   -- A list's name behind the comma: field: 'name'
-  unfoldable pub list_name_at : ℕ → Out Token
+  unfoldable pub list_name_at : ℕ → Out Standing
   list_name_at at = do
     f ← need field_word at
     c ← need colon f.next
@@ -431,18 +429,9 @@ first_type text rows =
     if leb (length text) max_text then utf8 else refuse 1
 
 -- What is answered for it: the place behind it and its row count, or the refusal.
-pub record Extent : Type 0 where
-  pub next : ℕ
-  pub rows : ℕ
-
 unfoldable pub read_of : Out Tree → Out Extent
 read_of (refused r) = refused r
-read_of (done t) = done (record { next = t.next; rows = rows_in t })
-
--- What the code's answer means.
-unfoldable pub read_means : Read → Out Extent
-read_means (R.Tree next rows) = done (record { next = next; rows = rows })
-read_means (R.Refused n) = refuse n
+read_of (done t) = done (record { next = t.next; used = rows_in t })
 
 -- What the lent words hold behind it: the rows, and past them what they held before; all zeros on a refusal.
 unfoldable pub rows_of : List ℕ → Out Tree → List ℕ

@@ -1,31 +1,13 @@
 // One token where it is needed or looked for: the small functions of the Rust's `Parser`.
-ghost use Rattle.std.specs.Prelude.{◌≡◌, true, false, ◌≤◌, ◌<◌, length, get_or, if◌then◌else◌};
-ghost use Rattle.tokenizer.specs.Edges.{edges};
-ghost use Rattle.tokenizer.specs.Token.{token_at, double_quoted, single_quoted, type_word, time_unit, interval_unit, union_mode, map_sorted, field_word, x_word};
-ghost use Rattle.parser.specs.Parse.{refusal_of, need, role_at, after_role, number_in, length_at, precision_at, signed_byte_at, stands};
-ghost use Rattle.parser.specs.Internal.Steps.{mark_sort, is_mark, step_of, look_of, valued_of, number_of, quoted_of};
+ghost use Rattle.std.specs.Prelude.{◌≡◌, true, false, ◌<◌, length, get_or};
+ghost use Rattle.tokenizer.specs.Answer.{answer_of};
+ghost use Rattle.tokenizer.specs.Token.{token_at, token_or_refusal, integer, double_quoted, single_quoted, type_word, time_unit, interval_unit, union_mode, map_sorted, field_word, x_word};
+ghost use Rattle.parser.specs.Parse.{need, role_at, after_role, number_in, length_at, precision_at, signed_byte_at, stands};
+ghost use Rattle.parser.specs.Internal.Steps.{mark_sort, is_mark, next_of, look_of, word_of, integer_of, signed_of, span_of};
 
-use crate::{Look, Nullability, Number, Quoted, Signed, Span, Step, Valued, Word};
+use crate::{Nullability, Number, Parser, Signed, Span, Word};
 use datatype::rows::NULLABLE;
-use tokenizer::{Token, TokenKind, WordTable, refusal};
-
-// The token at or behind a place. The table is lent once for a text, since a constant array is built anew at each use.
-pub(crate) fn next_token(words: &WordTable, text: &[u8], at: usize) -> Token
-    requires { words.now ≡ edges }
-    ensures { result ≡ token_at text.now at }
-{
-    tokenizer::next_token_by(words, text, at)
-}
-
-// The refusal at a token that is not of the sort needed.
-pub(crate) fn refusal_of(kind: TokenKind) -> u32
-    ensures { result ≡ refusal_of kind }
-{
-    let TokenKind::Refused(n) = kind else {
-        return refusal::UNEXPECTED_TOKEN;
-    };
-    n
-}
+use tokenizer::{Refusal, Token, TokenKind};
 
 // Whether a byte stands at a place.
 fn starts(text: &[u8], at: usize, byte: u8) -> bool
@@ -38,302 +20,280 @@ fn starts(text: &[u8], at: usize, byte: u8) -> bool
     text[at] == byte
 }
 
-// A mark is needed.
-pub(crate) fn expect_token(words: &WordTable, text: &[u8], at: usize, mark: u8) -> Step
-    requires mark_value { is_mark mark ≡ true }
-    requires words_value { words.now ≡ edges }
-    ensures { result ≡ step_of (need text.now (mark_sort mark) at) }
-{
-    if starts(text, at, mark) {
-        return Step::Next(at + 1);
+impl<'a> Parser<'a> {
+    // The token at or behind a place.
+    pub(crate) fn next_token(&self, at: usize) -> Result<Token, Refusal>
+        ensures { answer_of result ≡ token_or_refusal (token_at self.now.text.now at) }
+    {
+        tokenizer::next_token_by(self.words, self.text, at)
     }
-    let from = tokenizer::skip_spaces(text, at);
-    if from >= text.len() {
-        return Step::Refused(refusal::TEXT_ENDS);
-    }
-    if text[from] == mark {
-        return Step::Next(from + 1);
-    }
-    let token = next_token(words, text, from);
-    let kind = token.kind;
-    Step::Refused(refusal_of(kind))
-}
 
-// A mark is looked for, and taken if it is there.
-pub(crate) fn next_if(text: &[u8], at: usize, mark: u8) -> Look
-    requires { is_mark mark ≡ true }
-    ensures { result ≡ look_of (need text.now (mark_sort mark) at) }
-{
-    if at >= text.len() {
-        return Look::Other;
+    // A mark is needed.
+    pub(crate) fn expect_token(&self, at: usize, mark: u8) -> Result<usize, Refusal>
+        requires { is_mark mark ≡ true }
+        ensures { answer_of result ≡ next_of (need self.now.text.now (mark_sort mark) at) }
+    {
+        if starts(self.text, at, mark) {
+            return Ok(at + 1);
+        }
+        let from = tokenizer::skip_spaces(self.text, at);
+        if from >= self.text.len() {
+            return Err(Refusal::TextEnds);
+        }
+        if self.text[from] == mark {
+            return Ok(from + 1);
+        }
+        self.next_token(from)?;
+        Err(Refusal::UnexpectedToken)
     }
-    let b = text[at];
-    if b == mark {
-        return Look::Next(at + 1);
-    }
-    if b != b' ' {
-        return Look::Other;
-    }
-    let from = tokenizer::skip_spaces(text, at + 1);
-    if starts(text, from, mark) {
-        return Look::Next(from + 1);
-    }
-    Look::Other
-}
 
-// Nullability, which may be left out. Both of its words begin with an n, so that the word of a type is not read twice.
-pub(crate) fn parse_opt_nullable(words: &WordTable, text: &[u8], at: usize) -> Nullability
-    requires { words.now ≡ edges }
-    ensures role { result.role ≡ role_at text.now at }
-    ensures next { result.next ≡ after_role text.now at }
-{
-    let from = tokenizer::skip_spaces(text, at);
-    if !starts(text, from, b'n') {
-        return Nullability {
-            role: NULLABLE,
-            next: at,
+    // A mark is looked for, and taken if it is there.
+    pub(crate) fn next_if(&self, at: usize, mark: u8) -> Option<usize>
+        requires { is_mark mark ≡ true }
+        ensures { result ≡ look_of (need self.now.text.now (mark_sort mark) at) }
+    {
+        if at >= self.text.len() {
+            return None;
+        }
+        let b = self.text[at];
+        if b == mark {
+            return Some(at + 1);
+        }
+        if b != b' ' {
+            return None;
+        }
+        let from = tokenizer::skip_spaces(self.text, at + 1);
+        if starts(self.text, from, mark) {
+            return Some(from + 1);
+        }
+        None
+    }
+
+    // Nullability, which may be left out. Both of its words begin with an n, so that the word of a type is not read twice.
+    pub(crate) fn parse_opt_nullable(&self, at: usize) -> Nullability
+        ensures role { result.role ≡ role_at self.now.text.now at }
+        ensures next { result.next ≡ after_role self.now.text.now at }
+    {
+        let from = tokenizer::skip_spaces(self.text, at);
+        if !starts(self.text, from, b'n') {
+            return Nullability {
+                role: NULLABLE,
+                next: at,
+            };
+        }
+        let Ok(token) = self.next_token(from) else {
+            return Nullability {
+                role: NULLABLE,
+                next: at,
+            };
         };
-    }
-    let token = next_token(words, text, from);
-    let kind = token.kind;
-    let TokenKind::Nullability(role) = kind else {
-        return Nullability {
-            role: NULLABLE,
-            next: at,
+        let TokenKind::Nullability(role) = token.kind else {
+            return Nullability {
+                role: NULLABLE,
+                next: at,
+            };
         };
-    };
-    Nullability {
-        role: role,
-        next: token.next,
+        Nullability {
+            role,
+            next: token.next,
+        }
     }
-}
 
-// Whether a whole, non-empty double-quoted string is next.
-pub(crate) fn peek_double_quoted(words: &WordTable, text: &[u8], at: usize) -> bool
-    requires { words.now ≡ edges }
-    ensures { result ≡ stands text.now double_quoted at }
-{
-    let token = next_token(words, text, at);
-    let kind = token.kind;
-    let TokenKind::DoubleQuotedString = kind else {
-        return false;
-    };
-    true
-}
+    // Whether a whole, non-empty double-quoted string is next.
+    pub(crate) fn peek_double_quoted(&self, at: usize) -> bool
+        ensures { result ≡ stands self.now.text.now double_quoted at }
+    {
+        let Ok(token) = self.next_token(at) else {
+            return false;
+        };
+        let TokenKind::DoubleQuotedString = token.kind else {
+            return false;
+        };
+        true
+    }
 
-// A double-quoted string is needed.
-pub(crate) fn parse_double_quoted_string(words: &WordTable, text: &[u8], at: usize) -> Quoted
-    requires { words.now ≡ edges }
-    ensures { result ≡ quoted_of (need text.now double_quoted at) }
-{
-    let token = next_token(words, text, at);
-    let kind = token.kind;
-    let TokenKind::DoubleQuotedString = kind else {
-        return Quoted::Refused(refusal_of(kind));
-    };
-    Quoted::String(Span {
-        start: token.start,
-        size: token.size,
-        next: token.next,
-    })
-}
+    // A double-quoted string is needed.
+    pub(crate) fn parse_double_quoted_string(&self, at: usize) -> Result<Span, Refusal>
+        ensures { answer_of result ≡ span_of (need self.now.text.now double_quoted at) }
+    {
+        let token = self.next_token(at)?;
+        let TokenKind::DoubleQuotedString = token.kind else {
+            return Err(Refusal::UnexpectedToken);
+        };
+        Ok(Span {
+            start: token.start,
+            size: token.size,
+            next: token.next,
+        })
+    }
 
-// A single-quoted string is needed.
-pub(crate) fn parse_single_quoted_string(words: &WordTable, text: &[u8], at: usize) -> Quoted
-    requires { words.now ≡ edges }
-    ensures { result ≡ quoted_of (need text.now single_quoted at) }
-{
-    let token = next_token(words, text, at);
-    let kind = token.kind;
-    let TokenKind::SingleQuotedString = kind else {
-        return Quoted::Refused(refusal_of(kind));
-    };
-    Quoted::String(Span {
-        start: token.start,
-        size: token.size,
-        next: token.next,
-    })
-}
+    // A single-quoted string is needed.
+    pub(crate) fn parse_single_quoted_string(&self, at: usize) -> Result<Span, Refusal>
+        ensures { answer_of result ≡ span_of (need self.now.text.now single_quoted at) }
+    {
+        let token = self.next_token(at)?;
+        let TokenKind::SingleQuotedString = token.kind else {
+            return Err(Refusal::UnexpectedToken);
+        };
+        Ok(Span {
+            start: token.start,
+            size: token.size,
+            next: token.next,
+        })
+    }
 
-// The word of a type is needed.
-pub(crate) fn parse_type_word(words: &WordTable, text: &[u8], at: usize) -> Valued
-    requires { words.now ≡ edges }
-    ensures { result ≡ valued_of (need text.now type_word at) }
-{
-    let token = next_token(words, text, at);
-    let kind = token.kind;
-    let TokenKind::DataType(k) = kind else {
-        return Valued::Refused(refusal_of(kind));
-    };
-    Valued::Value(Word {
-        value: k,
-        next: token.next,
-    })
-}
+    // The word of a type is needed.
+    pub(crate) fn parse_type_word(&self, at: usize) -> Result<Word, Refusal>
+        ensures { answer_of result ≡ word_of (need self.now.text.now type_word at) }
+    {
+        let token = self.next_token(at)?;
+        let TokenKind::DataType(value) = token.kind else {
+            return Err(Refusal::UnexpectedToken);
+        };
+        Ok(Word {
+            value,
+            next: token.next,
+        })
+    }
 
-pub(crate) fn parse_time_unit(words: &WordTable, text: &[u8], at: usize) -> Valued
-    requires { words.now ≡ edges }
-    ensures { result ≡ valued_of (need text.now time_unit at) }
-{
-    let token = next_token(words, text, at);
-    let kind = token.kind;
-    let TokenKind::TimeUnit(unit) = kind else {
-        return Valued::Refused(refusal_of(kind));
-    };
-    Valued::Value(Word {
-        value: unit,
-        next: token.next,
-    })
-}
+    // The readers of words and of strings differ in the variant, which is no value: each would hand a closure as long as
+    // itself to one.
+    pub(crate) fn parse_time_unit(&self, at: usize) -> Result<Word, Refusal>
+        ensures { answer_of result ≡ word_of (need self.now.text.now time_unit at) }
+    {
+        let token = self.next_token(at)?;
+        let TokenKind::TimeUnit(value) = token.kind else {
+            return Err(Refusal::UnexpectedToken);
+        };
+        Ok(Word {
+            value,
+            next: token.next,
+        })
+    }
 
-pub(crate) fn parse_interval_unit(words: &WordTable, text: &[u8], at: usize) -> Valued
-    requires { words.now ≡ edges }
-    ensures { result ≡ valued_of (need text.now interval_unit at) }
-{
-    let token = next_token(words, text, at);
-    let kind = token.kind;
-    let TokenKind::IntervalUnit(unit) = kind else {
-        return Valued::Refused(refusal_of(kind));
-    };
-    Valued::Value(Word {
-        value: unit,
-        next: token.next,
-    })
-}
+    pub(crate) fn parse_interval_unit(&self, at: usize) -> Result<Word, Refusal>
+        ensures { answer_of result ≡ word_of (need self.now.text.now interval_unit at) }
+    {
+        let token = self.next_token(at)?;
+        let TokenKind::IntervalUnit(value) = token.kind else {
+            return Err(Refusal::UnexpectedToken);
+        };
+        Ok(Word {
+            value,
+            next: token.next,
+        })
+    }
 
-pub(crate) fn parse_union_mode(words: &WordTable, text: &[u8], at: usize) -> Valued
-    requires { words.now ≡ edges }
-    ensures { result ≡ valued_of (need text.now union_mode at) }
-{
-    let token = next_token(words, text, at);
-    let kind = token.kind;
-    let TokenKind::UnionMode(mode) = kind else {
-        return Valued::Refused(refusal_of(kind));
-    };
-    Valued::Value(Word {
-        value: mode,
-        next: token.next,
-    })
-}
+    pub(crate) fn parse_union_mode(&self, at: usize) -> Result<Word, Refusal>
+        ensures { answer_of result ≡ word_of (need self.now.text.now union_mode at) }
+    {
+        let token = self.next_token(at)?;
+        let TokenKind::UnionMode(value) = token.kind else {
+            return Err(Refusal::UnexpectedToken);
+        };
+        Ok(Word {
+            value,
+            next: token.next,
+        })
+    }
 
-pub(crate) fn parse_map_sorted(words: &WordTable, text: &[u8], at: usize) -> Valued
-    requires { words.now ≡ edges }
-    ensures { result ≡ valued_of (need text.now map_sorted at) }
-{
-    let token = next_token(words, text, at);
-    let kind = token.kind;
-    let TokenKind::MapSorted(sorted) = kind else {
-        return Valued::Refused(refusal_of(kind));
-    };
-    Valued::Value(Word {
-        value: sorted,
-        next: token.next,
-    })
-}
+    pub(crate) fn parse_map_sorted(&self, at: usize) -> Result<Word, Refusal>
+        ensures { answer_of result ≡ word_of (need self.now.text.now map_sorted at) }
+    {
+        let token = self.next_token(at)?;
+        let TokenKind::MapSorted(value) = token.kind else {
+            return Err(Refusal::UnexpectedToken);
+        };
+        Ok(Word {
+            value,
+            next: token.next,
+        })
+    }
 
-// The word `field` is needed.
-pub(crate) fn expect_field(words: &WordTable, text: &[u8], at: usize) -> Step
-    requires { words.now ≡ edges }
-    ensures { result ≡ step_of (need text.now field_word at) }
-{
-    let token = next_token(words, text, at);
-    let kind = token.kind;
-    let TokenKind::Field = kind else {
-        return Step::Refused(refusal_of(kind));
-    };
-    Step::Next(token.next)
-}
+    // The word `field` is needed.
+    pub(crate) fn expect_field(&self, at: usize) -> Result<usize, Refusal>
+        ensures { answer_of result ≡ next_of (need self.now.text.now field_word at) }
+    {
+        let token = self.next_token(at)?;
+        let TokenKind::Field = token.kind else {
+            return Err(Refusal::UnexpectedToken);
+        };
+        Ok(token.next)
+    }
 
-// The word `x` is looked for, and taken if it is there.
-pub(crate) fn next_if_x(words: &WordTable, text: &[u8], at: usize) -> Look
-    requires { words.now ≡ edges }
-    ensures { result ≡ look_of (need text.now x_word at) }
-{
-    let token = next_token(words, text, at);
-    let kind = token.kind;
-    let TokenKind::X = kind else {
-        return Look::Other;
-    };
-    Look::Next(token.next)
+    // The word `x` is looked for, and taken if it is there.
+    pub(crate) fn next_if_x(&self, at: usize) -> Option<usize>
+        ensures { result ≡ look_of (need self.now.text.now x_word at) }
+    {
+        let Ok(token) = self.next_token(at) else {
+            return None;
+        };
+        let TokenKind::X = token.kind else {
+            return None;
+        };
+        Some(token.next)
+    }
 }
 
 // ---- numbers
 
-// The greatest magnitudes: of a negative signed byte and of one that is not, of a byte, and of 32 signed bits.
-const I8_LEAST: u64 = 128;
-
-const I8_MOST: u64 = 127;
-
-const U8_MOST: u64 = 255;
-
-const I32_MOST: u64 = 2147483647;
-
-// The greatest magnitude of a number by its sign.
-fn limit(negative: bool, least: u64, most: u64) -> u64
-    ensures { result ≡ (if negative then least else most) }
-{
-    if negative {
-        return least;
+impl<'a> Parser<'a> {
+    // A number of signed 64 bits is needed.
+    fn parse_i64(&self, at: usize) -> Result<Number, Refusal>
+        ensures { answer_of result ≡ integer_of (need self.now.text.now integer at) }
+    {
+        let token = self.next_token(at)?;
+        let TokenKind::Integer(value) = token.kind else {
+            return Err(Refusal::UnexpectedToken);
+        };
+        Ok(Number {
+            value,
+            next: token.next,
+        })
     }
-    most
-}
 
-// A number from -least to most is needed.
-fn parse_number(words: &WordTable, text: &[u8], at: usize, least: u64, most: u64) -> Number
-    requires { words.now ≡ edges }
-    ensures { result ≡ number_of (number_in text.now least most at) }
-{
-    let token = next_token(words, text, at);
-    let kind = token.kind;
-    let TokenKind::Integer(negative, magnitude) = kind else {
-        return Number::Refused(refusal_of(kind));
-    };
-    if magnitude > limit(negative, least, most) {
-        return Number::Refused(refusal::NUMBER_OUT_OF_RANGE);
+    // A number from 0 to most is needed.
+    fn parse_unsigned(&self, at: usize, most: u32) -> Result<Word, Refusal>
+        ensures { answer_of result ≡ word_of (number_in self.now.text.now 0 most at) }
+    {
+        let number = self.parse_i64(at)?;
+        let Ok(value) = u32::try_from(number.value) else {
+            return Err(Refusal::NumberOutOfRange);
+        };
+        if value > most {
+            return Err(Refusal::NumberOutOfRange);
+        }
+        Ok(Word {
+            value,
+            next: number.next,
+        })
     }
-    Number::Value(Signed {
-        negative: negative,
-        magnitude: magnitude,
-        next: token.next,
-    })
-}
 
-// A number from 0 to most is needed.
-fn parse_unsigned(words: &WordTable, text: &[u8], at: usize, most: u64) -> Valued
-    requires most_bound { most ≤ 2147483647 }
-    requires words_value { words.now ≡ edges }
-    ensures { result ≡ valued_of (number_in text.now 0 most at) }
-{
-    let number = match parse_number(words, text, at, 0, most) {
-        Number::Value(number) => number,
-        Number::Refused(n) => return Valued::Refused(n),
-    };
-    Valued::Value(Word {
-        value: number.magnitude as u32,
-        next: number.next,
-    })
-}
+    // The Rust's `parse_i8`: a scale or a union id.
+    pub(crate) fn parse_i8(&self, at: usize) -> Result<Signed, Refusal>
+        ensures { answer_of result ≡ signed_of (signed_byte_at self.now.text.now at) }
+    {
+        let number = self.parse_i64(at)?;
+        let Ok(value) = i8::try_from(number.value) else {
+            return Err(Refusal::NumberOutOfRange);
+        };
+        Ok(Signed {
+            value,
+            next: number.next,
+        })
+    }
 
-// The Rust's `parse_i8`: a scale or a union id.
-pub(crate) fn parse_i8(words: &WordTable, text: &[u8], at: usize) -> Number
-    requires { words.now ≡ edges }
-    ensures { result ≡ number_of (signed_byte_at text.now at) }
-{
-    parse_number(words, text, at, I8_LEAST, I8_MOST)
-}
+    // The Rust's `parse_u8`: a precision.
+    pub(crate) fn parse_u8(&self, at: usize) -> Result<Word, Refusal>
+        ensures { answer_of result ≡ word_of (precision_at self.now.text.now at) }
+    {
+        self.parse_unsigned(at, u8::MAX as u32)
+    }
 
-// The Rust's `parse_u8`: a precision.
-pub(crate) fn parse_u8(words: &WordTable, text: &[u8], at: usize) -> Valued
-    requires { words.now ≡ edges }
-    ensures { result ≡ valued_of (precision_at text.now at) }
-{
-    parse_unsigned(words, text, at, U8_MOST)
-}
-
-// The Rust's `parse_i32`, of which no negative number is taken: a length.
-pub(crate) fn parse_length(words: &WordTable, text: &[u8], at: usize) -> Valued
-    requires { words.now ≡ edges }
-    ensures { result ≡ valued_of (length_at text.now at) }
-{
-    parse_unsigned(words, text, at, I32_MOST)
+    // The Rust's `parse_i32`, of which no negative number is taken: a length.
+    pub(crate) fn parse_length(&self, at: usize) -> Result<Word, Refusal>
+        ensures { answer_of result ≡ word_of (length_at self.now.text.now at) }
+    {
+        self.parse_unsigned(at, i32::MAX as u32)
+    }
 }

@@ -1,10 +1,12 @@
 -- The reader's cases: each return of the code as a law.
 use mathlib.Core.Path.{◌≡◌, refl, sym, ap, ◌∙◌}
 use mathlib.Core.Bool.{Bool, true, false}
+use mathlib.Core.Logic.{◌⊎◌, inl, inr}
 use mathlib.Core.List.{List, ◌++◌}
-use Prim.Native.Nat.{ℕ, zero, suc, ◌*◌, ◌-◌, ◌≤◌, ◌<◌, min}
+use Prim.Native.Nat.{ℕ, zero, suc, ◌*◌, ◌-◌, ◌≤◌, min}
 use native.Mathlib.Omega.{arith}
 use lib.ListN.{length, take, drop, replicate, length-replicate}
+use lib.Dec.{eqb}
 use lib.Seq.{length-take-le}
 use borrow.Author.Tests.{eq-eqb, ne_eqb}
 use Rattle.tokenizer.specs.Text.{same}
@@ -15,7 +17,7 @@ use Rattle.datatype_parse.specs.RowsToLend.{rows_to_lend}
 use Rattle.datatype_parse.proofs.RowsToLend.{most_to_lend}
 use Rattle.arrow_types.specs.Status.{status_of, value_of}
 use Rattle.replay.specs.Sample.{number_at, numbers_at, after_numbers, after_part, counted}
-use Rattle.replay.specs.ReadCase.{read_case_at, rest_of, unread, words_lent, left_words, after_case, gives, one_case, read_one, read_more, read_all}
+use Rattle.replay.specs.ReadCase.{read_case_at, rest_of, unread, words_lent, left_words, after_case, gives, one_case, read_one}
 use Rattle.replay.specs.declared.Number.{Number}
 use Rattle.replay.specs.declared.ReadCase.{ReadCase}
 use Rattle.replay.specs.declared.Tally.{Tally}
@@ -39,6 +41,10 @@ refused_words false case h = refl
 pub first_words : (again : Bool) (case : ReadCase) → again ≡ false → case.lent ≡ words_lent again case
 unfolding words_lent
 first_words again case h = rw h refl
+
+pub other_words : (again : Bool) (case : ReadCase) → ((again ≡ true) × (case.status ≡ 0 → ⊥)) ⊎ (again ≡ false) → case.lent ≡ words_lent again case
+other_words again case (inl p) = refused_words again case p.1
+other_words again case (inr e) = first_words again case e
 
 module _ (case : ReadCase) (rows : ℕ) (e : rows ≡ rows_to_lend case.size) where
   pub few-rows : rows ≤ 1024
@@ -98,7 +104,7 @@ module _ (text : List ℕ) (status value : ℕ) (left before rows after : List �
   other-status h = rw (sym filled, sym es, ne_eqb s status h) refl
 
   module _ (hs : s ≡ status) where
-    pub other-value : (n ≡ value → ⊥) → false ≡ gives text (length before) status value left
+    pub other-value : (n ≡ value → ⊥) → eqb n value ≡ gives text (length before) status value left
     unfolding gives
     other-value h = rw (sym filled, sym es, sym en, eq-eqb s status hs, ne_eqb n value h) refl
 
@@ -130,41 +136,3 @@ module _ (sample : List ℕ) (again : Bool) (t r : Tally) (case : ReadCase) (row
   pub one_read : case ≡ read_case_at sample t.next → r ≡ one_case sample t case (length (take lent rows)) (length (take lent left)) → r ≡ read_one sample again (min (length rows) (length left)) t
   unfolding read_one
   one_read c h = h ∙ rw (sym rows-front, sym left-front, sym c, sym em, sym ew, el) refl
-
--- the buffers keep their lengths, and the cases that are left complete the tally
-pub record Turn (sample : List ℕ) (again : Bool) (rows₀ left₀ rows left : List ℕ) (n : ℕ) (t : Tally) : Type 0 where
-  pub rows_long : length rows ≡ length rows₀
-  pub left-long : length left ≡ length left₀
-  pub rest : read_more sample again (min (length rows₀) (length left₀)) n t ≡ read_all sample again (min (length rows₀) (length left₀))
-
-module _ (sample : List ℕ) (again : Bool) (rows₀ left₀ : List ℕ) where
-  pub turn-first : (n : Number) → n ≡ number_at sample 0 → Turn sample again rows₀ left₀ rows₀ left₀ n.value (record { all = 0; alike = 0; first = 0; next = n.next })
-  unfolding read_all
-  turn-first n e = record { rows_long = refl; left-long = refl; rest = rw e refl }
-
-  more : (most n : ℕ) (t w : Tally) → 0 < n → read_more sample again most n t ≡ w → read_more sample again most (n - 1) (read_one sample again most t) ≡ w
-  unfolding read_more
-  more most zero t w h i = absurd (omega arith)
-  more most (suc n) t w h i =
-      let e : suc n - 1 ≡ n = omega arith in
-      rw e i
-
-  module _ (rows left : List ℕ) (n : ℕ) (t : Tally) (i : Turn sample again rows₀ left₀ rows left n t) where
-    pub turn-next :
-        (rows2 left2 : List ℕ) (r : Tally) → 0 < n
-        → r ≡ read_one sample again (min (length rows) (length left)) t
-        → length rows2 ≡ length rows → length left2 ≡ length left → Turn sample again rows₀ left₀ rows2 left2 (n - 1) r
-    turn-next rows2 left2 r h e a b =
-        let m : min (length rows) (length left) ≡ min (length rows₀) (length left₀) = ap (λ (k : ℕ). min k (length left)) i.rows_long ∙ ap (min (length rows₀)) i.left-long in
-        record {
-          rows_long = a ∙ i.rows_long;
-          left-long = b ∙ i.left-long;
-          rest = rw (e, m) (more _ n t _ h i.rest);
-        }
-
-    pub turn_last : n ≤ 0 → t ≡ read_all sample again (min (length rows₀) (length left₀))
-    unfolding read_more
-    turn_last h =
-        let z : n ≡ 0 = omega arith in
-        let f = i.rest in
-        rw z at f

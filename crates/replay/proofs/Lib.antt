@@ -1,5 +1,5 @@
 pub mod Cases
-pub mod Counting
 pub mod PrintCases
 pub mod Reading
 pub mod TableCases
+pub mod Times

@@ -3,7 +3,7 @@ use mathlib.Core.Path.{◌≡◌, refl, sym, ap, ◌∙◌}
 use mathlib.Core.List.{List, [], ◌∷◌, ◌++◌, append-nil, append_assoc}
 use Prim.Native.Nat.{ℕ, suc, ◌+◌, ◌-◌, ◌≤◌, ◌<◌}
 use native.Mathlib.Omega.{arith}
-use lib.ListN.{length, get_or, take, drop, set, replicate, length-set, drop_of_length-le}
+use lib.ListN.{length, get_or, take, drop, set, length-set, drop_of_length-le}
 use lib.Seq.{drop-cons, take-suc-set, take_all}
 use borrow.Author.Tests.{lt-ltb, le-ltb}
 use Rattle.replay.specs.Sample.{shift, number_from, number_at, numbers_at, after_numbers}
@@ -57,29 +57,6 @@ module _ (before now : List ℕ) (i : ℕ) (whole : List ℕ) where
 
   pub front-all : length now ≤ i → Front before now i [] whole → now ≡ whole
   front-all h f = sym (take_all i now h) ∙ sym (append-nil (take i now)) ∙ f.same
-
--- ---- one value everywhere
-
-abbrev pub Filled : ℕ → List ℕ → List ℕ → ℕ → Type 0
-Filled v before now i = Front before now i (replicate (length before - i) v) (replicate (length before) v)
-
-pub filled_start : (v : ℕ) (before : List ℕ) → Filled v before before 0
-filled_start v before =
-    let e : length before - 0 ≡ length before = omega arith in
-    rw e (front_start before _)
-
-module _ (v : ℕ) (before now : List ℕ) (i : ℕ) (f : Filled v before now i) where
-  pub filled_more : i < length now → Filled v before (set now i v) (i + 1)
-  filled_more h =
-      let l = f.long in
-      let e : length before - i ≡ suc (length before - (i + 1)) = omega arith in
-      front-more before now i (replicate (length before) v) v _ h (rw e at f)
-
-  pub filled-all : length now ≤ i → now ≡ replicate (length before) v
-  filled-all h =
-      let l = f.long in
-      let e : length before - i ≡ 0 = omega arith in
-      front-all before now i (replicate (length before) v) h (rw e at f)
 
 -- ---- numbers, one behind the other
 

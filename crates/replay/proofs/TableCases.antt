@@ -2,7 +2,7 @@
 use mathlib.Core.Path.{◌≡◌, refl, sym, ap, ◌∙◌}
 use mathlib.Core.Bool.{Bool, true, false, ◌&&◌}
 use mathlib.Core.List.{List}
-use Prim.Native.Nat.{ℕ, zero, suc, ◌+◌, ◌*◌, ◌-◌, ◌/◌, ◌≤◌, ◌<◌, min}
+use Prim.Native.Nat.{ℕ, suc, ◌+◌, ◌*◌, ◌-◌, ◌/◌, ◌≤◌, ◌<◌, min}
 use native.Mathlib.Omega.{arith}
 use lib.ListN.{length, get_or, take, drop, set, get_or-eq_default}
 use lib.Seq.{get_or-drop, set_out, set-set, set-get_or}
@@ -13,12 +13,15 @@ use Rattle.datatype.specs.Tree.{name_of, zone_of, label_of, part}
 use Rattle.datatype.specs.Table.{row_words, row_of}
 use Rattle.row_table.specs.Sound.{is_sound, depth_of}
 use Rattle.subtrees.specs.Equal.{equal_trees}
-use Rattle.layout.specs.Layout.{verdict_of, verdict_means}
-use Rattle.layout.specs.declared.Verdict.{Verdict}
-use Rattle.layout.specs.declared.Verdict.TheVariants.{Yes, Row, Refused}
+use Rattle.std.specs.Prelude.{Option, Some, None}
+use Rattle.std.specs.declared.result.Result.{Result}
+use Rattle.std.specs.declared.result.Result.TheVariants.{Ok, Err}
+use Rattle.tokenizer.specs.Answer.{number_of, answer_of}
+use Rattle.tokenizer.specs.declared.refusal.Refusal as R
+use Rattle.layout.specs.Layout.{verdict_of}
 use Rattle.arrow_types.specs.Status.{status_of, value_of, flag}
 use Rattle.replay.specs.Sample.{number_at, numbers_at, after_numbers, after_part, counted}
-use Rattle.replay.specs.TableCase.{table_at, table_case_at, verdict_value, is_verdict, tree_alike, row_alike, change_alike, one_change, changes, group_cases, group_of, one_group, groups, table_all}
+use Rattle.replay.specs.TableCase.{table_at, table_case_at, verdict_value, is_verdict, tree_alike, row_alike, change_alike, one_change, changes, group_cases, group_of, one_group}
 use Rattle.replay.specs.declared.Number.{Number}
 use Rattle.replay.specs.declared.Table.{Table}
 use Rattle.replay.specs.declared.TableCase.{TableCase}
@@ -65,38 +68,38 @@ and_false : (b : Bool) → b && false ≡ false
 and_false true = refl
 and_false false = refl
 
-module _ (verdict : Verdict) (status value : ℕ) where
-  pub yes-is : verdict ≡ Yes → status ≡ 0 → eqb 0 value ≡ is_verdict (verdict_means verdict) status value
-  unfolding is_verdict status_of verdict_value verdict_means
-  yes-is v h = rw (v, h) refl
+module _ (verdict : Result (Option ℕ) R.Refusal) (status value : ℕ) where
+  pub yes-is : verdict ≡ Ok None → 0 ≡ status → eqb 0 value ≡ is_verdict (answer_of verdict) status value
+  unfolding is_verdict status_of verdict_value
+  yes-is v h = rw (v, eq-eqb 0 status h) refl
 
-  pub yes-not : verdict ≡ Yes → (status ≡ 0 → ⊥) → false ≡ is_verdict (verdict_means verdict) status value
-  unfolding is_verdict status_of verdict_value verdict_means
-  yes-not v h = rw (v, ne_eqb 0 status (λ e. h (sym e))) refl
+  pub yes-not : verdict ≡ Ok None → (0 ≡ status → ⊥) → eqb 0 status ≡ is_verdict (answer_of verdict) status value
+  unfolding is_verdict status_of verdict_value
+  yes-not v h = rw (v, ne_eqb 0 status h) refl
 
-  module _ (i : ℕ) (v : verdict ≡ Row i) where
-    pub row-not : (status ≡ 0 → ⊥) → false ≡ is_verdict (verdict_means verdict) status value
-    unfolding is_verdict status_of verdict_value verdict_means
-    row-not h = rw (v, ne_eqb 0 status (λ e. h (sym e))) refl
-
-    pub row-none : 0 ≡ value → false ≡ is_verdict (verdict_means verdict) status value
-    unfolding is_verdict status_of verdict_value verdict_means
+  module _ (i : ℕ) (v : verdict ≡ Ok (Some i)) where
+    pub row-none : value ≡ 0 → false ≡ is_verdict (answer_of verdict) status value
+    unfolding is_verdict status_of verdict_value
     row-none h = rw (v, ne_eqb (suc i) value (λ e. omega arith)) (sym (and_false (eqb 0 status)))
 
-    pub row_is : status ≡ 0 → 0 < value → eqb i (value - 1) ≡ is_verdict (verdict_means verdict) status value
-    unfolding is_verdict status_of verdict_value verdict_means
+    pub row-not : (0 ≡ status → ⊥) → eqb 0 status ≡ is_verdict (answer_of verdict) status value
+    unfolding is_verdict status_of verdict_value
+    row-not h = rw (v, ne_eqb 0 status h) refl
+
+    pub row_is : 0 ≡ status → 0 < value → eqb i (value - 1) ≡ is_verdict (answer_of verdict) status value
+    unfolding is_verdict status_of verdict_value
     row_is h k =
         let e : value ≡ suc (value - 1) = omega arith in
         let f : eqb (suc i) value ≡ eqb i (value - 1) = ap (eqb (suc i)) e ∙ eqb-suc-suc i (value - 1) in
-        rw (v, h, f) refl
+        rw (v, eq-eqb 0 status h, f) refl
 
-  pub refused-verdict : (n : ℕ) → verdict ≡ Refused n → n ≡ status → eqb 0 value ≡ is_verdict (verdict_means verdict) status value
-  unfolding is_verdict status_of verdict_value verdict_means
-  refused-verdict n v h = rw (v, eq-eqb n status h) refl
+  pub refused-verdict : (n : R.Refusal) (r : ℕ) → verdict ≡ Err n → r ≡ number_of n → r ≡ status → eqb 0 value ≡ is_verdict (answer_of verdict) status value
+  unfolding is_verdict status_of verdict_value
+  refused-verdict n r v e h = rw (v, eq-eqb (number_of n) status (sym e ∙ h)) refl
 
-  pub refused-other : (n : ℕ) → verdict ≡ Refused n → (n ≡ status → ⊥) → false ≡ is_verdict (verdict_means verdict) status value
-  unfolding is_verdict status_of verdict_value verdict_means
-  refused-other n v h = rw (v, ne_eqb n status h) refl
+  pub refused-other : (n : R.Refusal) (r : ℕ) → verdict ≡ Err n → r ≡ number_of n → (r ≡ status → ⊥) → eqb r status ≡ is_verdict (answer_of verdict) status value
+  unfolding is_verdict status_of verdict_value
+  refused-other n r v e h = rw (ne_eqb r status h, v, ne_eqb (number_of n) status (λ q. h (e ∙ q))) refl
 
 -- ---- what is answered about a table
 
@@ -111,11 +114,11 @@ module _ (text list words : List ℕ) (case : TableCase) (s : ℕ) (es : s ≡ f
     other-depth-status h = rw (sym es, sym et, eq-eqb s case.sound hs, ne_eqb st case.depth.status h) refl
 
     module _ (ht : st ≡ case.depth.status) where
-      pub other-depth : (d ≡ case.depth.value → ⊥) → false ≡ tree_alike text list words case
+      pub other-depth : (d ≡ case.depth.value → ⊥) → eqb d case.depth.value ≡ tree_alike text list words case
       unfolding tree_alike
       other-depth h = rw (sym es, sym et, sym ed, eq-eqb s case.sound hs, eq-eqb st case.depth.status ht, ne_eqb d case.depth.value h) refl
 
-      pub same-depth : (r : Bool) (v : Verdict) → d ≡ case.depth.value → verdict_means v ≡ verdict_of text list words → r ≡ is_verdict (verdict_means v) case.verdict.status case.verdict.value
+      pub same-depth : (r : Bool) (v : Result (Option ℕ) R.Refusal) → d ≡ case.depth.value → answer_of v ≡ verdict_of text list words → r ≡ is_verdict (answer_of v) case.verdict.status case.verdict.value
           → r ≡ tree_alike text list words case
       unfolding tree_alike
       same-depth r v h ev e = rw (sym es, sym et, sym ed, eq-eqb s case.sound hs, eq-eqb st case.depth.status ht, eq-eqb d case.depth.value h, sym ev) e
@@ -129,7 +132,7 @@ module _ (text list words : List ℕ) (place : ℕ) (name zone : List ℕ) (row 
   unfolding label_of row_of
   name_is = en ∙ rw (eh, es, ez, sym er, get_or-drop row words 6 0, get_or-drop row words 7 0, get_or-drop row words 8 0) refl
 
-  pub other_name : good ≡ false → false ≡ row_alike text list words place name zone
+  pub other_name : good ≡ false → good ≡ row_alike text list words place name zone
   unfolding row_alike
   other_name h = rw (sym name_is, sym eg, h) refl
 
@@ -172,38 +175,6 @@ module _ (sample : List ℕ) (table : Table) (words : List ℕ) (other : Table) 
   unfolding one_change
   one-change case changed good r a b c d = rw (sym a, sym b, sym c) d
 
--- the table is what it was, and the cases that are left complete the tally
-pub record CaseTurn (sample : List ℕ) (table : Table) (words₀ : List ℕ) (other : Table) (others : List ℕ) (words : List ℕ) (n : ℕ) (t end : Tally) : Type 0 where
-  pub same-words : words ≡ words₀
-  pub rest : changes sample table words₀ other others n t ≡ end
-
-module _ (sample : List ℕ) (table : Table) (words₀ : List ℕ) (other : Table) (others : List ℕ) where
-  pub cases-first : (n : ℕ) (t : Tally) → CaseTurn sample table words₀ other others words₀ n t (changes sample table words₀ other others n t)
-  cases-first n t = record { same-words = refl; rest = refl }
-
-  more-cases : (n : ℕ) (t w : Tally) → 0 < n → changes sample table words₀ other others n t ≡ w → changes sample table words₀ other others (n - 1) (one_change sample table words₀ other others t) ≡ w
-  unfolding changes
-  more-cases zero t w h i = absurd (omega arith)
-  more-cases (suc n) t w h i =
-      let e : suc n - 1 ≡ n = omega arith in
-      rw e i
-
-  module _ (words : List ℕ) (n : ℕ) (t end : Tally) (i : CaseTurn sample table words₀ other others words n t end) where
-    pub cases_next : (words2 : List ℕ) (r : Tally) → 0 < n → r ≡ one_change sample table words other others t → words2 ≡ words → CaseTurn sample table words₀ other others words2 (n - 1) r end
-    cases_next words2 r h e a =
-        let w = i.same-words in
-        record {
-          same-words = a ∙ w;
-          rest = rw (e, w) (more-cases n t end h i.rest);
-        }
-
-    pub cases_last : n ≤ 0 → t ≡ end
-    unfolding changes
-    cases_last h =
-        let z : n ≡ 0 = omega arith in
-        let f = i.rest in
-        rw z at f
-
 module _ (sample : List ℕ) (table : Table) (words : List ℕ) (other : Table) (before others : List ℕ) (t : Tally) where
   pub group-cases :
       (next : ℕ) (cases : Number) (r : Tally)
@@ -232,42 +203,3 @@ module _ (sample words others : List ℕ) (t : Tally) where
       → r ≡ one_group sample (length words) (length others) t
   unfolding one_group
   one-group table count r a b c = c ∙ rw (sym (front_long count table.count words b), sym a, sym b) refl
-
--- the buffers keep their lengths, and the groups that are left complete the tally
-pub record GroupTurn (sample words₀ others₀ words others : List ℕ) (n : ℕ) (t : Tally) : Type 0 where
-  pub words_long : length words ≡ length words₀
-  pub others-long : length others ≡ length others₀
-  pub rest : groups sample (length words₀) (length others₀) n t ≡ table_all sample (length words₀) (length others₀)
-
-module _ (sample words₀ others₀ : List ℕ) where
-  pub groups-first : (n : Number) → n ≡ number_at sample 0 → GroupTurn sample words₀ others₀ words₀ others₀ n.value (record { all = 0; alike = 0; first = 0; next = n.next })
-  unfolding table_all
-  groups-first n e = record { words_long = refl; others-long = refl; rest = rw e refl }
-
-  more-groups : (a b n : ℕ) (t w : Tally) → 0 < n → groups sample a b n t ≡ w → groups sample a b (n - 1) (one_group sample a b t) ≡ w
-  unfolding groups
-  more-groups a b zero t w h i = absurd (omega arith)
-  more-groups a b (suc n) t w h i =
-      let e : suc n - 1 ≡ n = omega arith in
-      rw e i
-
-  module _ (words others : List ℕ) (n : ℕ) (t : Tally) (i : GroupTurn sample words₀ others₀ words others n t) where
-    pub groups-next :
-        (words2 others2 : List ℕ) (r : Tally) → 0 < n
-        → r ≡ one_group sample (length words) (length others) t
-        → length words2 ≡ length words → length others2 ≡ length others → GroupTurn sample words₀ others₀ words2 others2 (n - 1) r
-    groups-next words2 others2 r h e a b =
-        let w = i.words_long in
-        let o = i.others-long in
-        record {
-          words_long = a ∙ w;
-          others-long = b ∙ o;
-          rest = rw (e, w, o) (more-groups _ _ n t _ h i.rest);
-        }
-
-    pub groups-last : n ≤ 0 → t ≡ table_all sample (length words₀) (length others₀)
-    unfolding groups
-    groups-last h =
-        let z : n ≡ 0 = omega arith in
-        let f = i.rest in
-        rw z at f

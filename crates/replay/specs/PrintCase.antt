@@ -1,13 +1,13 @@
 -- The stored sample of the printer: how many cases, then the cases. A case is the bytes lent, the text, the name list, the
 -- status, the printed bytes, the number of the rows' words, and the words. The bytes lent hold `unprinted` before; those
 -- behind the printed ones are to hold it still. A refusal prints none.
-use Rattle.std.specs.Prelude.{Bool, ◌&&◌, List, ℕ, zero, suc, min, drop, replicate, eqb}
+use Rattle.std.specs.Prelude.{Bool, ◌&&◌, List, ℕ, min, drop, replicate, eqb}
 use Rattle.tokenizer.specs.Text.{same, all}
 use Rattle.tokenizer.specs.Answer.{Out}
 use Rattle.datatype.specs.Tree.{part}
 use Rattle.datatype_display.specs.Print.{print_answer, print_bytes}
 use Rattle.arrow_types.specs.Status.{status_of, value_of}
-use Rattle.replay.specs.Sample.{number_at, numbers_at, after_numbers, after_part, counted}
+use Rattle.replay.specs.Sample.{number_at, numbers_at, after_numbers, after_part, counted, replayed}
 use Rattle.replay.specs.declared.Number.{Number}
 use Rattle.replay.specs.declared.PrintCase.{PrintCase}
 use Rattle.replay.specs.declared.Tally.{Tally}
@@ -56,10 +56,6 @@ print_one sample words most t =
     let case = print_case_at sample t.next in
     one_print sample t case (min case.count words) (min case.lent most)
 
-unfoldable pub print_more : List ℕ → ℕ → ℕ → ℕ → Tally → Tally
-print_more sample words most zero t = t
-print_more sample words most (suc n) t = print_more sample words most n (print_one sample words most t)
-
 -- The tally of a whole sample.
 unfoldable pub print_all : List ℕ → ℕ → ℕ → Tally
-print_all sample words most = print_more sample words most (number_at sample 0).value (record { all = 0; alike = 0; first = 0; next = (number_at sample 0).next })
+print_all sample words most = replayed (print_one sample words most) sample

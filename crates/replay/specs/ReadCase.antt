@@ -1,14 +1,14 @@
 -- The stored sample of the reader: how many cases, then the cases. A case is the words lent, the text's length, the text,
 -- the status and the value (`arrow_types/Status`), and the words of as many rows as the value says. The words lent hold
 -- `unread` before; those behind the rows are to hold it still, or 0 where the text is refused.
-use Rattle.std.specs.Prelude.{Bool, ◌&&◌, List, ◌++◌, ℕ, zero, suc, ◌*◌, ◌-◌, min, replicate, eqb, if◌then◌else◌}
+use Rattle.std.specs.Prelude.{Bool, ◌&&◌, List, ◌++◌, ℕ, ◌*◌, ◌-◌, min, replicate, eqb, if◌then◌else◌}
 use Rattle.tokenizer.specs.Text.{same}
 use Rattle.datatype.specs.Tree.{part}
 use Rattle.datatype.specs.Table.{row_words}
 use Rattle.datatype_parse.specs.Parse.{parse_answer, parse_rows}
 use Rattle.datatype_parse.specs.RowsToLend.{rows_to_lend}
 use Rattle.arrow_types.specs.Status.{status_of, value_of}
-use Rattle.replay.specs.Sample.{number_at, numbers_at, after_numbers, after_part, counted}
+use Rattle.replay.specs.Sample.{number_at, numbers_at, after_numbers, after_part, counted, replayed}
 use Rattle.replay.specs.declared.ReadCase.{ReadCase}
 use Rattle.replay.specs.declared.Tally.{Tally}
 
@@ -60,10 +60,6 @@ read_one sample again most t =
     let lent = min (words_lent again case) most in
     one_case sample t case lent lent
 
-unfoldable pub read_more : List ℕ → Bool → ℕ → ℕ → Tally → Tally
-read_more sample again most zero t = t
-read_more sample again most (suc n) t = read_more sample again most n (read_one sample again most t)
-
 -- The tally of a whole sample.
 unfoldable pub read_all : List ℕ → Bool → ℕ → Tally
-read_all sample again most = read_more sample again most (number_at sample 0).value (record { all = 0; alike = 0; first = 0; next = (number_at sample 0).next })
+read_all sample again most = replayed (read_one sample again most) sample

@@ -1,6 +1,7 @@
 -- Stored samples: numbers in decimal, each with one byte behind it, and bytes with their count before them and one byte
 -- behind them. What stands past the end of a sample is empty.
-use Rattle.std.specs.Prelude.{Bool, true, false, List, [], ◌∷◌, ℕ, zero, suc, ◌+◌, ◌*◌, ◌-◌, min, length, drop, ltb, if◌then◌else◌}
+use Rattle.std.specs.Prelude.{None, Some, Bool, true, false, List, [], ◌∷◌, ℕ, zero, suc, ◌+◌, ◌*◌, ◌-◌, min, length, drop, ltb, if◌then◌else◌}
+use Rattle.std.specs.Option.{option_or}
 use Rattle.replay.specs.declared.Number.{Number}
 use Rattle.replay.specs.declared.Tally.{Tally}
 
@@ -36,13 +37,29 @@ after_part sample at size = min (at + size + 1) (length sample)
 abbrev pub one_more : ℕ → ℕ
 one_more n = min (n + 1) 4294967295
 
+-- A tally of no case yet, at a place.
+abbrev pub start_at : ℕ → Tally
+start_at next = record { all = 0; alike = 0; first = None; next = next }
+
 -- A tally with one case more; the first that is not alike is kept by its number, from 1.
 unfoldable pub counted : Tally → Bool → ℕ → Tally
 counted t true next = record { all = one_more t.all; alike = one_more t.alike; first = t.first; next = next }
-counted t false next =
-    record {
-      all = one_more t.all;
-      alike = t.alike;
-      first = if ltb 0 t.first then t.first else one_more t.all;
-      next = next;
-    }
+counted t false next = record { all = one_more t.all; alike = t.alike; first = option_or t.first (Some (one_more t.all)); next = next }
+
+-- ---- all cases
+
+-- The most words and the most bytes that a case is lent.
+abbrev pub most_words : ℕ
+most_words = 13000
+
+abbrev pub most_bytes : ℕ
+most_bytes = 20000
+
+-- A tally with so many cases more, each by one step.
+unfoldable pub times : (Tally → Tally) → ℕ → Tally → Tally
+times one zero t = t
+times one (suc n) t = times one n (one t)
+
+-- The tally of a whole sample: how many cases, and then the cases.
+unfoldable pub replayed : (Tally → Tally) → List ℕ → Tally
+replayed one sample = times one (number_at sample 0).value (start_at (number_at sample 0).next)

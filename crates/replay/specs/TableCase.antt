@@ -3,8 +3,7 @@
 -- is a word of the first table, the value that it is set to, and what is then to be answered: whether the table is sound
 -- (1 or 0), status and value of its depth and of its verdict, whether it equals the other (1 or 0), and the name and the
 -- zone of the row that has the word.
-use Rattle.std.specs.Prelude.{Bool, ◌&&◌, List, ℕ, zero, suc, ◌*◌, ◌/◌, min, drop, set, eqb}
-use Rattle.std.proofs.Math.Option.{Option, none, some}
+use Rattle.std.specs.Prelude.{Option, Some, None, Bool, ◌&&◌, List, ℕ, suc, ◌*◌, ◌/◌, min, drop, set, eqb}
 use Rattle.tokenizer.specs.Text.{same}
 use Rattle.tokenizer.specs.Answer.{Out, refused, done}
 use Rattle.datatype.specs.Tree.{label_of}
@@ -13,7 +12,7 @@ use Rattle.row_table.specs.Sound.{is_sound, depth_of}
 use Rattle.subtrees.specs.Equal.{equal_trees}
 use Rattle.layout.specs.Layout.{verdict_of}
 use Rattle.arrow_types.specs.Status.{status_of, value_of, flag}
-use Rattle.replay.specs.Sample.{number_at, numbers_at, after_numbers, after_part, counted}
+use Rattle.replay.specs.Sample.{number_at, numbers_at, after_numbers, after_part, counted, times, replayed}
 use Rattle.replay.specs.PrintCase.{bytes_of}
 use Rattle.replay.specs.declared.Table.{Table}
 use Rattle.replay.specs.declared.TableCase.{TableCase}
@@ -56,8 +55,8 @@ table_case_at sample at =
 -- A verdict's value: 0 for yes, else the row's number from 1.
 unfoldable pub verdict_value : Out (Option ℕ) → ℕ
 verdict_value (refused r) = 0
-verdict_value (done none) = 0
-verdict_value (done (some i)) = suc i
+verdict_value (done None) = 0
+verdict_value (done (Some i)) = suc i
 
 unfoldable pub is_verdict : Out (Option ℕ) → ℕ → ℕ → Bool
 is_verdict answer status value = eqb (status_of answer) status && eqb (verdict_value answer) value
@@ -93,9 +92,9 @@ one_change sample table words other others t =
     let case = table_case_at sample t.next in
     counted t (change_alike sample table (set words case.place case.value) other others case) case.next
 
-unfoldable pub changes : List ℕ → Table → List ℕ → Table → List ℕ → ℕ → Tally → Tally
-changes sample table words other others zero t = t
-changes sample table words other others (suc n) t = changes sample table words other others n (one_change sample table words other others t)
+-- The tally with so many cases.
+abbrev pub changes : List ℕ → Table → List ℕ → Table → List ℕ → ℕ → Tally → Tally
+changes sample table words other others = times (one_change sample table words other others)
 
 -- The tally with the cases of two tables, the second of so many words.
 unfoldable pub group_cases : List ℕ → Table → List ℕ → Table → ℕ → Tally → Tally
@@ -115,10 +114,6 @@ one_group sample most others t =
     let table = table_at sample t.next in
     group_of sample table (min table.count most) others t
 
-unfoldable pub groups : List ℕ → ℕ → ℕ → ℕ → Tally → Tally
-groups sample most others zero t = t
-groups sample most others (suc n) t = groups sample most others n (one_group sample most others t)
-
 -- The tally of a whole sample.
 unfoldable pub table_all : List ℕ → ℕ → ℕ → Tally
-table_all sample most others = groups sample most others (number_at sample 0).value (record { all = 0; alike = 0; first = 0; next = (number_at sample 0).next })
+table_all sample most others = replayed (one_group sample most others) sample

@@ -1,54 +1,49 @@
 // Counting the cases of a replay, and printing the counts.
 ghost use Rattle.std.specs.Prelude.{◌≡◌};
-ghost use Rattle.replay.specs.Sample.{one_more};
+ghost use Rattle.replay.specs.Sample.{start_at};
 ghost use Rattle.replay.specs.Sample.{counted as counted_of};
 
 use crate::Tally;
 use std::io;
 
-fn one_more(n: u32) -> u32
-    ensures { result ≡ one_more n }
+// A tally of no case yet, at a place.
+pub(crate) fn start(next: usize) -> Tally
+    ensures { result ≡ start_at next }
 {
-    if n < 4294967295 {
-        return n + 1;
+    Tally {
+        all: 0,
+        alike: 0,
+        first: None,
+        next,
     }
-    n
 }
 
 // A tally with one case more.
 pub(crate) fn counted(t: Tally, alike: bool, next: usize) -> Tally
     ensures { result ≡ counted_of t alike next }
 {
-    let all = one_more(t.all);
+    let all = t.all.saturating_add(1);
     if alike {
         return Tally {
-            all: all,
-            alike: one_more(t.alike),
-            first: t.first,
-            next: next,
-        };
-    }
-    if 0 < t.first {
-        return Tally {
-            all: all,
-            alike: t.alike,
-            first: t.first,
-            next: next,
+            all,
+            alike: t.alike.saturating_add(1),
+            next,
+            ..t
         };
     }
     Tally {
-        all: all,
-        alike: t.alike,
-        first: all,
-        next: next,
+        all,
+        first: t.first.or(Some(all)),
+        next,
+        ..t
     }
 }
 
 // Prints the counts of a sample of so many bytes, and what is wrong if anything is.
 pub(crate) fn print(rt: &HostRuntime, what: &str, t: Tally, size: usize) -> io::Result<()> {
     println!(rt; "{}{what}{} alike", t.all, t.alike)?;
-    if 0 < t.first {
-        println!(rt; "the first that is not: {}", t.first)?;
+    if let Some(first) = t.first {
+        println!(rt; "the first that is not: {first}")?;
     }
     if t.next != size {
         println!(rt; "the sample does not end behind the last")?;

@@ -5,12 +5,17 @@
 
 ghost use Rattle.std.specs.Prelude.{◌≡◌, ◌≤◌, length, take};
 
+use prints::Prints;
+use samples::replay;
 use std::fs::File;
 use std::io::Read;
 use std::{fs, io};
+use tables::Tables;
+use texts::Texts;
 
 mod counts;
 mod prints;
+mod samples;
 mod stored;
 mod tables;
 mod texts;
@@ -20,6 +25,9 @@ const MOST_WORDS: usize = 13000;
 
 const MOST_BYTES: usize = 20000;
 
+// What each word and each byte that is lent holds before, and where nothing is written.
+const UNTOUCHED: u32 = 7;
+
 // A number, and the place behind it.
 #[derive(Clone, Copy)]
 struct Number {
@@ -27,13 +35,13 @@ struct Number {
     next: usize,
 }
 
-// How many cases were replayed, how many of them gave what is stored, the number of the first that did not (0 if none),
-// and the place behind the last.
+// How many cases were replayed, how many of them gave what is stored, the number of the first that did not, and the
+// place behind the last.
 #[derive(Clone, Copy)]
 struct Tally {
     all: u32,
     alike: u32,
-    first: u32,
+    first: Option<u32>,
     next: usize,
 }
 
@@ -93,6 +101,7 @@ struct TableCase {
     next: usize,
 }
 
+// No heap: std's `read_to_end` fills a `Vec`, and its `read_exact` says nothing of a file that is shorter than the buffer.
 // Reads until the buffer is full, the file ends or a read fails: how many bytes stand at the start of the buffer.
 fn read_full(mut file: File, sample: &mut [u8]) -> usize
     ensures { (result ≤ length sample.new) × (result ≡ length (take result sample.new)) }
@@ -124,11 +133,15 @@ fn load(rt: &HostRuntime, path: &str, sample: &mut [u8]) -> usize
 }
 
 fn replay_texts(rt: &HostRuntime, sample: &[u8]) -> io::Result<()> {
-    let mut rows = [0u32; MOST_WORDS];
-    let mut left = [0u32; MOST_WORDS];
-    let t = texts::read_all(sample, false, &mut rows, &mut left);
+    let mut texts = Texts {
+        again: false,
+        rows: [0; MOST_WORDS],
+        left: [0; MOST_WORDS],
+    };
+    let t = replay(&mut texts, sample);
     counts::print(rt, " texts, ", t, sample.len())?;
-    let again = texts::read_all(sample, true, &mut rows, &mut left);
+    texts.again = true;
+    let again = replay(&mut texts, sample);
     counts::print(
         rt,
         " texts again, accepted ones with rows to lend, ",
@@ -138,16 +151,20 @@ fn replay_texts(rt: &HostRuntime, sample: &[u8]) -> io::Result<()> {
 }
 
 fn replay_tables(rt: &HostRuntime, sample: &[u8]) -> io::Result<()> {
-    let mut words = [0u32; MOST_WORDS];
-    let mut others = [0u32; MOST_WORDS];
-    let t = tables::all(sample, &mut words, &mut others);
+    let mut tables = Tables {
+        words: [0; MOST_WORDS],
+        others: [0; MOST_WORDS],
+    };
+    let t = replay(&mut tables, sample);
     counts::print(rt, " tables, ", t, sample.len())
 }
 
 fn replay_prints(rt: &HostRuntime, sample: &[u8]) -> io::Result<()> {
-    let mut words = [0u32; MOST_WORDS];
-    let mut out = [0u8; MOST_BYTES];
-    let t = prints::print_all(sample, &mut words, &mut out);
+    let mut prints = Prints {
+        words: [0; MOST_WORDS],
+        out: [0; MOST_BYTES],
+    };
+    let t = replay(&mut prints, sample);
     counts::print(rt, " prints, ", t, sample.len())
 }
 

@@ -1,19 +1,24 @@
 // Reading a stored sample: specs/Sample.antt says what its numbers and bytes are.
-ghost use Rattle.std.specs.Prelude.{◌≡◌, min, length, replicate};
+ghost use Rattle.std.specs.Prelude.{◌≡◌, length, drop};
 ghost use Rattle.replay.specs.Sample.{shift, number_at, numbers_at, after_numbers, after_part};
+ghost use Rattle.replay.specs.PrintCase.{bytes_of};
 ghost use Rattle.datatype.specs.Tree.{part};
 
 use crate::Number;
+
+// A tree: its text, its name list, and the words of its rows.
+#[derive(Clone, Copy)]
+pub(crate) struct Tree<'a> {
+    pub(crate) text: &'a [u8],
+    pub(crate) list: &'a [u8],
+    pub(crate) words: &'a [u32],
+}
 
 // A number with one more digit behind it.
 fn shifted(value: u32, digit: u8) -> u32
     ensures { result ≡ shift value digit }
 {
-    let more = 10 * (value as u64) + digit as u64;
-    if more < 4294967295 {
-        return more as u32;
-    }
-    4294967295
+    value.saturating_mul(10).saturating_add(u32::from(digit))
 }
 
 // The number at a place.
@@ -21,47 +26,46 @@ pub(crate) fn number_at(sample: &[u8], at: usize) -> Number
     ensures { result ≡ number_at sample.now at }
 {
     let mut value: u32 = 0;
-    let mut i = at;
-    while i < sample.len() {
+    for i in at..sample.len() {
         let b = sample[i];
-        i += 1;
         if b < b'0' {
-            return Number {
-                value: value,
-                next: i,
-            };
+            return Number { value, next: i + 1 };
         }
         value = shifted(value, b - b'0');
     }
     Number {
-        value: value,
-        next: i,
+        value,
+        next: at.max(sample.len()),
     }
+}
+
+// The bytes from a place on.
+pub(crate) fn rest_at(sample: &[u8], at: usize) -> &[u8]
+    ensures { result.now ≡ drop at sample.now }
+{
+    sample.get(at..).unwrap_or(&[])
 }
 
 // So many bytes at a place.
 pub(crate) fn part_at(sample: &[u8], at: usize, size: u32) -> &[u8]
     ensures { result.now ≡ part sample.now at size }
 {
-    if at <= sample.len() {
-        if size as usize <= sample.len() - at {
-            return &sample[at..at + size as usize];
-        }
-        return &sample[..0];
-    }
-    &sample[..0]
+    let rest = sample.get(at..).unwrap_or(&[]);
+    rest.get(..size as usize).unwrap_or(&[])
+}
+
+// The bytes that such a number stands before: the value is their number, the next place is theirs.
+pub(crate) fn bytes_of(sample: &[u8], n: Number) -> &[u8]
+    ensures { result.now ≡ bytes_of sample.now n }
+{
+    part_at(sample, n.next, n.value)
 }
 
 // The place behind so many bytes and the byte that ends them.
 pub(crate) fn after_part(sample: &[u8], at: usize, size: u32) -> usize
     ensures { result ≡ after_part sample.now at size }
 {
-    if at <= sample.len() {
-        if (size as usize) < sample.len() - at {
-            return at + size as usize + 1;
-        }
-    }
-    sample.len()
+    at.saturating_add(size as usize + 1).min(sample.len())
 }
 
 // Fills words with the numbers from a place on: the place behind them.
@@ -70,33 +74,10 @@ pub(crate) fn words_at(sample: &[u8], at: usize, out: &mut [u32]) -> usize
     ensures words { out.new ≡ numbers_at sample.now (length out.old) at }
 {
     let mut next = at;
-    let mut i = 0;
-    while i < out.len() {
+    for word in out.iter_mut() {
         let n = number_at(sample, next);
+        *word = n.value;
         next = n.next;
-        out[i] = n.value;
-        i += 1;
     }
     next
-}
-
-// The lesser of two numbers.
-pub(crate) fn least(a: usize, b: usize) -> usize
-    ensures { result ≡ min a b }
-{
-    if a < b {
-        return a;
-    }
-    b
-}
-
-// Sets every word to a value.
-pub(crate) fn fill(words: &mut [u32], value: u32)
-    ensures { words.new ≡ replicate (length words.old) value }
-{
-    let mut i = 0;
-    while i < words.len() {
-        words[i] = value;
-        i += 1;
-    }
 }

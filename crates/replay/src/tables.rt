@@ -2,15 +2,26 @@
 // first table, the value it is set to, and what is then to be answered.
 ghost use Rattle.std.specs.Prelude.{◌≡◌, ◌*◌, ◌/◌, length, get_or, set};
 ghost use Rattle.datatype.specs.Table.{row_words};
-ghost use Rattle.layout.specs.Layout.{verdict_means};
-ghost use Rattle.replay.specs.TableCase.{table_at, table_case_at, is_verdict, tree_alike, row_alike, change_alike, one_change, changes, group_cases, group_of, one_group, table_all};
+ghost use Rattle.tokenizer.specs.Answer.{answer_of};
+ghost use Rattle.replay.specs.Sample.{most_words};
+ghost use Rattle.replay.specs.TableCase.{table_at, table_case_at, is_verdict, tree_alike, row_alike, change_alike, one_change, changes, group_cases, group_of, one_group};
 
 use crate::counts::counted;
-use crate::stored::{after_part, least, number_at, part_at, words_at};
-use crate::{Answer, Table, TableCase, Tally};
+use crate::samples::Sample;
+use crate::stored::{Tree, after_part, bytes_of, number_at, words_at};
+use crate::{Answer, MOST_WORDS, Table, TableCase, Tally};
 use datatype::Field;
 use datatype::rows::{HOME, NAME_LENGTH, NAME_START, ROW_WORDS, ZONE_LENGTH, ZONE_START};
-use layout::Verdict;
+use tokenizer::Refusal;
+
+// What the cases of a group share: the sample, the table that they change, and the table that it is compared with.
+#[derive(Clone, Copy)]
+struct Group<'a> {
+    sample: &'a [u8],
+    table: Table,
+    other: Table,
+    others: &'a [u32],
+}
 
 // What stands before the words of a table.
 fn table_at(sample: &[u8], at: usize) -> Table
@@ -20,8 +31,8 @@ fn table_at(sample: &[u8], at: usize) -> Table
     let list = number_at(sample, after_part(sample, text.next, text.value));
     let count = number_at(sample, after_part(sample, list.next, list.value));
     Table {
-        text: text,
-        list: list,
+        text,
+        list,
         count: count.value,
         next: count.next,
     }
@@ -54,8 +65,8 @@ fn case_at(sample: &[u8], at: usize) -> TableCase
             value: verdict.value,
         },
         equal: equal.value,
-        name: name,
-        zone: zone,
+        name,
+        zone,
         next: after_part(sample, zone.next, zone.value),
     }
 }
@@ -64,10 +75,7 @@ fn case_at(sample: &[u8], at: usize) -> TableCase
 fn word(words: &[u32], place: usize) -> u32
     ensures { result ≡ get_or words.now place 0 }
 {
-    if place < words.len() {
-        return words[place];
-    }
-    0
+    words.get(place).copied().unwrap_or(0)
 }
 
 // Sets a word of a table, unless it is past its end.
@@ -80,50 +88,34 @@ fn put(words: &mut [u32], place: usize, value: u32)
 }
 
 // Whether a verdict is this one: the value is 0 for yes, else the row's number from 1.
-fn is_verdict(verdict: Verdict, status: u32, value: u32) -> bool
-    ensures { result ≡ is_verdict (verdict_means verdict) status value }
+fn is_verdict(verdict: Result<Option<usize>, Refusal>, status: u32, value: u32) -> bool
+    ensures { result ≡ is_verdict (answer_of verdict) status value }
 {
     match verdict {
-        Verdict::Yes => {
-            if status == 0 {
-                return 0 == value;
-            }
-            false
-        }
-        Verdict::Row(i) => {
-            if 0 == value {
-                return false;
-            }
-            if status == 0 {
-                return i == (value - 1) as usize;
-            }
-            false
-        }
-        Verdict::Refused(n) => {
-            if n == status {
-                return 0 == value;
-            }
-            false
-        }
+        Ok(row) => match row {
+            None => 0 == status && 0 == value,
+            Some(_) if value == 0 => false,
+            Some(i) => 0 == status && i == (value - 1) as usize,
+        },
+        Err(refusal) => refusal.number() == status && 0 == value,
     }
 }
 
 // Whether a table is sound or not, and has the depth and the verdict, as a case says.
-fn tree_alike(text: &[u8], list: &[u8], words: &[u32], case: TableCase) -> bool
-    ensures { result ≡ tree_alike text.now list.now words.now case }
+fn tree_alike(tree: Tree, case: TableCase) -> bool
+    ensures { result ≡ tree_alike tree.entry.text.now tree.entry.list.now tree.entry.words.now case }
 {
-    if arrow_types::arrow_types_is_sound(text, list, words) != case.sound {
+    if arrow_types::arrow_types_is_sound(tree.text, tree.list, tree.words) != case.sound {
         return false;
     }
     let mut depth: usize = 0;
-    if arrow_types::arrow_types_depth(text, list, words, &mut depth) != case.depth.status {
+    let status = arrow_types::arrow_types_depth(tree.text, tree.list, tree.words, &mut depth);
+    if status != case.depth.status {
         return false;
     }
-    if depth != case.depth.value as usize {
-        return false;
-    }
-    let verdict = layout::verdict_of(text, list, words);
-    is_verdict(verdict, case.verdict.status, case.verdict.value)
+    let verdict = layout::verdict_of(tree.text, tree.list, tree.words);
+    depth == case.depth.value as usize
+        && is_verdict(verdict, case.verdict.status, case.verdict.value)
 }
 
 // Where the row of a word begins.
@@ -134,95 +126,72 @@ fn row_of(place: u32) -> usize
 }
 
 // Whether the name and the zone of the row that has the word are as a case says.
-fn row_alike<'a>(
-    text: &'a [u8],
-    list: &'a [u8],
-    words: &[u32],
-    place: u32,
-    name: &[u8],
-    zone: &[u8],
-) -> bool
-    ensures { result ≡ row_alike text.now list.now words.now place name.now zone.now }
+fn row_alike(tree: Tree, place: u32, name: &[u8], zone: &[u8]) -> bool
+    ensures { result ≡ row_alike tree.entry.text.now tree.entry.list.now tree.entry.words.now place name.now zone.now }
 {
     let row = row_of(place);
     let field = Field {
-        home: word(words, row + HOME),
-        start: word(words, row + NAME_START),
-        size: word(words, row + NAME_LENGTH),
+        home: word(tree.words, row + HOME),
+        start: word(tree.words, row + NAME_START),
+        size: word(tree.words, row + NAME_LENGTH),
     };
-    if !datatype::equal_bytes(field.name(text, list), name) {
-        return false;
-    }
-    let zone_start = word(words, row + ZONE_START);
-    let zone_size = word(words, row + ZONE_LENGTH);
-    datatype::equal_bytes(datatype::zone(text, zone_start, zone_size), zone)
+    let zone_start = word(tree.words, row + ZONE_START);
+    let zone_size = word(tree.words, row + ZONE_LENGTH);
+    datatype::equal_bytes(field.name(tree.text, tree.list), name)
+        && datatype::equal_bytes(datatype::zone(tree.text, zone_start, zone_size), zone)
 }
 
-// Whether a table, changed as a case says, gives all that it says; other is the table that it is compared with.
-fn alike(
-    sample: &[u8],
-    table: Table,
-    words: &[u32],
-    other: Table,
-    others: &[u32],
-    case: TableCase,
-) -> bool
-    ensures { result ≡ change_alike sample.now table words.now other others.now case }
+// Whether a group's table, changed as a case says, gives all that it says.
+fn alike(group: Group, words: &[u32], case: TableCase) -> bool
+    ensures { result ≡ change_alike group.entry.sample.now group.entry.table words.now group.entry.other group.entry.others.now case }
 {
-    let text = part_at(sample, table.text.next, table.text.value);
-    let list = part_at(sample, table.list.next, table.list.value);
-    if !tree_alike(text, list, words, case) {
+    let tree = Tree {
+        text: bytes_of(group.sample, group.table.text),
+        list: bytes_of(group.sample, group.table.list),
+        words,
+    };
+    let name = bytes_of(group.sample, case.name);
+    let zone = bytes_of(group.sample, case.zone);
+    if !tree_alike(tree, case) {
         return false;
     }
-    let name = part_at(sample, case.name.next, case.name.value);
-    let zone = part_at(sample, case.zone.next, case.zone.value);
-    if !row_alike(text, list, words, case.place, name, zone) {
+    if !row_alike(tree, case.place, name, zone) {
         return false;
     }
-    let text2 = part_at(sample, other.text.next, other.text.value);
-    let list2 = part_at(sample, other.list.next, other.list.value);
-    let equal = arrow_types::arrow_types_equal(text, list, words, text2, list2, others);
+    let text2 = bytes_of(group.sample, group.other.text);
+    let list2 = bytes_of(group.sample, group.other.list);
+    let equal = arrow_types::arrow_types_equal(
+        tree.text,
+        tree.list,
+        words,
+        text2,
+        list2,
+        group.others,
+    );
     equal == case.equal
 }
 
 // The tally with the case that stands behind it. The table is left as it was.
-fn one_case(
-    sample: &[u8],
-    t: Tally,
-    table: Table,
-    words: &mut [u32],
-    other: Table,
-    others: &[u32],
-) -> Tally
-    ensures tally { result ≡ one_change sample.now table words.old other others.now t }
+fn one_case(group: Group, t: Tally, words: &mut [u32]) -> Tally
+    ensures tally { result ≡ one_change group.entry.sample.now group.entry.table words.old group.entry.other group.entry.others.now t }
     ensures words { words.new ≡ words.old }
 {
-    let case = case_at(sample, t.next);
+    let case = case_at(group.sample, t.next);
     let place = case.place as usize;
     let old = word(words, place);
     put(words, place, case.value);
-    let good = alike(sample, table, words, other, others, case);
+    let good = alike(group, words, case);
     put(words, place, old);
     counted(t, good, case.next)
 }
 
 // The tally with so many cases.
-fn cases_of(
-    sample: &[u8],
-    start: Tally,
-    cases: u32,
-    table: Table,
-    words: &mut [u32],
-    other: Table,
-    others: &[u32],
-) -> Tally
-    ensures { result ≡ changes sample.now table words.old other others.now cases start }
+fn cases_of(group: Group, start: Tally, cases: u32, words: &mut [u32]) -> Tally
+    ensures { result ≡ changes group.entry.sample.now group.entry.table words.old group.entry.other group.entry.others.now cases start }
 {
     let mut t = start;
-    let mut left = cases;
-    while 0 < left {
-        t = one_case(sample, t, table, words, other, others);
-        left -= 1;
+    for _ in 0..cases {
+        t = one_case(group, t, words);
     }
     t
 }
@@ -240,13 +209,17 @@ fn group_cases(
 {
     let next = words_at(sample, other.next, others);
     let cases = number_at(sample, next);
-    let start = Tally {
-        all: t.all,
-        alike: t.alike,
-        first: t.first,
-        next: cases.next,
+    let group = Group {
+        sample,
+        table,
+        other,
+        others,
     };
-    cases_of(sample, start, cases.value, table, words, other, others)
+    let start = Tally {
+        next: cases.next,
+        ..t
+    };
+    cases_of(group, start, cases.value, words)
 }
 
 // The tally with the group of a table of so many words.
@@ -255,7 +228,7 @@ fn group_of(sample: &[u8], t: Tally, table: Table, words: &mut [u32], others: &m
 {
     let next = words_at(sample, table.next, words);
     let other = table_at(sample, next);
-    let count = least(other.count as usize, others.len());
+    let count = (other.count as usize).min(others.len());
     group_cases(sample, t, table, words, other, &mut others[..count])
 }
 
@@ -264,25 +237,21 @@ fn one_group(sample: &[u8], t: Tally, words: &mut [u32], others: &mut [u32]) -> 
     ensures { result ≡ one_group sample.now (length words.old) (length others.old) t }
 {
     let table = table_at(sample, t.next);
-    let count = least(table.count as usize, words.len());
+    let count = (table.count as usize).min(words.len());
     group_of(sample, t, table, &mut words[..count], others)
 }
 
-// The tally of a whole sample.
-pub(crate) fn all(sample: &[u8], words: &mut [u32], others: &mut [u32]) -> Tally
-    ensures { result ≡ table_all sample.now (length words.old) (length others.old) }
-{
-    let n = number_at(sample, 0);
-    let mut t = Tally {
-        all: 0,
-        alike: 0,
-        first: 0,
-        next: n.next,
-    };
-    let mut groups = n.value;
-    while 0 < groups {
-        t = one_group(sample, t, words, others);
-        groups -= 1;
+// The groups, with the words of the two tables of one.
+#[derive(Drop)]
+pub(crate) struct Tables {
+    pub(crate) words: [u32; MOST_WORDS],
+    pub(crate) others: [u32; MOST_WORDS],
+}
+
+impl Sample for Tables {
+    ghost one_of = { λ _ sample. one_group sample most_words most_words };
+
+    fn one(&mut self, sample: &[u8], t: Tally) -> Tally {
+        one_group(sample, t, &mut self.words, &mut self.others)
     }
-    t
 }

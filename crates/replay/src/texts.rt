@@ -1,11 +1,13 @@
 // Replaying the sample of the reader.
 ghost use Rattle.std.specs.Prelude.{◌≡◌, min, length};
-ghost use Rattle.replay.specs.ReadCase.{read_case_at, words_lent, rest_of, left_words, after_case, one_case, read_one, read_all};
+ghost use Rattle.replay.specs.Sample.{most_words};
+ghost use Rattle.replay.specs.ReadCase.{read_case_at, words_lent, rest_of, left_words, after_case, one_case, read_one};
 ghost use Rattle.replay.specs.ReadCase.{gives as gives_of};
 
 use crate::counts::counted;
-use crate::stored::{after_part, fill, least, number_at, part_at, words_at};
-use crate::{ReadCase, Tally};
+use crate::samples::Sample;
+use crate::stored::{after_part, number_at, part_at, words_at};
+use crate::{MOST_WORDS, ReadCase, Tally, UNTOUCHED};
 use datatype::rows::ROW_WORDS;
 
 // What stands before the rows' words of a case.
@@ -30,23 +32,18 @@ fn case_at(sample: &[u8], at: usize) -> ReadCase
 fn words_lent(case: ReadCase, again: bool) -> usize
     ensures { result ≡ words_lent again case }
 {
-    if case.status != 0 {
-        return case.lent as usize;
+    if again && case.status == 0 {
+        ROW_WORDS * arrow_types::arrow_types_rows_to_lend(case.size as usize)
+    } else {
+        case.lent as usize
     }
-    if again {
-        return ROW_WORDS * arrow_types::arrow_types_rows_to_lend(case.size as usize);
-    }
-    case.lent as usize
 }
 
 // What the words behind the rows are to hold.
 fn rest(status: u32) -> u32
     ensures { result ≡ rest_of status }
 {
-    if status == 0 {
-        return 7;
-    }
-    0
+    if status == 0 { UNTOUCHED } else { 0 }
 }
 
 // Fills words with those that the reader is to leave: the place behind those of them that are stored.
@@ -54,24 +51,22 @@ fn left_words(sample: &[u8], case: ReadCase, left: &mut [u32]) -> usize
     ensures place { result ≡ after_case sample.now case (length left.old) }
     ensures words { left.new ≡ left_words sample.now case (length left.old) }
 {
-    fill(left, rest(case.status));
-    let n = least(ROW_WORDS * (case.value as usize), left.len());
+    left.fill(rest(case.status));
+    let n = (ROW_WORDS * (case.value as usize)).min(left.len());
     words_at(sample, case.next, &mut left[..n])
 }
 
-// Whether the reader gives a text this status and this value, and leaves these words of those lent.
-fn gives(text: &[u8], status: u32, value: u32, left: &[u32], rows: &mut [u32]) -> bool
-    ensures { result ≡ gives_of text.now (length rows.old) status value left.now }
+// Whether the reader gives a text the status and the value of a case, and leaves these words of those lent.
+fn gives(text: &[u8], case: ReadCase, left: &[u32], rows: &mut [u32]) -> bool
+    ensures { result ≡ gives_of text.now (length rows.old) case.status case.value left.now }
 {
-    fill(rows, 7);
+    rows.fill(UNTOUCHED);
     let mut count: usize = 0;
-    if arrow_types::arrow_types_read(text, rows, &mut count) != status {
+    let status = arrow_types::arrow_types_read(text, rows, &mut count);
+    if status != case.status {
         return false;
     }
-    if count != value as usize {
-        return false;
-    }
-    datatype::equal_words(rows, left)
+    count == case.value as usize && datatype::equal_words(rows, left)
 }
 
 // The tally with one case more.
@@ -80,7 +75,7 @@ fn one_case(sample: &[u8], t: Tally, case: ReadCase, rows: &mut [u32], left: &mu
 {
     let next = left_words(sample, case, left);
     let text = part_at(sample, case.at, case.size);
-    let alike = gives(text, case.status, case.value, left, rows);
+    let alike = gives(text, case, left, rows);
     counted(t, alike, next)
 }
 
@@ -89,26 +84,23 @@ fn read_one(sample: &[u8], again: bool, t: Tally, rows: &mut [u32], left: &mut [
     ensures { result ≡ read_one sample.now again (min (length rows.old) (length left.old)) t }
 {
     let case = case_at(sample, t.next);
-    let most = least(rows.len(), left.len());
-    let lent = least(words_lent(case, again), most);
+    let most = rows.len().min(left.len());
+    let lent = words_lent(case, again).min(most);
     one_case(sample, t, case, &mut rows[..lent], &mut left[..lent])
 }
 
-// The tally of a whole sample.
-pub(crate) fn read_all(sample: &[u8], again: bool, rows: &mut [u32], left: &mut [u32]) -> Tally
-    ensures { result ≡ read_all sample.now again (min (length rows.old) (length left.old)) }
-{
-    let n = number_at(sample, 0);
-    let mut t = Tally {
-        all: 0,
-        alike: 0,
-        first: 0,
-        next: n.next,
-    };
-    let mut cases = n.value;
-    while 0 < cases {
-        t = read_one(sample, again, t, rows, left);
-        cases -= 1;
+// The texts, read for the first time or again, with the words lent and those that are to be left.
+#[derive(Drop)]
+pub(crate) struct Texts {
+    pub(crate) again: bool,
+    pub(crate) rows: [u32; MOST_WORDS],
+    pub(crate) left: [u32; MOST_WORDS],
+}
+
+impl Sample for Texts {
+    ghost one_of = { λ texts sample. read_one sample texts.again most_words };
+
+    fn one(&mut self, sample: &[u8], t: Tally) -> Tally {
+        read_one(sample, self.again, t, &mut self.rows, &mut self.left)
     }
-    t
 }

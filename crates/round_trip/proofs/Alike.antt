@@ -17,8 +17,7 @@ use Rattle.tokenizer.specs.Text.{bytes}
 use Rattle.tokenizer.specs.Answer.{Out, refused, done, refuse, ◌>>=◌}
 use Rattle.tokenizer.specs.Words.{words}
 use Rattle.tokenizer.specs.Utf8.{utf8_step, utf8_state, is_utf8}
-use Rattle.tokenizer.specs.Token.{is_separator, type_word, lparen, rparen}
-use Rattle.tokenizer.specs.declared.Token.{Token}
+use Rattle.tokenizer.specs.Token.{Standing, is_separator, type_word, lparen, rparen}
 use Rattle.tokenizer.proofs.Basics.{is_true}
 use Rattle.tokenizer.proofs.Utf8Laws.{utf8_append}
 use Rattle.datatype.specs.Kind.{list, decimal, kinds, decimal32_kind, shape_of, decimal_fits}
@@ -162,7 +161,7 @@ module _ (text : List ℕ) (type : ℕ → ℕ → Out Tree) (k j at rows : ℕ)
   behind-field (refused r) = refl
   behind-field (done t) = close (need text rparen t.next)
     where
-      close : (o : Out Token) → (o >>= (λ c. done (record { row = bare_row k 0 0 0 0; kids = single t; next = c.next }))) ≡ as_kind k (o >>= (λ c. done (record { row = bare_row j 0 0 0 0; kids = single t; next = c.next })))
+      close : (o : Out Standing) → (o >>= (λ c. done (record { row = bare_row k 0 0 0 0; kids = single t; next = c.next }))) ≡ as_kind k (o >>= (λ c. done (record { row = bare_row j 0 0 0 0; kids = single t; next = c.next })))
       close (refused r) = refl
       close (done c) = refl
 
@@ -170,7 +169,7 @@ module _ (text : List ℕ) (type : ℕ → ℕ → Out Tree) (k j at rows : ℕ)
   unfolding shape_at list_at
   lists-read e f = rw (e, f) (go (need text lparen at))
     where
-      go : (o : Out Token)
+      go : (o : Out Standing)
           → (o >>= (λ p. list_field text type p.next rows >>= (λ t. close_at text (bare_row k 0 0 0 0) (single t) t.next)))
           ≡ as_kind k (o >>= (λ p. list_field text type p.next rows >>= (λ t. close_at text (bare_row j 0 0 0 0) (single t) t.next)))
       go (refused r) = refl

@@ -9,8 +9,7 @@ use lib.Dec.{T}
 use Rattle.tokenizer.specs.Text.{bytes, all, same}
 use Rattle.tokenizer.specs.Answer.{Out, done}
 use Rattle.tokenizer.specs.Words.{words}
-use Rattle.tokenizer.specs.Token.{is_separator, is_digit, token_at, sort_of, double_quoted, single_quoted, comma, field_word}
-use Rattle.tokenizer.specs.declared.Token.{Token}
+use Rattle.tokenizer.specs.Token.{Standing, is_separator, is_digit, token_at, sort_of, double_quoted, single_quoted, comma, field_word}
 use Rattle.tokenizer.proofs.Basics.{skip, of_true}
 use Rattle.datatype.specs.Tree.{Forest, count, Label, name_list, name_of, part}
 use Rattle.row_table.specs.Sound.{is_name}
@@ -40,7 +39,7 @@ module _ (text : List ℕ) (type : ℕ → ℕ → Out Tree) where
   unfolding field_at name_of
   field_step id l kids at rows t rest i q r g =
       record {
-        first = ap (λ (x : Token). sort_of x.kind) q.found ∙ q.sort;
+        first = ap (λ (x : Standing). sort_of x.kind) q.found ∙ q.sort;
         tree = record {
           got = record { row = field_row (role_at text (q.token.next + 1)) id (text_name q.token) g.got.row; kids = g.got.kids; next = g.got.next };
           reads = rw (need-quoted text double_quoted at l.name (58 ∷ t) q, need-colon text q.token.next t q.after, g.reads);
@@ -102,7 +101,7 @@ module _ (text : List ℕ) (type : ℕ → ℕ → Out Tree) where
   -- ---- a list's field: [non-null ]type[, field: 'name']
 
   record NameRead (name : List ℕ) (at : ℕ) (rest : List ℕ) : Type 0 where
-    token : Token
+    token : Standing
     reads : list_name_at text at ≡ done token
     bytes : part text token.start token.size ≡ name
     after : drop token.next text ≡ rest

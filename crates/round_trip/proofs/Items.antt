@@ -58,7 +58,7 @@ module _ (text : List ℕ) where
     unfolding struct_item
     struct-end at p rows rest k =
         let t = rparen-token text at p rest k in
-        rw (stands-is text rparen at (token RParen p 1) t, here text rparen at (token RParen p 1) (sym t) refl)
+        rw (stands-is text rparen at (token (done RParen) p 1) t, here text rparen at (token (done RParen) p 1) (sym t) refl)
 
     no_end : (at : ℕ) → sort_of (token_at text at).kind ≡ double_quoted → stands text rparen at ≡ false
     no_end at e = stands-is text rparen at (token_at text at) refl ∙ ap (λ (k : ℕ). eqb k rparen) e

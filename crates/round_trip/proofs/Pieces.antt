@@ -1,6 +1,6 @@
 -- Printed pieces at a place of a text, read back: marks, words, numbers and quoted strings.
 use mathlib.Core.Path.{◌≡◌, refl, sym, ap, ◌∙◌}
-use mathlib.Core.Bool.{true, false}
+use mathlib.Core.Bool.{true}
 use mathlib.Core.List.{List, [], ◌∷◌, ◌++◌, append_assoc}
 use mathlib.Core.Option.{some}
 use Prim.Native.Nat.{ℕ, suc, ◌+◌, ◌-◌, ◌^◌, ◌≤◌, ◌<◌}
@@ -9,11 +9,11 @@ use lib.ListN.{length, drop, length-append, length-drop}
 use lib.Seq.{take-append_seam}
 use lib.Dec.{T, eqb}
 use borrow.Author.Tests.{le-leb}
+use lib.IntN.{pos}
 use Rattle.tokenizer.specs.Text.{all}
-use Rattle.tokenizer.specs.Answer.{done}
+use Rattle.tokenizer.specs.Answer.{Out, done}
 use Rattle.tokenizer.specs.Words.{words, find}
-use Rattle.tokenizer.specs.Token.{token, sort_of, value_of, lparen, rparen, comma, colon, integer, double_quoted, single_quoted, string_token, token_from, token_at}
-use Rattle.tokenizer.specs.declared.Token.{Token}
+use Rattle.tokenizer.specs.Token.{Standing, token, sort_of, value_of, lparen, rparen, comma, colon, integer, double_quoted, single_quoted, string_token, token_from, token_at, signed}
 use Rattle.tokenizer.specs.declared.TokenKind.{TokenKind}
 use Rattle.tokenizer.specs.declared.TokenKind.TheVariants.{LParen, RParen, Comma, Colon, Integer, DoubleQuotedString, SingleQuotedString}
 use Rattle.tokenizer.proofs.Basics.{skip, skip_word}
@@ -24,6 +24,7 @@ use Rattle.parser.proofs.TokenLaws.{here}
 use Rattle.output.specs.Digits.{digits}
 use Rattle.display_length.specs.Display.{quoted}
 use Rattle.round_trip.specs.Plain.{is_plain}
+use Rattle.tokenizer.proofs.Numbers.{abs_signed, below_signed}
 use Rattle.round_trip.proofs.Tokens.{Stop, WordOf, listed_token, number_token_lem, minus_token, until_double, until_single, escaped_plain}
 
 module _ (text : List ℕ) where
@@ -42,48 +43,48 @@ module _ (text : List ℕ) where
 
   -- ---- marks
 
-  pub stands-is : (sort at : ℕ) (t : Token) → token_at text at ≡ t → stands text sort at ≡ eqb (sort_of t.kind) sort
+  pub stands-is : (sort at : ℕ) (t : Standing) → token_at text at ≡ t → stands text sort at ≡ eqb (sort_of t.kind) sort
   unfolding stands
   stands-is sort at t e = rw e
 
   module _ (at p : ℕ) (s : List ℕ) where
-    pub lparen-token : Look at p (40 ∷ s) → token_at text at ≡ token LParen p 1
+    pub lparen-token : Look at p (40 ∷ s) → token_at text at ≡ token (done LParen) p 1
     unfolding token_from
     lparen-token k = k.token
 
-    pub rparen-token : Look at p (41 ∷ s) → token_at text at ≡ token RParen p 1
+    pub rparen-token : Look at p (41 ∷ s) → token_at text at ≡ token (done RParen) p 1
     unfolding token_from
     rparen-token k = k.token
 
-    pub comma-token : Look at p (44 ∷ s) → token_at text at ≡ token Comma p 1
+    pub comma-token : Look at p (44 ∷ s) → token_at text at ≡ token (done Comma) p 1
     unfolding token_from
     comma-token k = k.token
 
-    pub colon-token : Look at p (58 ∷ s) → token_at text at ≡ token Colon p 1
+    pub colon-token : Look at p (58 ∷ s) → token_at text at ≡ token (done Colon) p 1
     unfolding token_from
     colon-token k = k.token
 
   module _ (at : ℕ) (s : List ℕ) where
-    pub need-lparen : drop at text ≡ 40 ∷ s → need text lparen at ≡ done (token LParen at 1)
-    need-lparen e = here text lparen at (token LParen at 1) (sym (lparen-token at at s (look-here at (40 ∷ s) e))) refl
+    pub need-lparen : drop at text ≡ 40 ∷ s → need text lparen at ≡ done (token (done LParen) at 1)
+    need-lparen e = here text lparen at (token (done LParen) at 1) (sym (lparen-token at at s (look-here at (40 ∷ s) e))) refl
 
-    pub need-lparen-behind : drop at text ≡ 32 ∷ 40 ∷ s → need text lparen at ≡ done (token LParen (at + 1) 1)
-    need-lparen-behind e = here text lparen at (token LParen (at + 1) 1) (sym (lparen-token at (at + 1) s (look-space at (40 ∷ s) e))) refl
+    pub need-lparen-behind : drop at text ≡ 32 ∷ 40 ∷ s → need text lparen at ≡ done (token (done LParen) (at + 1) 1)
+    need-lparen-behind e = here text lparen at (token (done LParen) (at + 1) 1) (sym (lparen-token at (at + 1) s (look-space at (40 ∷ s) e))) refl
 
-    pub need-rparen : drop at text ≡ 41 ∷ s → need text rparen at ≡ done (token RParen at 1)
-    need-rparen e = here text rparen at (token RParen at 1) (sym (rparen-token at at s (look-here at (41 ∷ s) e))) refl
+    pub need-rparen : drop at text ≡ 41 ∷ s → need text rparen at ≡ done (token (done RParen) at 1)
+    need-rparen e = here text rparen at (token (done RParen) at 1) (sym (rparen-token at at s (look-here at (41 ∷ s) e))) refl
 
-    pub need-comma : drop at text ≡ 44 ∷ s → need text comma at ≡ done (token Comma at 1)
-    need-comma e = here text comma at (token Comma at 1) (sym (comma-token at at s (look-here at (44 ∷ s) e))) refl
+    pub need-comma : drop at text ≡ 44 ∷ s → need text comma at ≡ done (token (done Comma) at 1)
+    need-comma e = here text comma at (token (done Comma) at 1) (sym (comma-token at at s (look-here at (44 ∷ s) e))) refl
 
-    pub need-colon : drop at text ≡ 58 ∷ s → need text colon at ≡ done (token Colon at 1)
-    need-colon e = here text colon at (token Colon at 1) (sym (colon-token at at s (look-here at (58 ∷ s) e))) refl
+    pub need-colon : drop at text ≡ 58 ∷ s → need text colon at ≡ done (token (done Colon) at 1)
+    need-colon e = here text colon at (token (done Colon) at 1) (sym (colon-token at at s (look-here at (58 ∷ s) e))) refl
 
     pub rparen-stands : (sort : ℕ) → drop at text ≡ 41 ∷ s → stands text sort at ≡ eqb rparen sort
-    rparen-stands sort e = stands-is sort at (token RParen at 1) (rparen-token at at s (look-here at (41 ∷ s) e))
+    rparen-stands sort e = stands-is sort at (token (done RParen) at 1) (rparen-token at at s (look-here at (41 ∷ s) e))
 
     pub comma-stands : (sort : ℕ) → drop at text ≡ 44 ∷ s → stands text sort at ≡ eqb comma sort
-    comma-stands sort e = stands-is sort at (token Comma at 1) (comma-token at at s (look-here at (44 ∷ s) e))
+    comma-stands sort e = stands-is sort at (token (done Comma) at 1) (comma-token at at s (look-here at (44 ∷ s) e))
 
   pub closes : (r : Row) (kids : Forest Row) (at : ℕ) (s : List ℕ) → drop at text ≡ 41 ∷ s
       → close_at text r kids at ≡ done (record { row = r; kids = kids; next = at + 1 })
@@ -94,7 +95,7 @@ module _ (text : List ℕ) where
 
   -- a token of a sort and a value, behind which s stands
   pub record Found (k v at : ℕ) (s : List ℕ) : Type 0 where
-    pub token : Token
+    pub token : Standing
     pub found : token_at text at ≡ token
     pub sort : sort_of token.kind ≡ k
     pub value : value_of token.kind ≡ v
@@ -103,7 +104,7 @@ module _ (text : List ℕ) where
   pub found_word : (k v at p : ℕ) (w s : List ℕ) → WordOf k v w → Stop s → Look at p (w ++ s) → Found k v at s
   found_word k v at p w s h st l =
       record {
-        token = token (find w words).kind p (length w);
+        token = token (find w words) p (length w);
         found = l.token ∙ listed_token p w s h.listed st;
         sort = h.sort;
         value = h.value;
@@ -116,32 +117,32 @@ module _ (text : List ℕ) where
   -- ---- numbers
 
   -- a number that a range takes, and what is kept of it
-  pub record NumberRead (least most at : ℕ) (keep : TokenKind → ℕ) (v : ℕ) (s : List ℕ) : Type 0 where
-    pub token : Token
+  pub record NumberRead (least most at : ℕ) (keep : Out TokenKind → ℕ) (v : ℕ) (s : List ℕ) : Type 0 where
+    pub token : Standing
     pub reads : number_in text least most at ≡ done token
     pub value : keep token.kind ≡ v
     pub after : drop token.next text ≡ s
 
-  pub number_read : (least most : ℕ) (keep : TokenKind → ℕ) (n at p v : ℕ) (s : List ℕ) → n ≤ most → n < 2 ^ 63 → keep (Integer false n) ≡ v → Stop s
+  pub number_read : (least most : ℕ) (keep : Out TokenKind → ℕ) (n at p v : ℕ) (s : List ℕ) → n ≤ most → n < 2 ^ 63 → keep (done (Integer (pos n))) ≡ v → Stop s
       → Look at p (digits n ++ s) → NumberRead least most at keep v s
   unfolding number_in
   number_read least most keep n at p v s h small e st k =
-      let t : token_at text at ≡ token (Integer false n) p (length (digits n)) = k.token ∙ number_token_lem p n s small st in
+      let t : token_at text at ≡ token (done (Integer (pos n))) p (length (digits n)) = k.token ∙ number_token_lem p n s small st in
       record {
-        token = token (Integer false n) p (length (digits n));
-        reads = rw (here text integer at (token (Integer false n) p (length (digits n))) (sym t) refl, le-leb n most h);
+        token = token (done (Integer (pos n))) p (length (digits n));
+        reads = rw (here text integer at (token (done (Integer (pos n))) p (length (digits n))) (sym t) refl, le-leb n most h);
         value = e;
         after = skip_word p text (digits n) s k.on;
       }
 
-  pub minus-read : (least most : ℕ) (keep : TokenKind → ℕ) (n at p v : ℕ) (s : List ℕ) → n ≤ least → n ≤ 2 ^ 63 → keep (Integer true n) ≡ v → Stop s
+  pub minus-read : (least most : ℕ) (keep : Out TokenKind → ℕ) (n at p v : ℕ) (s : List ℕ) → 1 ≤ n → n ≤ least → n ≤ 2 ^ 63 → keep (done (Integer (signed true n))) ≡ v → Stop s
       → Look at p (45 ∷ (digits n ++ s)) → NumberRead least most at keep v s
   unfolding number_in
-  minus-read least most keep n at p v s h small e st k =
-      let t : token_at text at ≡ token (Integer true n) p (suc (length (digits n))) = k.token ∙ minus_token p n s small st in
+  minus-read least most keep n at p v s o h small e st k =
+      let t : token_at text at ≡ token (done (Integer (signed true n))) p (suc (length (digits n))) = k.token ∙ minus_token p n s small st in
       record {
-        token = token (Integer true n) p (suc (length (digits n)));
-        reads = rw (here text integer at (token (Integer true n) p (suc (length (digits n)))) (sym t) refl, le-leb n least h);
+        token = token (done (Integer (signed true n))) p (suc (length (digits n)));
+        reads = rw (here text integer at (token (done (Integer (signed true n))) p (suc (length (digits n)))) (sym t) refl, below_signed n o, abs_signed true n, le-leb n least h);
         value = e;
         after = skip_word p text (45 ∷ digits n) s k.on;
       }
@@ -149,7 +150,7 @@ module _ (text : List ℕ) where
   -- ---- quoted strings
 
   pub record Quoted (k at : ℕ) (name s : List ℕ) : Type 0 where
-    pub token : Token
+    pub token : Standing
     pub found : token_at text at ≡ token
     pub sort : sort_of token.kind ≡ k
     pub bytes : part text token.start token.size ≡ name
@@ -165,7 +166,7 @@ module _ (text : List ℕ) where
       rw (le-leb (at + length w) (length text) (omega arith), h, take-append_seam w s)
 
   -- a string between two marks q
-  string-read : (kind : TokenKind) (k q at p : ℕ) (name s : List ℕ) → sort_of kind ≡ k → T (is_name name) → Look at p (q ∷ (name ++ (q ∷ s)))
+  string-read : (kind : TokenKind) (k q at p : ℕ) (name s : List ℕ) → sort_of (done kind) ≡ k → T (is_name name) → Look at p (q ∷ (name ++ (q ∷ s)))
       → token_from p (q ∷ (name ++ (q ∷ s))) ≡ string_token kind p (some (length name)) → Quoted k at name s
   string-read kind k q at p [] s so h l e = absurd h
   string-read kind k q at p (c ∷ w) s so h l e =

@@ -11,20 +11,20 @@ use native.Mathlib.Omega.{arith}
 use lib.ListN.{length, take, drop, length-append}
 use lib.Seq.{take-append_seam}
 use lib.Dec.{T}
-use Rattle.tokenizer.specs.Answer.{Out, refused, done, refuse}
+use Rattle.std.specs.declared.result.Result.{Result}
+use Rattle.std.specs.declared.result.Result.TheVariants.{Ok, Err}
+use Rattle.tokenizer.specs.Answer.{Out, refused, done, refuse, number_of, answer_of}
+use Rattle.tokenizer.specs.declared.refusal.Refusal as R
 use Rattle.datatype.specs.Tree.{count}
 use Rattle.datatype.specs.Table.{row_words, tree_of}
 use Rattle.subtrees.specs.Equal.{equal_trees}
-use Rattle.datatype_parse.specs.Parse.{parse_answer, parse_rows, parsed_means}
-use Rattle.datatype_parse.specs.declared.Parsed.{Parsed}
-use Rattle.datatype_parse.specs.declared.Parsed.TheVariants as parsed
-use Rattle.datatype_display.specs.Print.{print, length_of, print_answer, written, print_bytes, printed_means}
-use Rattle.datatype_display.specs.declared.Printed.{Printed}
-use Rattle.datatype_display.specs.declared.Printed.TheVariants as printing
+use Rattle.datatype_parse.specs.Parse.{parse_answer, parse_rows}
+use Rattle.datatype_display.specs.Print.{print, length_of, print_answer, written, print_bytes}
 use Rattle.round_trip.specs.Plain.{printed, in_demand3}
 use Rattle.round_trip.specs.PrintAndRead.{Outcome, tree, printed_and_read_means, print_and_read_answer, print_and_read_rows, bytes_of, Asks3, Demand3}
 use Rattle.round_trip.specs.declared.PrintedAndRead.{PrintedAndRead}
-use Rattle.round_trip.specs.declared.PrintedAndRead.TheVariants.{Tree, NotPrinted, NotRead}
+use Rattle.round_trip.specs.declared.NotReadBack.{NotReadBack}
+use Rattle.round_trip.specs.declared.NotReadBack.TheVariants.{NotPrinted, NotRead}
 use Rattle.round_trip.proofs.RoundTrip.{conditions, round_trip, prints, not_equal}
 use Rattle.round_trip.proofs.Buffers.{print-start, ReadAnswer, read_answer}
 
@@ -50,11 +50,11 @@ no_text (refused r) n e =
     ap refused h
 no_text (done s) n e = absurd (let z : ◌≡◌ {A = ℕ} 0 1 = cc in omega arith)
 
-module _ (text names table out : List ℕ) (p : Printed) (out' : List ℕ) (e : printed_means p ≡ print_answer text names table out)
-    (o : out' ≡ print_bytes text names table out) (n : ℕ) (h : p ≡ printing.Length n) where
+module _ (text names table out : List ℕ) (p : Result ℕ R.Refusal) (out' : List ℕ) (e : answer_of p ≡ print_answer text names table out)
+    (o : out' ≡ print_bytes text names table out) (n : ℕ) (h : p ≡ Ok n) where
   text-printed : TextIn (print text names table (length out)) n out'
-  unfolding printed_means print_answer print_bytes
-  text-printed = text_in (print text names table (length out)) n out out' (sym e ∙ ap printed_means h) o
+  unfolding print_answer print_bytes
+  text-printed = text_in (print text names table (length out)) n out out' (sym e ∙ ap answer_of h) o
 
   pub within : n ≤ length out'
   within = text-printed.within
@@ -89,38 +89,38 @@ module _ (text names table out back : List ℕ) where
   -- ---- the calls' answers
 
   -- the four clauses of the function's contract
-  abbrev Answers : PrintedAndRead → List ℕ → List ℕ → Type 0
+  abbrev Answers : Result PrintedAndRead NotReadBack → List ℕ → List ℕ → Type 0
   Answers r out' back' =
       (printed_and_read_means r ≡ print_and_read_answer text names table out back)
       × ((out' ≡ print_bytes text names table out)
       × ((back' ≡ print_and_read_rows text names table out back) × (Asks3 text names table out back → Demand3 text names table (printed_and_read_means r) out' back')))
 
-  answers : (r : PrintedAndRead) (out' back' : List ℕ) → printed_and_read_means r ≡ print_and_read_answer text names table out back → out' ≡ print_bytes text names table out
+  answers : (r : Result PrintedAndRead NotReadBack) (out' back' : List ℕ) → printed_and_read_means r ≡ print_and_read_answer text names table out back → out' ≡ print_bytes text names table out
       → back' ≡ print_and_read_rows text names table out back → Answers r out' back'
   answers r out' back' a o b = (a, (o, (b, demand3 (printed_and_read_means r) out' back' a o b)))
 
-  module _ (p : Printed) (out' : List ℕ) (e : printed_means p ≡ print_answer text names table out) (o : out' ≡ print_bytes text names table out) (n : ℕ) where
-    pub not-printed : p ≡ printing.Refused n → Answers (NotPrinted n) out' back
-    unfolding printed_means print_answer printed_and_read_means print_and_read_answer print_and_read_rows
-    not-printed h =
-        let q : print text names table (length out) ≡ refuse n = no_text (print text names table (length out)) n (sym e ∙ ap printed_means h) in
-        answers (NotPrinted n) out' back (rw q) o (rw q)
+  module _ (p : Result ℕ R.Refusal) (out' : List ℕ) (e : answer_of p ≡ print_answer text names table out) (o : out' ≡ print_bytes text names table out) where
+    pub not-printed : (x : R.Refusal) → p ≡ Err x → Answers (Err (NotPrinted x)) out' back
+    unfolding print_answer printed_and_read_means print_and_read_answer print_and_read_rows
+    not-printed x h =
+        let q : print text names table (length out) ≡ refuse (number_of x) = no_text (print text names table (length out)) (number_of x) (sym e ∙ ap answer_of h) in
+        answers (Err (NotPrinted x)) out' back (rw q) o (rw q)
 
-    module _ (h : p ≡ printing.Length n) (q : Parsed) (back' : List ℕ) (f : parsed_means q ≡ parse_answer (take n out') back)
-        (b : back' ≡ parse_rows (take n out') back) (m : ℕ) where
-      pub not-read : q ≡ parsed.Refused m → Answers (NotRead m) out' back'
-      unfolding parsed_means printed_and_read_means print_and_read_answer print_and_read_rows
-      not-read k =
+    module _ (n : ℕ) (h : p ≡ Ok n) (q : Result ℕ R.Refusal) (back' : List ℕ) (f : answer_of q ≡ parse_answer (take n out') back)
+        (b : back' ≡ parse_rows (take n out') back) where
+      pub not-read : (x : R.Refusal) → q ≡ Err x → Answers (Err (NotRead x)) out' back'
+      unfolding printed_and_read_means print_and_read_answer print_and_read_rows
+      not-read x k =
           let t = text-printed text names table out p out' e o n h in
-          let g : parse_answer (take n out') back ≡ refuse m = sym f ∙ ap parsed_means k in
-          answers (NotRead m) out' back' (rw (t.is, g)) o (rw (t.is, b))
+          let g : parse_answer (take n out') back ≡ refuse (number_of x) = sym f ∙ ap answer_of k in
+          answers (Err (NotRead x)) out' back' (rw (t.is, g)) o (rw (t.is, b))
 
-      pub read_back : q ≡ parsed.Rows m → Answers (Tree n m) out' back'
-      unfolding parsed_means printed_and_read_means print_and_read_answer print_and_read_rows
-      read_back k =
+      pub read_back : (m : ℕ) → q ≡ Ok m → Answers (Ok (record { bytes = n; rows = m })) out' back'
+      unfolding printed_and_read_means print_and_read_answer print_and_read_rows
+      read_back m k =
           let t = text-printed text names table out p out' e o n h in
-          let g : parse_answer (take n out') back ≡ done m = sym f ∙ ap parsed_means k in
-          answers (Tree n m) out' back' (rw (t.is, g, t.size)) o (rw (t.is, b))
+          let g : parse_answer (take n out') back ≡ done m = sym f ∙ ap answer_of k in
+          answers (Ok (record { bytes = n; rows = m })) out' back' (rw (t.is, g, t.size)) o (rw (t.is, b))
 
   -- ---- its conditions
 

@@ -5,10 +5,9 @@ use mathlib.Core.List.{List, [], ◌++◌, append-nil}
 use Prim.Native.Nat.{ℕ, zero, suc, ◌≤◌}
 use native.Mathlib.Omega.{arith}
 use lib.ListN.{length, drop}
-use Rattle.tokenizer.specs.Answer.{Out, done}
+use Rattle.tokenizer.specs.Answer.{Out, done, refuse}
 use Rattle.tokenizer.specs.Utf8.{is_utf8}
 use Rattle.tokenizer.specs.Token.{token, token_at, token_from, no_token, type_word}
-use Rattle.tokenizer.specs.declared.TokenKind.TheVariants.{Refused}
 use Rattle.datatype.specs.Kind.{Shape, leaf, timestamp, time, interval, fixed, list, fixed_list, struct, union, dictionary, decimal, mapping, run_end_encoded, shape_of}
 use Rattle.datatype.specs.Tree.{Forest, ∅, node, count, depth, Row, Label, name_list, labels}
 use Rattle.row_table.specs.Sound.{Standing, bare}
@@ -88,8 +87,8 @@ pub record WholeRead (tree : Forest Label) (rows : ℕ) : Type 0 where
 pub over : (text : List ℕ) (at : ℕ) → drop at text ≡ [] → text_over text at ≡ true
 unfolding text_over token_from
 over text at e =
-    let t : token_at text at ≡ token (Refused 5) at 0 = (look-here text at [] e).token in
-    rw (stands-is text no_token at (token (Refused 5) at 0) t, t)
+    let t : token_at text at ≡ token (refuse 5) at 0 = (look-here text at [] e).token in
+    rw (stands-is text no_token at (token (refuse 5) at 0) t, t)
 
 whole : (l : Label) (kids : Forest Label) (rows : ℕ) → bare_label l ≡ l
     → TreeRead (display (node l kids ∅)) (type_at (display (node l kids ∅)) 64 0 rows) (bare_label l) kids [] → WholeRead (node l kids ∅) rows

@@ -8,13 +8,15 @@ use native.Mathlib.Omega.{arith}
 use lib.ListN.{length}
 use lib.Dec.{T, leb, eqb, eqb→eq}
 use borrow.Author.Tests.{ne_eqb, le-leb, le-ltb, leb-true}
+use lib.IntN.{pos}
 use Rattle.tokenizer.specs.Text.{all}
 use Rattle.tokenizer.specs.Words.{words, find}
-use Rattle.tokenizer.specs.Token.{token, sort_of, value_of, type_word, is_separator, word_of, is_digit, word_kind, until_quote, token_from}
+use Rattle.tokenizer.specs.Token.{token, sort_of, value_of, type_word, is_separator, word_of, is_digit, word_kind, until_quote, token_from, signed}
+use Rattle.tokenizer.specs.Answer.{Out, done}
 use Rattle.tokenizer.specs.declared.TokenKind.{TokenKind}
 use Rattle.tokenizer.specs.declared.TokenKind.TheVariants.{Integer}
 use Rattle.tokenizer.proofs.Basics.{and_l, and_r, both, is_true, is_false, of_false}
-use Rattle.tokenizer.proofs.Magnitude.{digit_least, digit_most}
+use Rattle.tokenizer.proofs.Numbers.{digit_least, digit_most}
 use Rattle.tokenizer.proofs.Marks.{not_separator}
 use Rattle.datatype.specs.Kind.{kinds}
 use Rattle.datatype.proofs.Tests.{below_at}
@@ -81,7 +83,7 @@ unfoldable pub is_listed_word : List ℕ → Bool
 is_listed_word [] = false
 is_listed_word (c ∷ w) = word_start c && all in_word w && not (eqb c 45) && not (is_digit c)
 
-pub listed_token : (at : ℕ) (w s : List ℕ) → T (is_listed_word w) → Stop s → token_from at (w ++ s) ≡ token (find w words).kind at (length w)
+pub listed_token : (at : ℕ) (w s : List ℕ) → T (is_listed_word w) → Stop s → token_from at (w ++ s) ≡ token (find w words) at (length w)
 unfolding is_listed_word word_kind
 listed_token at [] s h k = absurd h
 listed_token at (c ∷ w) s h k =
@@ -110,7 +112,7 @@ digits_in_word (c ∷ w) h =
     both (in_word c) (all in_word w) (of_false (is_separator c) (digit_separates c (is_true (is_digit c) (and_l (is_digit c) (all is_digit w) h))))
     (digits_in_word w (and_r (is_digit c) (all is_digit w) h))
 
-spelled_token : (at n : ℕ) (w s : List ℕ) → Spelled n w → n < 2 ^ 63 → Stop s → token_from at (w ++ s) ≡ token (Integer false n) at (length w)
+spelled_token : (at n : ℕ) (w s : List ℕ) → Spelled n w → n < 2 ^ 63 → Stop s → token_from at (w ++ s) ≡ token (done (Integer (pos n))) at (length w)
 unfolding word_kind
 spelled_token at n [] s h k l = absurd (omega (arith, h.some))
 spelled_token at n (c ∷ w) s h k l =
@@ -119,17 +121,17 @@ spelled_token at n (c ∷ w) s h k l =
     word_token_lem at c w s (digit_starts c d) (digits_in_word w ds) l
     ∙ rw (digit_minus c d, d, is_true (all is_digit w) ds, h.value, le-leb n (2 ^ 63 - 1) (omega arith))
 
-pub number_token_lem : (at n : ℕ) (s : List ℕ) → n < 2 ^ 63 → Stop s → token_from at (digits n ++ s) ≡ token (Integer false n) at (length (digits n))
+pub number_token_lem : (at n : ℕ) (s : List ℕ) → n < 2 ^ 63 → Stop s → token_from at (digits n ++ s) ≡ token (done (Integer (pos n))) at (length (digits n))
 number_token_lem at n s h k = spelled_token at n (digits n) s (digits_spell n) h k
 
-minus_spelled : (at n : ℕ) (w s : List ℕ) → Spelled n w → n ≤ 2 ^ 63 → Stop s → token_from at (45 ∷ (w ++ s)) ≡ token (Integer true n) at (suc (length w))
+minus_spelled : (at n : ℕ) (w s : List ℕ) → Spelled n w → n ≤ 2 ^ 63 → Stop s → token_from at (45 ∷ (w ++ s)) ≡ token (done (Integer (signed true n))) at (suc (length w))
 unfolding word_kind
 minus_spelled at n [] s h k l = absurd (omega (arith, h.some))
 minus_spelled at n (c ∷ w) s h k l =
     word_token_lem at 45 (c ∷ w) s (unfold is_separator in tt) (digits_in_word (c ∷ w) h.digits) l
     ∙ rw (is_true (all is_digit (c ∷ w)) h.digits, h.value, le-leb n (2 ^ 63) k)
 
-pub minus_token : (at n : ℕ) (s : List ℕ) → n ≤ 2 ^ 63 → Stop s → token_from at (45 ∷ (digits n ++ s)) ≡ token (Integer true n) at (suc (length (digits n)))
+pub minus_token : (at n : ℕ) (s : List ℕ) → n ≤ 2 ^ 63 → Stop s → token_from at (45 ∷ (digits n ++ s)) ≡ token (done (Integer (signed true n))) at (suc (length (digits n)))
 minus_token at n s h k = minus_spelled at n (digits n) s (digits_spell n) h k
 
 -- ---- quoted strings of plain bytes
@@ -194,17 +196,17 @@ escaped_plain (c ∷ name) k =
 
 -- a word of the list that is of a sort and has a value
 unfoldable pub is_word_of : ℕ → ℕ → List ℕ → Bool
-is_word_of sort value w = is_listed_word w && eqb (sort_of (find w words).kind) sort && eqb (value_of (find w words).kind) value
+is_word_of sort value w = is_listed_word w && eqb (sort_of (find w words)) sort && eqb (value_of (find w words)) value
 
 pub record WordOf (k v : ℕ) (w : List ℕ) : Type 0 where
   pub listed : T (is_listed_word w)
-  pub sort : sort_of (find w words).kind ≡ k
-  pub value : value_of (find w words).kind ≡ v
+  pub sort : sort_of (find w words) ≡ k
+  pub value : value_of (find w words) ≡ v
 
 pub word_is : (sort value : ℕ) (w : List ℕ) → T (is_word_of sort value w) → WordOf sort value w
 unfolding is_word_of
 word_is sort value w h =
-    let k : TokenKind = (find w words).kind in
+    let k : Out TokenKind = find w words in
     let t : T (is_listed_word w && eqb (sort_of k) sort) = and_l (is_listed_word w && eqb (sort_of k) sort) (eqb (value_of k) value) h in
     record {
       listed = and_l (is_listed_word w) (eqb (sort_of k) sort) t;

@@ -1,7 +1,7 @@
 -- Printing a tree and reading back just the bytes printed: the answer and both buffers for every input, and what demand 3
 -- says of the two calls. `print_and_read` is stated by these.
-use Rattle.std.specs.Prelude.{◌≡◌, List, [], ℕ, ◌*◌, ◌≤◌, length, take, T}
-use Rattle.tokenizer.specs.Answer.{Out, refused, done}
+use Rattle.std.specs.Prelude.{◌≡◌, Result, Ok, Err, List, [], ℕ, ◌*◌, ◌≤◌, length, take, T}
+use Rattle.tokenizer.specs.Answer.{Out, refused, done, number_of}
 use Rattle.datatype.specs.Tree.{count}
 use Rattle.datatype.specs.Table.{row_words, tree_of}
 use Rattle.row_table.specs.Sound.{is_sound}
@@ -10,7 +10,8 @@ use Rattle.datatype_parse.specs.Parse.{parse_answer, parse_rows}
 use Rattle.datatype_display.specs.Print.{print}
 use Rattle.round_trip.specs.Plain.{printed, in_demand3}
 use Rattle.round_trip.specs.declared.PrintedAndRead.{PrintedAndRead}
-use Rattle.round_trip.specs.declared.PrintedAndRead.TheVariants.{Tree, NotPrinted, NotRead}
+use Rattle.round_trip.specs.declared.NotReadBack.{NotReadBack}
+use Rattle.round_trip.specs.declared.NotReadBack.TheVariants.{NotPrinted, NotRead}
 
 -- What the two calls come to: a printed length and a row count, or the number of the printer's refusal (17 to 19), or
 -- that of the reader's (1 to 16).
@@ -20,10 +21,10 @@ pub data Outcome : Type 0 where
   not_read : (number : ℕ) → Outcome
 
 -- What the code's answer means.
-unfoldable pub printed_and_read_means : PrintedAndRead → Outcome
-printed_and_read_means (Tree bytes rows) = tree bytes rows
-printed_and_read_means (NotPrinted n) = not_printed n
-printed_and_read_means (NotRead n) = not_read n
+unfoldable pub printed_and_read_means : Result PrintedAndRead NotReadBack → Outcome
+printed_and_read_means (Ok r) = tree r.bytes r.rows
+printed_and_read_means (Err (NotPrinted e)) = not_printed (number_of e)
+printed_and_read_means (Err (NotRead e)) = not_read (number_of e)
 
 -- ---- for every input
 

@@ -1,20 +1,25 @@
 -- What the functions of `children.rt` say of the children of a row.
-use mathlib.Core.Path.{◌≡◌, refl, sym, ap, ◌∙◌}
-use mathlib.Core.Bool.{Bool, true, false, ◌&&◌, ◌||◌, and-true, false≢true}
+use mathlib.Core.Path.{◌≡◌, refl, sym, ◌∙◌}
+use mathlib.Core.Bool.{Bool, true, false, not, ◌&&◌, ◌||◌, and-true, and-false, false≢true}
 use mathlib.Core.List.{List, map}
 use Prim.Native.Nat.{ℕ, zero, suc, ◌+◌, ◌-◌, ◌*◌, ◌≤◌, ◌<◌}
 use native.Mathlib.Omega.{arith}
+use Rattle.std.proofs.lemmas.Bool.Decides.{nat_tests}
 use lib.ListN.{length, get_or}
 use lib.Dec.{T, leb, ltb, eqb, eqb→eq, eqb-suc-suc}
-use borrow.Author.Tests.{lt-ltb, le-ltb, eq-eqb, ne_eqb, leb-true, ltb-true, ltb-false}
-use Rattle.tokenizer.proofs.Basics.{and_r, is_true, of_true}
+use borrow.Author.Tests.{lt-leb, eq-eqb, ne_eqb, ltb-true, ltb-false}
+use Rattle.std.specs.Prelude.{if◌then◌else◌, is_ok, Result, Ok, Err}
+use Rattle.tokenizer.specs.declared.refusal.Refusal as R
+use Rattle.tokenizer.specs.declared.refusal.Refusal.TheVariants.{TextTooLong, NotUtf8, TooDeep, TooManyRows, TextEnds, StringNeverEnds, StringEmpty, UnknownWord, UnexpectedToken, NumberOutOfRange, WrongTimeUnit, WrongDecimal, MustBeNonNull, WrongMapEntries, WrongUnionId, TrailingText, NotSound, NotAscii, PrintTooLong}
+use Rattle.tokenizer.specs.Answer.{number_of}
+use Rattle.tokenizer.proofs.Basics.{and_l, and_r, is_true, of_true}
 use Rattle.datatype.specs.Kind.{Shape, leaf, timestamp, time, interval, fixed, list, fixed_list, struct, union, dictionary, decimal, mapping, run_end_encoded, kinds, shape_of, ids_fit}
 use Rattle.datatype.specs.Tree.{Forest, ∅, node, count, roots, Row}
 use Rattle.datatype.specs.Table.{row_words, rows_at}
-use Rattle.row_table.specs.Sound.{no_child, one_child, two_children, arity_fits, rules_of}
-use Rattle.subtrees.specs.Internal.Run.{row_at, forest_at, Nests}
-use Rattle.row_table.specs.Internal.Check.{is_decimal, is_list, entries_ok, first_non_null, over_kids, children_fit}
-use Rattle.subtrees.specs.MapEntries.{entries_refusal_at}
+use Rattle.row_table.specs.Sound.{Arity, no_child, one_child, two_children, any_count, arity_fits, rules_of}
+use Rattle.subtrees.specs.Internal.Run.{row_at, run_at, is_run, entries_of, Nests}
+use Rattle.row_table.specs.Internal.Check.{trees, entries_ok, first_non_null, over_kids, children_fit}
+use Rattle.subtrees.specs.MapEntries.{refused_with, entries_refusal_at}
 use Rattle.subtrees.specs.UnionFields.{type_ids_fit}
 use Rattle.datatype.proofs.Tests.{iff_eq, all_below, below_at, same_bool, same_bool_lem}
 use Rattle.datatype.proofs.KindLaws.{past_kinds}
@@ -28,242 +33,225 @@ no_roots : (f : Forest Row) → eqb (length (roots f)) 0 ≡ eqb (count f) 0
 no_roots ∅ = refl
 no_roots (node r k n) = ne_eqb (suc (length (roots n))) 0 (λ e. omega arith) ∙ sym (ne_eqb (suc (count k) + count n) 0 (λ e. omega arith))
 
-module _ (table : List ℕ) (first end : ℕ) (h : Nests table first (end - first)) (l : first ≤ end) where
-  abbrev run : Forest Row
-  run = forest_at table first (end - first)
+-- no refusal has the number 0
+numbered : (e : R.Refusal) → eqb (number_of e) 0 ≡ false
+numbered TextTooLong = refl
+numbered NotUtf8 = refl
+numbered TooDeep = refl
+numbered TooManyRows = refl
+numbered TextEnds = refl
+numbered StringNeverEnds = refl
+numbered StringEmpty = refl
+numbered UnknownWord = refl
+numbered UnexpectedToken = refl
+numbered NumberOutOfRange = refl
+numbered WrongTimeUnit = refl
+numbered WrongDecimal = refl
+numbered MustBeNonNull = refl
+numbered WrongMapEntries = refl
+numbered WrongUnionId = refl
+numbered TrailingText = refl
+numbered NotSound = refl
+numbered NotAscii = refl
+numbered PrintTooLong = refl
 
-  pub none_here : first ≡ end → run ≡ ∅
+pub ok_is : {A : Type 0} (r : Result A R.Refusal) → is_ok r ≡ eqb (refused_with r) 0
+ok_is (Ok value) = refl
+ok_is (Err e) = sym (numbered e)
+
+-- the first tree of a run, and what is behind it
+pub child-turn : (table : List ℕ) (first end : ℕ) → Nests table first (end - first) → first ≤ end → (first ≡ end → ⊥) → Turn table first end
+child-turn table first end h l some = turn table first end h (omega arith)
+
+-- the ghost fields of `Children`, as the walks take them
+pub nests : (table : List ℕ) (first end : ℕ) → first ≤ end → row_words * end ≤ length table → is_run (run_at table first (end - first)) ≡ true → Nests table first (end - first)
+nests table first end l room whole = record { room = omega arith; whole = of_true _ whole }
+
+module _ (table : List ℕ) (first end : ℕ) (l : first ≤ end) (room : row_words * end ≤ length table) (whole : is_run (run_at table first (end - first)) ≡ true) where
+  pub none_here : first ≡ end → trees table first end ≡ ∅
   none_here e = let z : end - first ≡ 0 = omega arith in rw z (forest_none table first)
 
-  pub one-1 : first ≡ end → false ≡ eqb (length (roots run)) 1
-  one-1 e = rw (none_here e)
-
-  pub two-1 : first ≡ end → false ≡ eqb (length (roots run)) 2
-  two-1 e = rw (none_here e)
-
   -- no tree exactly where there are no rows
-  pub none_is : eqb first end ≡ eqb (length (roots run)) 0
-  none_is = sym (no_roots run ∙ rw (count_forest table first (end - first) h) (iff_eq (eqb (end - first) 0) (eqb first end) (λ t. of_true _ (eq-eqb first end (let e = eqb→eq (end - first) 0 t in omega arith))) (λ t. of_true _ (eq-eqb (end - first) 0 (let e = eqb→eq first end t in omega arith)))))
+  pub no_child_is : eqb (length (roots (trees table first end))) 0 ≡ eqb first end
+  no_child_is =
+      no_roots (trees table first end)
+      ∙ rw (count_forest table first (end - first) (nests table first end l room whole)) (iff_eq (eqb (end - first) 0) (eqb first end) (λ t. of_true _ (eq-eqb first end (let e = eqb→eq (end - first) 0 t in omega arith))) (λ t. of_true _ (eq-eqb (end - first) 0 (let e = eqb→eq first end t in omega arith))))
 
-module _ (table : List ℕ) (first end : ℕ) (h : Nests table first (end - first)) (l : first ≤ end) (some : first ≡ end → ⊥) where
-  pub child-turn : Turn table first end
-  child-turn = turn table first end h (omega arith)
+module _ (table : List ℕ) (first end : ℕ) (l : first ≤ end) (room : row_words * end ≤ length table) (whole : is_run (run_at table first (end - first)) ≡ true) where
+  some_row : (first ≡ end → ⊥) → first < end
+  some_row d = omega arith
 
-  abbrev behind : Forest Row
-  behind = forest_at table (first + rows_at table first) (end - (first + rows_at table first))
+  -- where there is a tree, there are rows
+  pub one_some : eqb (length (roots (trees table first end))) 1 ≡ true → first < end
+  one_some e = some_row (λ z. false≢true (sym (rw (none_here table first end l room whole z)) ∙ e))
 
-  more-roots : Turn table first end → length (roots (forest_at table first (end - first))) ≡ suc (length (roots behind))
-  more-roots t = rw t.is
+  pub two_some : eqb (length (roots (trees table first end))) 2 ≡ true → first < end
+  two_some e = some_row (λ z. false≢true (sym (rw (none_here table first end l room whole z)) ∙ e))
 
-  module _ (s : ℕ) (is : s ≡ rows_at table first) where
-    pub one-2 : eqb (first + s) end ≡ eqb (length (roots (forest_at table first (end - first)))) 1
-    one-2 = rw is (go child-turn)
+  pub ids_are : type_ids_fit table first end ≡ ids_fit (map (λ c. c.union_id) (roots (trees table first end)))
+  ids_are = type_ids_fit_lem table first end (nests table first end l room whole) l
+
+  module _ (some : first < end) where
+    first-turn : Turn table first end
+    first-turn = turn table first end (nests table first end l room whole) some
+
+    abbrev behind : Forest Row
+    behind = trees table (first + rows_at table first) end
+
+    pub behind_from : first + rows_at table first ≤ end
+    behind_from = first-turn.within
+
+    pub behind_whole : is_run (run_at table (first + rows_at table first) (end - (first + rows_at table first))) ≡ true
+    behind_whole = is_true _ first-turn.rest.whole
+
+    roots-more : length (roots (trees table first end)) ≡ suc (length (roots behind))
+    roots-more = go first-turn
       where
-        go : Turn table first end → eqb (first + rows_at table first) end ≡ eqb (length (roots (forest_at table first (end - first)))) 1
-        go t =
-            let w = t.within in
-            none_is table (first + rows_at table first) end t.rest w ∙ sym (ap (λ (n : ℕ). eqb n 1) (more-roots t) ∙ eqb-suc-suc (length (roots behind)) 0)
+        go : Turn table first end → length (roots (trees table first end)) ≡ suc (length (roots behind))
+        go t = rw t.is
 
-    pub two-2 : (r : Bool) → r ≡ eqb (length (roots (forest_at table (first + s) (end - (first + s))))) 1 → r ≡ eqb (length (roots (forest_at table first (end - first)))) 2
-    two-2 r e = go child-turn (rw is at e)
+    more_roots : (n : ℕ) → eqb (length (roots (trees table first end))) (suc n) ≡ eqb (length (roots behind)) n
+    more_roots n = rw roots-more (eqb-suc-suc (length (roots behind)) n)
+
+    pub one_is : eqb (length (roots (trees table first end))) 1 ≡ eqb (first + rows_at table first) end
+    one_is = more_roots 0 ∙ no_child_is table (first + rows_at table first) end behind_from room behind_whole
+
+    pub two_are : eqb (length (roots (trees table first end))) 2 ≡ eqb (length (roots behind)) 1
+    two_are = more_roots 1
+
+    -- Map's entries, where there is one tree
+    pub entries_are : entries_refusal_at table first ≡ entries_of (trees table first end)
+    entries_are = entries_nest table first end (nests table first end l room whole) some
+
+    -- run ends, where there are trees
+    pub first_role_is : first_non_null (trees table first end) ≡ eqb (get_or table (row_words * first + 2) 0) 2
+    first_role_is = go first-turn
       where
-        go : Turn table first end → r ≡ eqb (length (roots behind)) 1 → r ≡ eqb (length (roots (forest_at table first (end - first)))) 2
-        go t e = e ∙ sym (ap (λ (n : ℕ). eqb n 2) (more-roots t) ∙ eqb-suc-suc (length (roots behind)) 1)
-
-    -- the run behind the first tree
-    pub two-rest : Nests table (first + s) (end - (first + s)) × (first + s ≤ end)
-    two-rest = rw is (child-turn.rest, child-turn.within)
-
-    -- the first tree's children
-    pub kids-nest : Nests table (first + 1) (first + s - (first + 1)) × (first + 1 ≤ first + s)
-    kids-nest = rw is (let w = child-turn.some-rows in (child-turn.kids, omega arith))
-
--- ---- Map's entries, run ends and union ids
-
--- two trees: the first one's role is that of the first row
-module _ (table : List ℕ) (first end : ℕ) (h : Nests table first (end - first)) (l : first ≤ end) (two : eqb (length (roots (forest_at table first (end - first)))) 2 ≡ true) where
-  pub two-some : first ≡ end → ⊥
-  two-some e = false≢true (two-1 table first end h l e ∙ two)
-
-  pub two-room : row_words * (first + 1) ≤ length table
-  two-room =
-      let t = child-turn table first end h l two-some in
-      let some-rows = t.some-rows in
-      let within = t.within in
-      let room = h.room in
-      omega arith
-
-  pub non-null-at : (v : ℕ) → v ≡ get_or table (row_words * first + 2) 0 → eqb v 2 ≡ first_non_null (forest_at table first (end - first))
-  unfolding row_at
-  non-null-at v u = rw ((child-turn table first end h l two-some).is, u)
-
-module _ (table : List ℕ) (first end : ℕ) (h : Nests table first (end - first)) (l : first ≤ end) where
-  -- one tree: it is Map's entries, or is refused as such
-  pub entries_at : (n : ℕ) → eqb (length (roots (forest_at table first (end - first)))) 1 ≡ true → n ≡ entries_refusal_at table first → eqb n 0 ≡ entries_ok (forest_at table first (end - first))
-  entries_at n one e =
-      ap (λ (m : ℕ). eqb m 0) (e ∙ entries_nest table first end h (let d : first ≡ end → ⊥ = λ z. false≢true (one-1 table first end h l z ∙ one) in omega arith))
-
-  pub ids_at : (r : Bool) → r ≡ type_ids_fit table first end → r ≡ ids_fit (map (λ c. c.union_id) (roots (forest_at table first (end - first))))
-  ids_at r e = e ∙ type_ids_fit_lem table first end h l
+        go : Turn table first end → first_non_null (trees table first end) ≡ eqb (get_or table (row_words * first + 2) 0) 2
+        go t = unfold row_at in rw t.is
 
 -- ---- the children of a kind
 
-arity_none : (n : ℕ) → arity_fits no_child n ≡ eqb n 0
+-- the one count that an arity takes; 3 stands for any
+abbrev arity_number : Arity → ℕ
+arity_number no_child = 0
+arity_number one_child = 1
+arity_number two_children = 2
+arity_number any_count = 3
+
+arity_is : (a : Arity) (n : ℕ) → arity_number a < 3 → arity_fits a n ≡ eqb n (arity_number a)
 unfolding arity_fits
-arity_none zero = refl
-arity_none (suc n) = sym (ne_eqb (suc n) 0 (λ e. omega arith))
+arity_is no_child zero h = refl
+arity_is no_child (suc n) h = sym (ne_eqb (suc n) 0 (λ e. omega arith))
+arity_is one_child zero h = refl
+arity_is one_child (suc zero) h = refl
+arity_is one_child (suc (suc n)) h = sym (ne_eqb (suc (suc n)) 1 (λ e. omega arith))
+arity_is two_children zero h = refl
+arity_is two_children (suc zero) h = refl
+arity_is two_children (suc (suc zero)) h = refl
+arity_is two_children (suc (suc (suc n))) h = sym (ne_eqb (suc (suc (suc n))) 2 (λ e. omega arith))
+arity_is any_count n h = absurd (omega arith)
 
-arity_one : (n : ℕ) → arity_fits one_child n ≡ eqb n 1
-unfolding arity_fits
-arity_one zero = refl
-arity_one (suc zero) = refl
-arity_one (suc (suc n)) = sym (ne_eqb (suc (suc n)) 1 (λ e. omega arith))
+-- the shapes that ask nothing of their children but how many there are
+abbrev plain : Shape → Bool
+plain leaf = true
+plain timestamp = true
+plain time = true
+plain interval = true
+plain fixed = true
+plain list = true
+plain fixed_list = true
+plain struct = true
+plain union = false
+plain dictionary = true
+plain decimal = true
+plain mapping = false
+plain run_end_encoded = false
 
-arity_two : (n : ℕ) → arity_fits two_children n ≡ eqb n 2
-unfolding arity_fits
-arity_two zero = refl
-arity_two (suc zero) = refl
-arity_two (suc (suc zero)) = refl
-arity_two (suc (suc (suc n))) = sym (ne_eqb (suc (suc (suc n))) 2 (λ e. omega arith))
+plain_over : (s : Shape) (f : Forest Row) → T (plain s) → over_kids s f ≡ true
+plain_over leaf f t = refl
+plain_over timestamp f t = refl
+plain_over time f t = refl
+plain_over interval f t = refl
+plain_over fixed f t = refl
+plain_over list f t = refl
+plain_over fixed_list f t = refl
+plain_over struct f t = refl
+plain_over union f t = absurd t
+plain_over dictionary f t = refl
+plain_over decimal f t = refl
+plain_over mapping f t = absurd t
+plain_over run_end_encoded f t = absurd t
 
--- what a shape asks of its children
-abbrev shape_kids : Shape → Forest Row → Bool
-shape_kids s f = arity_fits (rules_of s).children (length (roots f)) && over_kids s f
+-- how many children a kind has, where its shape is plain
+abbrev child_count : ℕ → ℕ
+child_count k = if leb 27 k && leb k 31 then 1 else (if eqb k 34 then 2 else 0)
 
--- the lists take one child, and ask nothing besides
-abbrev list_shape : Shape → Bool
-list_shape leaf = false
-list_shape timestamp = false
-list_shape time = false
-list_shape interval = false
-list_shape fixed = false
-list_shape list = true
-list_shape fixed_list = true
-list_shape struct = false
-list_shape union = false
-list_shape dictionary = false
-list_shape decimal = false
-list_shape mapping = false
-list_shape run_end_encoded = false
+counted : T (all_below kinds (λ k. eqb k 32 || eqb k 33 || eqb k 39 || eqb k 40 || (plain (shape_of k) && eqb (arity_number (rules_of (shape_of k)).children) (child_count k))))
+unfolding rules_of shape_of
+counted = tt
 
-list_kids : (s : Shape) (f : Forest Row) → list_shape s ≡ true → shape_kids s f ≡ eqb (length (roots f)) 1
-unfolding rules_of
-list_kids leaf f e = absurd (false≢true e)
-list_kids timestamp f e = absurd (false≢true e)
-list_kids time f e = absurd (false≢true e)
-list_kids interval f e = absurd (false≢true e)
-list_kids fixed f e = absurd (false≢true e)
-list_kids list f e = and-true _ ∙ arity_one (length (roots f))
-list_kids fixed_list f e = and-true _ ∙ arity_one (length (roots f))
-list_kids struct f e = absurd (false≢true e)
-list_kids union f e = absurd (false≢true e)
-list_kids dictionary f e = absurd (false≢true e)
-list_kids decimal f e = absurd (false≢true e)
-list_kids mapping f e = absurd (false≢true e)
-list_kids run_end_encoded f e = absurd (false≢true e)
-
-lists : T (all_below kinds (λ k. same_bool (list_shape (shape_of k)) (is_list k)))
-unfolding same_bool shape_of is_list
-lists = tt
-
-list_bound : (k : ℕ) → is_list k ≡ true → k < kinds
-unfolding is_list
-list_bound k e = let u = leb-true k 31 (is_true (leb k 31) (and_r (leb 27 k) (leb k 31) (of_true _ e))) in omega arith
-
--- kinds that have no children
-abbrev leaf_shape : Shape → Bool
-leaf_shape leaf = true
-leaf_shape timestamp = true
-leaf_shape time = true
-leaf_shape interval = true
-leaf_shape fixed = true
-leaf_shape list = false
-leaf_shape fixed_list = false
-leaf_shape struct = false
-leaf_shape union = false
-leaf_shape dictionary = false
-leaf_shape decimal = true
-leaf_shape mapping = false
-leaf_shape run_end_encoded = false
-
-leaf_kids : (s : Shape) (f : Forest Row) → leaf_shape s ≡ true → shape_kids s f ≡ eqb (length (roots f)) 0
-unfolding rules_of
-leaf_kids leaf f e = and-true _ ∙ arity_none (length (roots f))
-leaf_kids timestamp f e = and-true _ ∙ arity_none (length (roots f))
-leaf_kids time f e = and-true _ ∙ arity_none (length (roots f))
-leaf_kids interval f e = and-true _ ∙ arity_none (length (roots f))
-leaf_kids fixed f e = and-true _ ∙ arity_none (length (roots f))
-leaf_kids list f e = absurd (false≢true e)
-leaf_kids fixed_list f e = absurd (false≢true e)
-leaf_kids struct f e = absurd (false≢true e)
-leaf_kids union f e = absurd (false≢true e)
-leaf_kids dictionary f e = absurd (false≢true e)
-leaf_kids decimal f e = and-true _ ∙ arity_none (length (roots f))
-leaf_kids mapping f e = absurd (false≢true e)
-leaf_kids run_end_encoded f e = absurd (false≢true e)
-
-leaves : T (all_below kinds (λ k. eqb k 32 || eqb k 33 || eqb k 34 || is_list k || eqb k 39 || eqb k 40 || leaf_shape (shape_of k)))
-unfolding shape_of is_list
-leaves = tt
+count_few : (k : ℕ) → child_count k < 3
+count_few k = grind (arith, nat_tests)
 
 module _ (k : ℕ) (f : Forest Row) where
-  pub kids-struct : k ≡ 32 → true ≡ children_fit k f
+  pub kids_struct : k ≡ 32 → children_fit k f ≡ true
   unfolding children_fit rules_of shape_of arity_fits
-  kids-struct e = rw e
+  kids_struct e = rw e
 
-  pub kids-union : (r : Bool) → k ≡ 33 → r ≡ ids_fit (map (λ c. c.union_id) (roots f)) → r ≡ children_fit k f
+  pub kids_union : k ≡ 33 → children_fit k f ≡ ids_fit (map (λ c. c.union_id) (roots f))
   unfolding children_fit rules_of shape_of arity_fits
-  kids-union r e q = rw e q
+  kids_union e = rw e
 
-  pub kids-dictionary : (r : Bool) → k ≡ 34 → r ≡ eqb (length (roots f)) 2 → r ≡ children_fit k f
+  pub kids_map : k ≡ 39 → children_fit k f ≡ (eqb (length (roots f)) 1 && entries_ok f)
   unfolding children_fit rules_of shape_of
-  kids-dictionary r e q = rw e (q ∙ sym (and-true _ ∙ arity_two (length (roots f))))
+  kids_map e = rw (e, arity_is one_child (length (roots f)) (omega arith))
 
-  pub kids-list : (r : Bool) → is_list k ≡ true → r ≡ eqb (length (roots f)) 1 → r ≡ children_fit k f
+  pub kids_run_ends : k ≡ 40 → children_fit k f ≡ (eqb (length (roots f)) 2 && first_non_null f)
+  unfolding children_fit rules_of shape_of
+  kids_run_ends e = rw (e, arity_is two_children (length (roots f)) (omega arith))
+
+  kids_below : k < kinds → (k ≡ 32 → ⊥) → (k ≡ 33 → ⊥) → (k ≡ 39 → ⊥) → (k ≡ 40 → ⊥) → children_fit k f ≡ eqb (length (roots f)) (child_count k)
   unfolding children_fit
-  kids-list r e q = q ∙ sym (list_kids (shape_of k) f (same_bool_lem (list_shape (shape_of k)) (is_list k) (below_at kinds (λ i. same_bool (list_shape (shape_of i)) (is_list i)) lists k (list_bound k e)) ∙ e))
+  kids_below h a b c d =
+      let P : Bool = plain (shape_of k) in
+      let A : ℕ = arity_number (rules_of (shape_of k)).children in
+      let t : T (eqb k 32 || eqb k 33 || eqb k 39 || eqb k 40 || (P && eqb A (child_count k))) = below_at kinds (λ i. eqb i 32 || eqb i 33 || eqb i 39 || eqb i 40 || (plain (shape_of i) && eqb (arity_number (rules_of (shape_of i)).children) (child_count i))) counted k h in
+      let u : T (P && eqb A (child_count k)) = rw (ne_eqb k 32 a, ne_eqb k 33 b, ne_eqb k 39 c, ne_eqb k 40 d) at t in
+      let e : A ≡ child_count k = eqb→eq A (child_count k) (and_r P (eqb A (child_count k)) u) in
+      let few : A < 3 = omega (arith, e, count_few k) in
+      rw (arity_is (rules_of (shape_of k)).children (length (roots f)) few, plain_over (shape_of k) f (and_l P (eqb A (child_count k)) u), e) (and-true _)
 
-  pub kids-map-no : k ≡ 39 → eqb (length (roots f)) 1 ≡ false → false ≡ children_fit k f
-  unfolding children_fit rules_of shape_of
-  kids-map-no e q = rw (e, arity_one (length (roots f)), q)
+  kids_past : kinds ≤ k → children_fit k f ≡ eqb (length (roots f)) 0
+  unfolding children_fit rules_of
+  kids_past h = rw (past_kinds k h, arity_is no_child (length (roots f)) (omega arith)) (and-true _)
 
-  pub kids-map : (r : Bool) → k ≡ 39 → eqb (length (roots f)) 1 ≡ true → r ≡ entries_ok f → r ≡ children_fit k f
-  unfolding children_fit rules_of shape_of
-  kids-map r e q p = rw (e, arity_one (length (roots f)), q) p
-
-  pub kids-ree-no : k ≡ 40 → eqb (length (roots f)) 2 ≡ false → false ≡ children_fit k f
-  unfolding children_fit rules_of shape_of
-  kids-ree-no e q = rw (e, arity_two (length (roots f)), q)
-
-  pub kids-ree : (r : Bool) → k ≡ 40 → eqb (length (roots f)) 2 ≡ true → r ≡ first_non_null f → r ≡ children_fit k f
-  unfolding children_fit rules_of shape_of
-  kids-ree r e q p = rw (e, arity_two (length (roots f)), q) p
-
-  leaf-at : (k ≡ 32 → ⊥) → (k ≡ 33 → ⊥) → (k ≡ 34 → ⊥) → is_list k ≡ false → (k ≡ 39 → ⊥) → (k ≡ 40 → ⊥) → leaf_shape (shape_of k) ≡ true
-  leaf-at a b c d p q = go (ltb k kinds) refl
+  pub kids_plain : (k ≡ 32 → ⊥) → (k ≡ 33 → ⊥) → (k ≡ 39 → ⊥) → (k ≡ 40 → ⊥) → children_fit k f ≡ eqb (length (roots f)) (if leb 27 k && leb k 31 then 1 else (if eqb k 34 then 2 else 0))
+  kids_plain a b c d = go (ltb k kinds) refl
     where
-      go : (t : Bool) → ltb k kinds ≡ t → leaf_shape (shape_of k) ≡ true
-      go true e =
-          let t : T (eqb k 32 || eqb k 33 || eqb k 34 || is_list k || eqb k 39 || eqb k 40 || leaf_shape (shape_of k)) = below_at kinds (λ i. eqb i 32 || eqb i 33 || eqb i 34 || is_list i || eqb i 39 || eqb i 40 || leaf_shape (shape_of i)) leaves k (ltb-true k kinds e) in
-          is_true (leaf_shape (shape_of k)) (rw (ne_eqb k 32 a, ne_eqb k 33 b, ne_eqb k 34 c, d, ne_eqb k 39 p, ne_eqb k 40 q) at t)
-      go false e = ap leaf_shape (past_kinds k (ltb-false k kinds e))
+      go : (t : Bool) → ltb k kinds ≡ t → children_fit k f ≡ eqb (length (roots f)) (child_count k)
+      go true e = kids_below (ltb-true k kinds e) a b c d
+      go false e =
+          let h = ltb-false k kinds e in
+          kids_past h ∙ sym (rw (lt-leb k 31 (omega arith), and-false (leb 27 k), ne_eqb k 34 (λ e. omega arith)))
 
-  pub kids-leaf : (r : Bool) → (k ≡ 32 → ⊥) → (k ≡ 33 → ⊥) → (k ≡ 34 → ⊥) → is_list k ≡ false → (k ≡ 39 → ⊥) → (k ≡ 40 → ⊥) → r ≡ eqb (length (roots f)) 0 → r ≡ children_fit k f
-  unfolding children_fit
-  kids-leaf r a b c d p q e = e ∙ sym (leaf_kids (shape_of k) f (leaf-at a b c d p q))
+-- what `fit` uses
+pub ruleset kids = (kids_struct, kids_union, kids_map, kids_run_ends, kids_plain, no_child_is, one_some, two_some, ok_is, ids_are, entries_are, first_role_is)
+
+-- what counts the children
+pub ruleset counts = (none_here, one_is, two_are, behind_from, behind_whole)
 
 -- ---- kinds that may have no children
 
-childless : T (all_below kinds (λ k. same_bool (ltb k 27 || eqb k 32 || eqb k 33 || is_decimal k) (children_fit k ∅)))
-unfolding same_bool is_decimal children_fit rules_of shape_of arity_fits ids_fit
+childless : T (all_below kinds (λ k. same_bool (not ((leb 27 k && leb k 31) || eqb k 34 || eqb k 39 || eqb k 40)) (children_fit k ∅)))
+unfolding same_bool children_fit rules_of shape_of arity_fits ids_fit
 childless = tt
 
-module _ (k : ℕ) (h : k < kinds) where
-  childless-is : (ltb k 27 || eqb k 32 || eqb k 33 || is_decimal k) ≡ children_fit k ∅
-  childless-is = same_bool_lem (ltb k 27 || eqb k 32 || eqb k 33 || is_decimal k) (children_fit k ∅) (below_at kinds (λ i. same_bool (ltb i 27 || eqb i 32 || eqb i 33 || is_decimal i) (children_fit i ∅)) childless k h)
-
-  pub childless-low : k < 27 → true ≡ children_fit k ∅
-  childless-low l = rw (lt-ltb k 27 l) at childless-is
-
-  pub childless-rest : 27 ≤ k → (k ≡ 32 → ⊥) → (k ≡ 33 → ⊥) → is_decimal k ≡ children_fit k ∅
-  childless-rest l a b = rw (le-ltb k 27 l, ne_eqb k 32 a, ne_eqb k 33 b) at childless-is
+pub childless_by : (k : ℕ) → children_fit k ∅ ≡ not ((leb 27 k && leb k 31) || eqb k 34 || eqb k 39 || eqb k 40)
+childless_by k = go (ltb k kinds) refl
+  where
+    go : (t : Bool) → ltb k kinds ≡ t → children_fit k ∅ ≡ not ((leb 27 k && leb k 31) || eqb k 34 || eqb k 39 || eqb k 40)
+    go true e = sym (same_bool_lem (not ((leb 27 k && leb k 31) || eqb k 34 || eqb k 39 || eqb k 40)) (children_fit k ∅) (below_at kinds (λ i. same_bool (not ((leb 27 i && leb i 31) || eqb i 34 || eqb i 39 || eqb i 40)) (children_fit i ∅)) childless k (ltb-true k kinds e)))
+    go false e =
+        let h = ltb-false k kinds e in
+        kids_past k ∅ h ∙ sym (rw (lt-leb k 31 (omega arith), and-false (leb 27 k), ne_eqb k 34 (λ e. omega arith), ne_eqb k 39 (λ e. omega arith), ne_eqb k 40 (λ e. omega arith)))

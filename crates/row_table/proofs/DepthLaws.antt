@@ -6,12 +6,12 @@ use Prim.Native.Nat.{ℕ, suc, max}
 use native.Mathlib.Omega.{arith}
 use lib.Dec.{T}
 use Rattle.tokenizer.proofs.Basics.{of_true}
+use Rattle.tokenizer.specs.Answer.{done, refuse}
 use Rattle.datatype.specs.Tree.{Forest, ∅, node, depth, Row, labels}
 use Rattle.datatype.specs.Table.{tree_of}
 use Rattle.subtrees.specs.Levels.{levels_of}
 use Rattle.subtrees.proofs.LevelLaws.{levels_tree}
-use Rattle.row_table.specs.Sound.{is_sound, depth_of, depth_means}
-use Rattle.row_table.specs.declared.Depth.TheVariants.{Levels, Refused}
+use Rattle.row_table.specs.Sound.{is_sound, depth_of}
 use Rattle.row_table.proofs.SoundTree.{SoundTree, sound_tree, sound-labels}
 
 -- what a tree says has its levels
@@ -24,10 +24,6 @@ depth_labels text names (node r k n) =
     λ j. max (suc (a j)) (b j)
 
 module _ (text names table : List ℕ) where
-  pub depth-not : is_sound text names table ≡ false → depth_means (Refused 17) ≡ depth_of text names table
-  unfolding depth_means depth_of
-  depth-not e = rw e
-
   -- the levels of a sound tree's rows are the tree's depth
   pub sound-levels : T (is_sound text names table) → levels_of table ≡ depth (tree_of text names table)
   sound-levels t =
@@ -36,6 +32,13 @@ module _ (text names table : List ℕ) where
       tree : SoundTree text names table
       tree = sound_tree text names table t
 
-  pub depth_is : is_sound text names table ≡ true → (r : ℕ) → r ≡ levels_of table → depth_means (Levels r) ≡ depth_of text names table
-  unfolding depth_means depth_of
-  depth_is e r q = rw (e, q, sound-levels (of_true _ e))
+  pub depth_not : is_sound text names table ≡ false → depth_of text names table ≡ refuse 17
+  unfolding depth_of
+  depth_not e = rw e
+
+  pub depth_is : is_sound text names table ≡ true → depth_of text names table ≡ done (levels_of table)
+  unfolding depth_of
+  depth_is e = rw (e, sound-levels (of_true _ e))
+
+-- what `depth_of` uses
+pub ruleset depths = (depth_not, depth_is)

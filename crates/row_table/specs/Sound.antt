@@ -9,8 +9,6 @@ use Rattle.datatype.specs.Kind.{Shape, leaf, timestamp, time, interval, fixed, l
 use Rattle.datatype.specs.Tree.{Forest, ∅, node, count, roots, depth, Row, Label, name_list, labels}
 use Rattle.datatype.specs.Table.{view_of, tree_of}
 use Rattle.subtrees.specs.Parents.{parents_right}
-use Rattle.row_table.specs.declared.Depth.{Depth}
-use Rattle.row_table.specs.declared.Depth.TheVariants.{Levels, Refused}
 
 -- ---- what a row says, by its shape and by where it stands
 
@@ -178,8 +176,3 @@ is_sound text names table = leb (length text) max_text && is_utf8 text && same n
 
 unfoldable pub depth_of : List ℕ → List ℕ → List ℕ → Out ℕ
 depth_of text names table = if is_sound text names table then done (depth (tree_of text names table)) else refuse 17
-
--- What the code's answer means.
-unfoldable pub depth_means : Depth → Out ℕ
-depth_means (Levels n) = done n
-depth_means (Refused n) = refuse n

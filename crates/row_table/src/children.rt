@@ -1,90 +1,87 @@
 // What a kind asks of its children: how many there are, and what some shapes ask besides.
-ghost use Rattle.std.specs.Prelude.{◌≡◌, ◌-◌, ◌≤◌, ◌<◌, length, eqb};
-ghost use Rattle.datatype.specs.Kind.{kinds};
+ghost use Rattle.std.specs.Prelude.{◌≡◌, ◌-◌, ◌*◌, ◌≤◌, ◌<◌, true, length, eqb};
+ghost use Rattle.datatype.specs.Table.{row_words};
 ghost use Rattle.datatype.specs.Tree.{∅, roots};
-ghost use Rattle.subtrees.specs.Internal.Run.{Nests, forest_at};
-ghost use Rattle.row_table.specs.Internal.Check.{is_list, children_fit};
+ghost use Rattle.subtrees.specs.Internal.Run.{is_run, run_at};
+ghost use Rattle.row_table.specs.Internal.Check.{trees, children_fit};
 
-use crate::rows::{subtree, word};
-use crate::rules::{between, is_decimal};
+use crate::rows::Row;
 use datatype::kind::{DICTIONARY, LARGE_LIST_VIEW, LIST, MAP, RUN_END_ENCODED, STRUCT, UNION};
 use datatype::rows::{NON_NULL, ROLE};
-use subtrees::{entries_refusal, try_new};
-
-// Whether rows first to end are one tree.
-fn one_child(rows: &[u32], first: usize, end: usize) -> bool
-    requires { Nests rows.now first (end - first) × (first ≤ end) }
-    ensures { result ≡ eqb (length (roots (forest_at rows.now first (end - first)))) 1 }
-{
-    if first == end {
-        return false;
-    }
-    first + subtree(rows, first) == end
-}
-
-// Whether rows first to end are two trees.
-fn two_children(rows: &[u32], first: usize, end: usize) -> bool
-    requires { Nests rows.now first (end - first) × (first ≤ end) }
-    ensures { result ≡ eqb (length (roots (forest_at rows.now first (end - first)))) 2 }
-{
-    if first == end {
-        return false;
-    }
-    one_child(rows, first + subtree(rows, first), end)
-}
-
-// Whether a kind is one of the lists, of fixed size or not.
-fn is_list(kind: u32) -> bool
-    ensures { result ≡ is_list kind }
-{
-    between(LIST, kind, LARGE_LIST_VIEW)
-}
+use subtrees::{check_entries, try_new};
 
 // Whether a row of a kind may have no children.
+#[tactic(auto, using(crate::proofs::ChildLaws::childless_by))]
 pub(crate) fn is_childless(kind: u32) -> bool
-    requires { kind < kinds }
     ensures { result ≡ children_fit kind ∅ }
 {
-    if kind < LIST {
-        return true;
-    }
-    if kind == STRUCT {
-        return true;
-    }
-    if kind == UNION {
-        return true;
-    }
-    is_decimal(kind)
+    !matches!(
+        kind,
+        LIST..=LARGE_LIST_VIEW | DICTIONARY | MAP | RUN_END_ENCODED
+    )
 }
 
-// Whether rows first to end can be the children of a row of a kind.
-pub(crate) fn children_fit(rows: &[u32], kind: u32, first: usize, end: usize) -> bool
-    requires { Nests rows.now first (end - first) × (first ≤ end) }
-    ensures { result ≡ children_fit kind (forest_at rows.now first (end - first)) }
-{
-    if kind == STRUCT {
-        return true;
+// The children of a row: rows first to end of a table, which are whole trees.
+#[derive(Clone, Copy)]
+pub(crate) struct Children<'r> {
+    pub(crate) rows: &'r [u32],
+    pub(crate) first: usize,
+    pub(crate) end: usize,
+    ghost ordered: { first ≤ end },
+    ghost room: { row_words * end ≤ length rows.now },
+    ghost whole: { is_run (run_at rows.now first (end - first)) ≡ true },
+}
+
+impl Children<'_> {
+    // The row of the first child.
+    fn first_row(&self) -> Row<'_>
+        requires { self.now.first < self.now.end }
+        ensures rows { result.rows.now ≡ self.now.rows.now }
+        ensures at { result.at ≡ self.now.first }
+    {
+        Row {
+            rows: self.rows,
+            at: self.first,
+        }
     }
-    if kind == UNION {
-        return try_new(rows, first, end);
+
+    // Whether there is one child.
+    #[tactic(auto, using(crate::proofs::ChildLaws::counts))]
+    fn is_one(self) -> bool
+        ensures { result ≡ eqb (length (roots (trees self.entry.rows.now self.entry.first self.entry.end))) 1 }
+    {
+        self.first < self.end && self.first + self.first_row().subtree() == self.end
     }
-    if kind == DICTIONARY {
-        return two_children(rows, first, end);
-    }
-    if is_list(kind) {
-        return one_child(rows, first, end);
-    }
-    if kind == MAP {
-        if !one_child(rows, first, end) {
+
+    // Whether there are two children.
+    #[tactic(auto, using(crate::proofs::ChildLaws::counts))]
+    fn are_two(self) -> bool
+        ensures { result ≡ eqb (length (roots (trees self.entry.rows.now self.entry.first self.entry.end))) 2 }
+    {
+        if self.first == self.end {
             return false;
         }
-        return entries_refusal(rows, first) == 0;
+        let later = Children {
+            rows: self.rows,
+            first: self.first + self.first_row().subtree(),
+            end: self.end,
+        };
+        later.is_one()
     }
-    if kind == RUN_END_ENCODED {
-        if !two_children(rows, first, end) {
-            return false;
+
+    // Whether they can be the children of a row of a kind.
+    #[tactic(auto, using(crate::proofs::ChildLaws::kids))]
+    pub(crate) fn fit(self, kind: u32) -> bool
+        ensures { result ≡ children_fit kind (trees self.entry.rows.now self.entry.first self.entry.end) }
+    {
+        match kind {
+            STRUCT => true,
+            UNION => try_new(self.rows, self.first, self.end),
+            DICTIONARY => self.are_two(),
+            LIST..=LARGE_LIST_VIEW => self.is_one(),
+            MAP => self.is_one() && check_entries(self.rows, self.first).is_ok(),
+            RUN_END_ENCODED => self.are_two() && self.first_row().word(ROLE) == NON_NULL,
+            _ => self.first == self.end,
         }
-        return word(rows, first, ROLE) == NON_NULL;
     }
-    first == end
 }

@@ -11,10 +11,3 @@ mod sound;
 
 pub use levels::depth_of;
 pub use sound::is_sound;
-
-// The depth of a sound tree.
-#[derive(Clone, Copy)]
-pub enum Depth {
-    Levels(usize),
-    Refused(u32),
-}

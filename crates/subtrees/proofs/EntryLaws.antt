@@ -5,11 +5,14 @@ use mathlib.Core.Bool.{Bool, true, false, ◌&&◌, false≢true}
 use mathlib.Core.List.{List, [], ◌∷◌, map}
 use mathlib.Core.Option
 use mathlib.Core.Option.{Option, none, some}
+use Rattle.std.specs.declared.option.Option as std
+use Rattle.std.specs.declared.option.Option.TheVariants.{None, Some}
 use Prim.Native.Nat.{ℕ, suc, ◌+◌, ◌*◌, ◌-◌, ◌/◌, ◌≤◌, ◌<◌}
 use native.Mathlib.Omega.{arith}
 use lib.ListN.{length, get_or}
 use lib.Dec.{leb, ltb, eqb, leb→le}
-use borrow.Author.Tests.{le-leb, lt-leb, lt-ltb, le-ltb, eq-eqb, ne_eqb, eqb-true, leb-true, leb-false, ltb-true, ltb-false}
+use borrow.Author.Tests.{le-leb, lt-leb, lt-ltb, le-ltb, ne_eqb, eqb-true, leb-true, leb-false, ltb-true, ltb-false}
+use Rattle.std.proofs.lemmas.Bool.Decides.{nat_tests}
 use Rattle.tokenizer.proofs.Basics.{and_l, and_r, of_true}
 use Rattle.datatype.specs.Kind.{key_refusal, entries_refusal}
 use Rattle.datatype.specs.Tree.{roots}
@@ -23,24 +26,9 @@ use Rattle.subtrees.proofs.Runs.{Turn, turn}
 
 -- ---- the row behind a subtree
 
-module _ (table : List ℕ) (at end : ℕ) where
-  pub behind-past : end ≤ at → 0 ≡ behind_at table at end
-  unfolding behind_at
-  behind-past h = rw (le-ltb at end h)
-
-  module _ (l : at < end) where
-    pub behind-outside : length table / row_words ≤ at → 0 ≡ behind_at table at end
-    unfolding behind_at
-    behind-outside h = rw (lt-ltb at end l, lt-leb (row_words * (at + 1)) (length table) (omega arith))
-
-    module _ (i : at < length table / row_words) (s : ℕ) (q : s ≡ rows_at table at) where
-      pub behind-empty : s ≡ 0 → 0 ≡ behind_at table at end
-      unfolding behind_at
-      behind-empty z = rw (lt-ltb at end l, le-leb (row_words * (at + 1)) (length table) (omega arith), ← q, z)
-
-      pub behind-row : (s ≡ 0 → ⊥) → at + s ≡ behind_at table at end
-      unfolding behind_at
-      behind-row z = rw (lt-ltb at end l, le-leb (row_words * (at + 1)) (length table) (omega arith), ← q, le-leb 1 s (omega arith))
+pub behind-past : (table : List ℕ) (at end : ℕ) → end ≤ at → None ≡ behind_at table at end
+unfolding behind_at
+behind-past table at end h = rw (le-ltb at end h)
 
 -- ---- from sibling to sibling
 
@@ -55,43 +43,44 @@ module _ (table : List ℕ) (at end : ℕ) where
   abbrev fits : Bool
   fits = leb (row_words * (at + 1)) (length table) && leb 1 (rows_at table at)
 
-  behind-is : at < end → (t : Bool) → fits ≡ t → behind_at table at end ≡ (if t then at + rows_at table at else 0)
+  behind-is : at < end → (t : Bool) → fits ≡ t → behind_at table at end ≡ (if t then Some (at + rows_at table at) else None)
   unfolding behind_at
   behind-is l t e = rw (lt-ltb at end l, e)
 
   -- no step: there is no sibling, or the rows do not stand side by side
-  pub no_step : behind_at table at end ≡ 0 → (k f : ℕ) → end - at ≤ f → listed (siblings f k table at end) ≡ []
+  pub no_step : behind_at table at end ≡ None → (k f : ℕ) → end - at ≤ f → listed (siblings f k table at end) ≡ []
   no_step z k f enough = go (ltb at end) refl
     where
       inside : (t : Bool) → fits ≡ t → at < end → listed (siblings f k table at end) ≡ []
       inside true e l =
           let s = leb→le 1 (rows_at table at) (and_r (leb (row_words * (at + 1)) (length table)) (leb 1 (rows_at table at)) (of_true _ e)) in
-          let b : at + rows_at table at ≡ 0 = sym (behind-is l true e) ∙ z in
-          absurd (omega arith)
+          let b : Some (at + rows_at table at) ≡ None = sym (behind-is l true e) ∙ z in
+          cc
       inside false e l = rw (sibling-turn k table at end f enough l, e)
 
       go : (t : Bool) → ltb at end ≡ t → listed (siblings f k table at end) ≡ []
       go true e = inside fits refl (ltb-true at end e)
       go false e = rw (sibling-end k table at end f (ltb-false at end e))
 
-  pub step : (next : ℕ) → next ≡ behind_at table at end → (next ≡ 0 → ⊥) → Step table at end next
-  step next e z = go (ltb at end) refl
+  pub step : (next : ℕ) → Some next ≡ behind_at table at end → Step table at end next
+  step next e = go (ltb at end) refl
     where
       inside : (t : Bool) → fits ≡ t → at < end → Step table at end next
       inside true u l =
           let s = leb→le 1 (rows_at table at) (and_r (leb (row_words * (at + 1)) (length table)) (leb 1 (rows_at table at)) (of_true _ u)) in
-          let b : next ≡ at + rows_at table at = e ∙ behind-is l true u in
+          let q : Some next ≡ Some (at + rows_at table at) = e ∙ behind-is l true u in
+          let b : next ≡ at + rows_at table at = cc in
           record {
             before = l;
             more = omega arith;
             room = leb→le (row_words * (at + 1)) (length table) (and_l (leb (row_words * (at + 1)) (length table)) (leb 1 (rows_at table at)) (of_true _ u));
             is = λ k f h. sibling-turn k table at end f h l ∙ rw (u, b);
           }
-      inside false u l = absurd (z (e ∙ behind-is l false u))
+      inside false u l = let q : Some next ≡ None = e ∙ behind-is l false u in cc
 
       go : (t : Bool) → ltb at end ≡ t → Step table at end next
       go true u = inside fits refl (ltb-true at end u)
-      go false u = absurd (z (e ∙ sym (behind-past table at end (ltb-false at end u))))
+      go false u = let q : Some next ≡ None = e ∙ sym (behind-past table at end (ltb-false at end u)) in cc
 
 -- ---- two fields
 
@@ -110,43 +99,41 @@ module _ (table : List ℕ) (row s : ℕ) (q : s ≡ rows_at table row) where
   unfolding field_roles
   opened = rw q
 
-  module _ (value : ℕ) (e : value ≡ behind_at table (row + 1) (row + s)) where
-    pub two-no-key : value ≡ 0 → false ≡ eqb (length (field_roles table row)) 2
-    two-no-key z = rw (opened, no_step table (row + 1) (row + s) (sym e ∙ z) 2 (s - 1) (omega arith))
+  pub two-no-key : None ≡ behind_at table (row + 1) (row + s) → false ≡ eqb (length (field_roles table row)) 2
+  two-no-key z = rw (opened, no_step table (row + 1) (row + s) (sym z) 2 (s - 1) (omega arith))
 
-    module _ (some_key : value ≡ 0 → ⊥) where
-      key_step : Step table (row + 1) (row + s) value
-      key_step = step table (row + 1) (row + s) value e some_key
+  module _ (value : ℕ) (e : Some value ≡ behind_at table (row + 1) (row + s)) where
+    key_step : Step table (row + 1) (row + s) value
+    key_step = step table (row + 1) (row + s) value e
 
-      by_key : field_roles table row ≡ listed (Option.map (λ ws. get_or table (row_words * (row + 1) + 2) 0 ∷ ws) (siblings (s - 1 - 1) 2 table value (row + s)))
-      by_key = opened ∙ ap listed (key_step.is 2 (s - 1) (omega arith))
+    by_key : field_roles table row ≡ listed (Option.map (λ ws. get_or table (row_words * (row + 1) + 2) 0 ∷ ws) (siblings (s - 1 - 1) 2 table value (row + s)))
+    by_key = opened ∙ ap listed (key_step.is 2 (s - 1) (omega arith))
 
-      module _ (third : ℕ) (u : third ≡ behind_at table value (row + s)) where
-        pub two-no-value : third ≡ 0 → false ≡ eqb (length (field_roles table row)) 2
-        two-no-value z =
-            let m = key_step.more in
-            sym (ap (λ (l : List ℕ). eqb (length l) 2) by_key ∙ more_than_none (get_or table (row_words * (row + 1) + 2) 0) (siblings (s - 1 - 1) 2 table value (row + s)) (no_step table value (row + s) (sym u ∙ z) 2 (s - 1 - 1) (omega arith)))
+    pub two-no-value : None ≡ behind_at table value (row + s) → false ≡ eqb (length (field_roles table row)) 2
+    two-no-value u =
+        let m = key_step.more in
+        sym (ap (λ (l : List ℕ). eqb (length l) 2) by_key ∙ more_than_none (get_or table (row_words * (row + 1) + 2) 0) (siblings (s - 1 - 1) 2 table value (row + s)) (no_step table value (row + s) (sym u) 2 (s - 1 - 1) (omega arith)))
 
-        module _ (some-value : third ≡ 0 → ⊥) where
-          value-step : Step table value (row + s) third
-          value-step = step table value (row + s) third u some-value
+    module _ (third : ℕ) (u : Some third ≡ behind_at table value (row + s)) where
+      value-step : Step table value (row + s) third
+      value-step = step table value (row + s) third u
 
-          by_value : field_roles table row
-              ≡ listed (Option.map (λ ws. get_or table (row_words * (row + 1) + 2) 0 ∷ ws) (Option.map (λ ws. get_or table (row_words * value + 2) 0 ∷ ws) (siblings (s - 1 - 1 - 1) 2 table third (row + s))))
-          by_value =
+      by_value : field_roles table row
+          ≡ listed (Option.map (λ ws. get_or table (row_words * (row + 1) + 2) 0 ∷ ws) (Option.map (λ ws. get_or table (row_words * value + 2) 0 ∷ ws) (siblings (s - 1 - 1 - 1) 2 table third (row + s))))
+      by_value =
+          let m = key_step.more in
+          by_key ∙ rw (value-step.is 2 (s - 1 - 1) (omega arith))
+
+      pub two_fields : leb (row + s) third ≡ eqb (length (field_roles table row)) 2
+      two_fields = go (leb (row + s) third) refl
+        where
+          go : (t : Bool) → leb (row + s) third ≡ t → t ≡ eqb (length (field_roles table row)) 2
+          go true h = rw (by_value, sibling-end 2 table third (row + s) (s - 1 - 1 - 1) (leb-true (row + s) third h))
+          go false h =
               let m = key_step.more in
-              by_key ∙ rw (value-step.is 2 (s - 1 - 1) (omega arith))
-
-          pub two_fields : leb (row + s) third ≡ eqb (length (field_roles table row)) 2
-          two_fields = go (leb (row + s) third) refl
-            where
-              go : (t : Bool) → leb (row + s) third ≡ t → t ≡ eqb (length (field_roles table row)) 2
-              go true h = rw (by_value, sibling-end 2 table third (row + s) (s - 1 - 1 - 1) (leb-true (row + s) third h))
-              go false h =
-                  let m = key_step.more in
-                  let n = value-step.more in
-                  let l = leb-false (row + s) third h in
-                  sym (ap (λ (l : List ℕ). eqb (length l) 2) by_value ∙ rw (sibling-turn 2 table third (row + s) (s - 1 - 1 - 1) (omega arith) l) (more_than_two (get_or table (row_words * (row + 1) + 2) 0) (get_or table (row_words * value + 2) 0) (get_or table (row_words * third + 2) 0) (siblings (s - 1 - 1 - 1 - 1) 2 table (third + rows_at table third) (row + s)) (fits table third (row + s))))
+              let n = value-step.more in
+              let l = leb-false (row + s) third h in
+              sym (ap (λ (l : List ℕ). eqb (length l) 2) by_value ∙ rw (sibling-turn 2 table third (row + s) (s - 1 - 1 - 1) (omega arith) l) (more_than_two (get_or table (row_words * (row + 1) + 2) 0) (get_or table (row_words * value + 2) 0) (get_or table (row_words * third + 2) 0) (siblings (s - 1 - 1 - 1 - 1) 2 table (third + rows_at table third) (row + s)) (fits table third (row + s))))
 
 -- ---- the entries
 
@@ -167,57 +154,45 @@ pub record Key (table : List ℕ) (row : ℕ) : Type 0 where
   pub is : key_refusal (field_roles table row) ≡ (if eqb (get_or table (row_words * (row + 1) + 2) 0) 2 then 0 else 13)
 
 module _ (table : List ℕ) (row : ℕ) (two : eqb (length (field_roles table row)) 2 ≡ true) where
-  abbrev behind_key : ℕ
-  behind_key = behind_at table (row + 1) (row + rows_at table row)
-
-  key-there : behind_key ≡ 0 → ⊥
-  key-there z = false≢true (two-no-key table row (rows_at table row) refl behind_key refl z ∙ two)
+  abbrev Same_key : Type 0
+  Same_key = key_refusal (field_roles table row) ≡ (if eqb (get_or table (row_words * (row + 1) + 2) 0) 2 then 0 else 13)
 
   pub key : Key table row
-  key =
-      record {
-        room = (key_step table row (rows_at table row) refl behind_key refl key-there).room;
-        is = go (siblings (rows_at table row - 1 - 1) 2 table behind_key (row + rows_at table row)) (by_key table row (rows_at table row) refl behind_key refl key-there);
-      }
+  key = go (behind_at table (row + 1) (row + rows_at table row)) refl
     where
-      go : (o : Option (List ℕ)) → field_roles table row ≡ listed (Option.map (λ ws. get_or table (row_words * (row + 1) + 2) 0 ∷ ws) o)
-          → key_refusal (field_roles table row) ≡ (if eqb (get_or table (row_words * (row + 1) + 2) 0) 2 then 0 else 13)
-      go none e = absurd (false≢true (ap (λ (l : List ℕ). eqb (length l) 2) (sym e) ∙ two))
-      go (some ws) e = rw e (key_first (get_or table (row_words * (row + 1) + 2) 0) ws (rw e at two))
+      first : (o : Option (List ℕ)) → field_roles table row ≡ listed (Option.map (λ ws. get_or table (row_words * (row + 1) + 2) 0 ∷ ws) o) → Same_key
+      first none e = absurd (false≢true (ap (λ (l : List ℕ). eqb (length l) 2) (sym e) ∙ two))
+      first (some ws) e = rw e (key_first (get_or table (row_words * (row + 1) + 2) 0) ws (rw e at two))
+
+      go : (o : std.Option ℕ) → o ≡ behind_at table (row + 1) (row + rows_at table row) → Key table row
+      go None z = absurd (false≢true (two-no-key table row (rows_at table row) refl z ∙ two))
+      go (Some value) z =
+          record {
+            room = (key_step table row (rows_at table row) refl value z).room;
+            is = first (siblings (rows_at table row - 1 - 1) 2 table value (row + rows_at table row)) (by_key table row (rows_at table row) refl value z);
+          }
 
 module _ (table : List ℕ) (row : ℕ) where
-  pub entries-outside : length table / row_words ≤ row → 14 ≡ entries_refusal_at table row
+  key_is : (b : Bool) → eqb (length (field_roles table row)) 2 ≡ b
+      → key_refusal (field_roles table row) ≡ (if b then (if eqb (get_or table (row_words * (row + 1) + 2) 0) 2 then 0 else 13) else 14)
+  key_is true e = (key table row e).is
+  key_is false e = key_not (field_roles table row) e
+
+  pub entries_outside : length table / row_words ≤ row → entries_refusal_at table row ≡ 14
   unfolding entries_refusal_at
-  entries-outside h = rw (lt-leb (row_words * (row + 1)) (length table) (omega arith))
+  entries_outside h = rw (lt-leb (row_words * (row + 1)) (length table) (omega arith))
 
-  module _ (i : row < length table / row_words) (role : ℕ) (e : role ≡ get_or table (row_words * row + 2) 0) where
-    inside : entries_refusal_at table row ≡ entries_refusal role (get_or table (row_words * row + 0) 0) (field_roles table row)
-    unfolding entries_refusal_at
-    inside = rw (le-leb (row_words * (row + 1)) (length table) (omega arith), e)
+  -- test by test, as the code asks
+  pub entries_are : row < length table / row_words
+      → entries_refusal_at table row
+      ≡ (if eqb (get_or table (row_words * row + 2) 0) 2 then (if eqb (get_or table (row_words * row + 0) 0) 32 then (if eqb (length (field_roles table row)) 2 then (if eqb (get_or table (row_words * (row + 1) + 2) 0) 2 then 0 else 13) else 14) else 14) else 13)
+  unfolding entries_refusal_at entries_refusal
+  entries_are h = rw (le-leb (row_words * (row + 1)) (length table) (omega arith), key_is (eqb (length (field_roles table row)) 2) refl)
 
-    pub entries-nullable : (role ≡ 2 → ⊥) → 13 ≡ entries_refusal_at table row
-    entries-nullable d = sym (inside ∙ unfold entries_refusal in rw (ne_eqb role 2 d))
+pub key_room : (table : List ℕ) (row : ℕ) → true ≡ eqb (length (field_roles table row)) 2 → row_words * (row + 1 + 1) ≤ length table
+key_room table row two = (key table row (sym two)).room
 
-    module _ (sure : role ≡ 2) (kind : ℕ) (u : kind ≡ get_or table (row_words * row + 0) 0) where
-      non_null_lem : entries_refusal_at table row ≡ (if eqb kind 32 then key_refusal (field_roles table row) else 14)
-      non_null_lem = inside ∙ unfold entries_refusal in rw (sure, u)
-
-      pub entries-other : (kind ≡ 32 → ⊥) → 14 ≡ entries_refusal_at table row
-      entries-other d = sym (non_null_lem ∙ rw (ne_eqb kind 32 d))
-
-      module _ (str : kind ≡ 32) where
-        struct : entries_refusal_at table row ≡ key_refusal (field_roles table row)
-        struct = non_null_lem ∙ rw (eq-eqb kind 32 str)
-
-        pub entries-fields : eqb (length (field_roles table row)) 2 ≡ false → 14 ≡ entries_refusal_at table row
-        entries-fields h = sym (struct ∙ key_not (field_roles table row) h)
-
-        module _ (two : eqb (length (field_roles table row)) 2 ≡ true) (first : ℕ) (w : first ≡ get_or table (row_words * (row + 1) + 2) 0) where
-          pub entries-key : (first ≡ 2 → ⊥) → 13 ≡ entries_refusal_at table row
-          entries-key d = sym (struct ∙ (key table row two).is ∙ rw (← w, ne_eqb first 2 d))
-
-          pub entries_none : first ≡ 2 → 0 ≡ entries_refusal_at table row
-          entries_none d = sym (struct ∙ (key table row two).is ∙ rw (← w, eq-eqb first 2 d))
+pub ruleset entries = (nat_tests, entries_outside, entries_are, key_room)
 
 -- ---- where the rows nest
 

@@ -7,12 +7,15 @@ use Prim.Native.Nat.{ℕ, suc, ◌+◌, ◌-◌, ◌*◌, ◌/◌, ◌≤◌, �
 use native.Mathlib.Omega.{arith}
 use lib.ListN.{length}
 use lib.Dec.{leb, leb→le}
-use borrow.Author.Tests.{le-leb, lt-leb}
+use borrow.Author.Tests.{le-leb}
+use Rattle.std.specs.declared.option.Option as std
+use Rattle.std.specs.declared.option.Option.TheVariants.{None, Some}
+use Rattle.std.specs.Option.{IfSome, unwrap_or}
 use Rattle.tokenizer.proofs.Basics.{and_l, and_r, of_true}
 use Rattle.datatype.specs.Tree.{Forest, ∅, depth, Row}
 use Rattle.datatype.specs.Table.{row_words, join, view_of, rows_at}
 use Rattle.subtrees.specs.Levels.{levels_up_to, levels_of}
-use Rattle.subtrees.specs.Internal.Run.{row_at, run_at}
+use Rattle.subtrees.specs.Internal.Run.{row_at, run_at, levels_or}
 use Rattle.subtrees.proofs.Runs.{run_step, run_none, no_rows, run_all, view_rows}
 
 -- ---- the walk
@@ -50,9 +53,6 @@ pub record LevelsSo (table : List ℕ) (most start end deepest at : ℕ) : Type 
   pub so : levels_up_to most (run_at table start (end - start)) ≡ max deepest (levels_up_to most (run_at table at (end - at)))
 
 module _ (table : List ℕ) (most start end : ℕ) (room : row_words * end ≤ length table) where
-  pub levels-start : start ≤ end → LevelsSo table most start end 0 start
-  levels-start l = record { upto = l; small = omega arith; so = omega arith }
-
   module _ (deepest at : ℕ) (i : LevelsSo table most start end deepest at) where
     pub levels-end : end ≤ at → deepest ≡ levels_up_to most (run_at table start (end - start))
     levels-end h =
@@ -69,11 +69,11 @@ module _ (table : List ℕ) (most start end : ℕ) (room : row_words * end ≤ l
       unnested : (1 ≤ rows_at table at → rows_at table at ≤ end - at → ⊥) → levels_up_to most (run_at table at (end - at)) ≡ suc most
       unnested h = rw (run_none table at (end - at) (omega arith) (omega arith) h) (unfold levels_up_to in refl)
 
-      pub levels-empty : size ≡ 0 → most + 1 ≡ levels_up_to most (run_at table start (end - start))
-      levels-empty z = let e : most + 1 ≡ suc most = omega arith in e ∙ past (unnested (λ a b. omega arith))
+      pub levels-empty : size ≡ 0 → suc most ≡ levels_up_to most (run_at table start (end - start))
+      levels-empty z = past (unnested (λ a b. omega arith))
 
-      pub levels-long : end - at < size → most + 1 ≡ levels_up_to most (run_at table start (end - start))
-      levels-long h = let e : most + 1 ≡ suc most = omega arith in e ∙ past (unnested (λ a b. omega arith))
+      pub levels-long : end - at < size → suc most ≡ levels_up_to most (run_at table start (end - start))
+      levels-long h = past (unnested (λ a b. omega arith))
 
       module _ (some-rows : size ≡ 0 → ⊥) (within : size ≤ end - at) where
         here : run_at table at (end - at) ≡ join (row_at table at) (run_at table (at + 1) (at + size - (at + 1))) (run_at table (at + size) (end - (at + size)))
@@ -82,11 +82,10 @@ module _ (table : List ℕ) (most start end : ℕ) (room : row_words * end ≤ l
             let b : end - (at + size) ≡ end - at - size = omega arith in
             rw (a, b, is) (run_step table at (end - at) (omega arith) (omega arith) (omega arith) (omega arith))
 
-        pub levels-deep : 0 < most → (below : ℕ) → below ≡ levels_up_to (most - 1) (run_at table (at + 1) (at + size - (at + 1))) → most ≤ below
-            → most + 1 ≡ levels_up_to most (run_at table start (end - start))
-        levels-deep z below b h =
-            let e : most + 1 ≡ suc most = omega arith in
-            e ∙ past (ap (levels_up_to most) here ∙ too-deep most (row_at table at) _ _ (rw b at h) z)
+        pub levels-deep : 0 < most → suc (most - 1) ≡ levels_up_to (most - 1) (run_at table (at + 1) (at + size - (at + 1))) → suc most ≡ levels_up_to most (run_at table start (end - start))
+        levels-deep z b =
+            let h : most ≤ suc (most - 1) = omega arith in
+            past (ap (levels_up_to most) here ∙ too-deep most (row_at table at) _ _ (rw b at h) z)
 
         pub levels-again : (below deepest' : ℕ) → below ≡ levels_up_to (most - 1) (run_at table (at + 1) (at + size - (at + 1))) → below < most → deepest' ≡ max deepest (below + 1)
             → LevelsSo table most start end deepest' (at + size)
@@ -98,13 +97,13 @@ module _ (table : List ℕ) (most start end : ℕ) (room : row_words * end ≤ l
             record { upto = omega arith; small = omega arith; so = omega arith }
 
     -- no level is allowed, and there is a row
-    pub levels-none : at < end → most ≡ 0 → 1 ≡ levels_up_to most (run_at table start (end - start))
+    pub levels-none : at < end → most ≡ 0 → suc most ≡ levels_up_to most (run_at table start (end - start))
     levels-none l z = go (leb 1 (rows_at table at) && leb (rows_at table at) (end - at)) refl
       where
-        one : levels_up_to most (run_at table at (end - at)) ≡ suc most → 1 ≡ levels_up_to most (run_at table start (end - start))
-        one h = let p = past h in omega arith
+        one : levels_up_to most (run_at table at (end - at)) ≡ suc most → suc most ≡ levels_up_to most (run_at table start (end - start))
+        one h = past h
 
-        go : (b : Bool) → (leb 1 (rows_at table at) && leb (rows_at table at) (end - at)) ≡ b → 1 ≡ levels_up_to most (run_at table start (end - start))
+        go : (b : Bool) → (leb 1 (rows_at table at) && leb (rows_at table at) (end - at)) ≡ b → suc most ≡ levels_up_to most (run_at table start (end - start))
         go true e =
             let t = of_true _ e in
             let a = leb→le 1 (rows_at table at) (and_l (leb 1 (rows_at table at)) (leb (rows_at table at) (end - at)) t) in
@@ -125,19 +124,16 @@ module _ (table : List ℕ) where
       go none e = unfold levels_of levels_up_to in rw e
       go (some f) e = absurd (h (let r = view_rows table f e in omega arith))
 
-  module _ (whole : length table ≡ row_words * (length table / row_words)) (deepest : ℕ) (is : deepest ≡ levels_up_to 64 (run_at table 0 (length table / row_words - 0))) where
-    all : deepest ≡ levels_up_to 64 (view_of table)
+  module _ (whole : length table ≡ row_words * (length table / row_words)) where
+    all : levels_up_to 64 (run_at table 0 (length table / row_words - 0)) ≡ levels_up_to 64 (view_of table)
     all =
         let z : length table / row_words - 0 ≡ length table / row_words = omega arith in
-        is ∙ ap (λ (n : ℕ). levels_up_to 64 (run_at table 0 n)) z ∙ ap (levels_up_to 64) (run_all table (length table / row_words) whole)
+        ap (λ (n : ℕ). levels_up_to 64 (run_at table 0 n)) z ∙ ap (levels_up_to 64) (run_all table (length table / row_words) whole)
 
-    pub levels-within : deepest ≤ 64 → deepest ≡ levels_of table
+    pub levels-all : (o : std.Option ℕ) → levels_or 64 o ≡ levels_up_to 64 (run_at table 0 (length table / row_words - 0)) → IfSome o (λ n. n ≤ 64) → unwrap_or o 0 ≡ levels_of table
     unfolding levels_of
-    levels-within h = rw (← all, le-leb deepest 64 h)
-
-    pub levels-past : 64 < deepest → 0 ≡ levels_of table
-    unfolding levels_of
-    levels-past h = rw (← all, lt-leb deepest 64 h)
+    levels-all None e few = rw (← all, ← e) refl
+    levels-all (Some n) e few = rw (← all, ← e, le-leb n 64 few) refl
 
 -- what they come to is at most 64
 pub levels_few : (table : List ℕ) → levels_of table ≤ 64

@@ -63,11 +63,6 @@ module _ (table : List ℕ) (i : ℕ) where
   pub climb-root : i ≡ 0 → 0 ≡ parent_at table i
   climb-root e = rw (e, holder-none table 0)
 
-  pub climb-start : (i ≡ 0 → ⊥) → ClimbSo table i (i - 1)
-  climb-start h =
-      let e : suc (i - 1) ≡ i = omega arith in
-      record { below = omega arith; so = sym (ap (λ (n : ℕ). holder table i n) e) }
-
   module _ (p : ℕ) (c : ClimbSo table i p) where
     pub climb-end : p ≤ 0 → 0 ≡ parent_at table i
     climb-end h = let e : p ≡ 0 = omega arith in sym (c.so ∙ ap (λ (n : ℕ). holder table i (suc n)) e ∙ holder-first table i)

@@ -48,67 +48,43 @@ module _ (table : List ℕ) where
 
 -- ---- the loop of `set_first_parents`
 
-pub record SetSo (before : List ℕ) (n : ℕ) (now : List ℕ) (i : ℕ) : Type 0 where
-  pub upto : i ≤ min n (rows_lent (length before))
-  pub is : now ≡ parents_set before i
-
-lent_room : (before : List ℕ) → row_words * rows_lent (length before) ≤ length before
+pub lent_room : (words : ℕ) → row_words * rows_lent words ≤ words
 unfolding rows_lent
-lent_room before = omega arith
+lent_room words = omega arith
 
-lent_small : (before : List ℕ) → rows_lent (length before) ≤ 1024
+pub lent_small : (words : ℕ) → rows_lent words ≤ 1024
 unfolding rows_lent
-lent_small before = omega arith
+lent_small words = omega arith
 
-module _ (before : List ℕ) (n : ℕ) where
-  pub set-start : SetSo before n before 0
-  unfolding parents_set
-  set-start = record { upto = omega arith; is = refl }
+pub set_none : (before : List ℕ) → before ≡ parents_set before 0
+unfolding parents_set
+set_none before = refl
 
-  module _ (now : List ℕ) (i : ℕ) (s : SetSo before n now i) where
-    pub set_long : length now ≡ length before
-    set_long = ap length s.is ∙ set-length before i
+module _ (before now : List ℕ) (i : ℕ) (is : now ≡ parents_set before i) (l : i < rows_lent (length before)) where
+  pub set-asks : Climbs now i
+  set-asks = rw is (set-climbs before i (omega (arith, lent_room (length before))))
 
-    pub set-asks : Climbs now i
-    set-asks = let u = s.upto in rw s.is (set-climbs before i (omega (arith, lent_room before)))
+  pub set-small : (p : ℕ) → p ≡ parent_at now i → p < 1024
+  set-small p e = go i (omega (arith, lent_small (length before))) e
+    where
+      go : (i : ℕ) → i < 1024 → p ≡ parent_at now i → p < 1024
+      go zero h e = omega (arith, holder-none now 0)
+      go (suc j) h e = omega (arith, holder-low now (suc j) j)
 
-    module _ (most count : ℕ) (most-is : most ≡ rows_lent (length before)) (count-is : count ≡ min n most) where
-      pub set-end : count ≤ i → now ≡ parents_set before (min n (rows_lent (length before)))
-      set-end h =
-          let u = s.upto in
-          let e : i ≡ min n (rows_lent (length before)) = omega arith in
-          s.is ∙ ap (λ (k : ℕ). parents_set before k) e
+  pub set_more : (p : ℕ) → p ≡ parent_at now i → set now (row_words * i + 11) p ≡ parents_set before (i + 1)
+  set_more p e =
+      let n : i + 1 ≡ suc i = omega arith in
+      let q : p ≡ parent_at before i = e ∙ ap (λ (t : List ℕ). parent_at t i) is ∙ set-parent before i i in
+      rw (n, q, is) (unfold parents_set in refl)
 
-      module _ (l : i < count) where
-        pub set_room : row_words * i + 11 < length now
-        set_room = omega (arith, lent_room before, set_long)
-
-        pub set_row : i < 1024
-        set_row = omega (arith, lent_small before)
-
-        module _ (p : ℕ) (is : p ≡ parent_at now i) where
-          set_is : p ≡ parent_at before i
-          set_is = is ∙ ap (λ (t : List ℕ). parent_at t i) s.is ∙ set-parent before i i
-
-          pub set-small : p < 1024
-          set-small = go i set_row is
-            where
-              go : (i : ℕ) → i < 1024 → p ≡ parent_at now i → p < 1024
-              go zero h e = omega (arith, holder-none now 0)
-              go (suc j) h e = omega (arith, holder-low now (suc j) j)
-
-          pub set_more : SetSo before n (set now (row_words * i + 11) p) (i + 1)
-          set_more = record { upto = omega arith; is = more }
-            where
-              more : set now (row_words * i + 11) p ≡ parents_set before (i + 1)
-              more = let e : i + 1 ≡ suc i = omega arith in rw (e, set_is, s.is) (unfold parents_set in refl)
+pub ruleset lent = (lent_room, lent_small)
 
 -- ---- `set_parents`
 
 pub set_all : (before now : List ℕ) → now ≡ parents_set before (min 1024 (rows_lent (length before))) → now ≡ with_parents before
 unfolding with_parents
 set_all before now e =
-    let m : min 1024 (rows_lent (length before)) ≡ rows_lent (length before) = omega (arith, lent_small before) in
+    let m : min 1024 (rows_lent (length before)) ≡ rows_lent (length before) = omega (arith, lent_small (length before)) in
     e ∙ ap (λ (k : ℕ). parents_set before k) m
 
 -- ---- the loop of `parents_fit`

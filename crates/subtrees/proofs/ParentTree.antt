@@ -1,5 +1,6 @@
 -- What joins the two halves: in the table of a tree the last row before a row whose subtree holds it is its parent.
---   row-size, row-kids, row_next   a run of trees that stands in a table from row i on: its first row's word 1, its children, the run behind
+--   row-size, row-kids, row_next   a run of trees that stands in a table from row i on: its first row's word 1, its
+--                                  children, the run behind
 --   past                           no row of a run holds a row behind the run
 --   inside                         the parent's row holds the rows of a run, and no row between does
 use mathlib.Core.Path.{◌≡◌, refl, sym, ap, ◌∙◌}

@@ -5,19 +5,22 @@ use mathlib.Core.Bool.{Bool, true, false, not, ◌&&◌, and-false}
 use mathlib.Core.List.{List, [], ◌∷◌, map}
 use mathlib.Core.Option
 use mathlib.Core.Option.{Option, none, some}
-use Prim.Native.Nat.{ℕ, ◌+◌, ◌*◌, ◌-◌, ◌/◌, ◌≤◌, ◌<◌}
+use Prim.Native.Nat.{ℕ, ◌+◌, ◌*◌, ◌-◌, ◌/◌, ◌%◌, ◌^◌, ◌≤◌, ◌<◌}
 use native.Mathlib.Omega.{arith}
 use lib.ListN.{length, get_or}
 use lib.Dec.{leb, ltb}
-use borrow.Author.Tests.{le-leb, lt-leb, lt-ltb, le-ltb}
+use lib.Bits.{bit_and}
+use Rattle.std.specs.Int.RustNames.{bit_or}
+use Rattle.std.proofs.lemmas.Nat.Bits.{shr_and_one}
+use borrow.Author.Tests.{eq-eqb, ne_eqb, le-leb, lt-leb, lt-ltb, le-ltb}
 use Rattle.datatype.specs.Kind.{has, ids_fit}
 use Rattle.datatype.specs.Tree.{roots}
 use Rattle.datatype.specs.Table.{row_words, rows_at}
 use Rattle.subtrees.specs.Internal.Run.{row_at, forest_at, Nests}
-use Rattle.subtrees.specs.Internal.Ids.{is_kept, keep_id, fresh_ids}
+use Rattle.subtrees.specs.Internal.Ids.{fresh_ids}
 use Rattle.subtrees.specs.Siblings.{siblings}
 use Rattle.subtrees.specs.UnionFields.{all_fit, type_ids_fit}
-use Rattle.subtrees.proofs.IdLaws.{Keeps, zeros, keeps_none, keeps-more, fresh_ids_lem}
+use Rattle.subtrees.proofs.IdLaws.{Keeps, keeps_none, keeps-more, fresh_ids_lem}
 use Rattle.subtrees.proofs.SiblingLaws.{sibling-end, sibling-turn, sibling-roots}
 
 -- ids that are fresh behind those met
@@ -35,7 +38,7 @@ fresh_more met id none = sym (and-false (ltb id 128 && not (has id met)))
 fresh_more met id (some ids) = refl
 
 -- before a turn: the ids met, and that the rest decides
-pub record Met (table : List ℕ) (first end : ℕ) (seen : List ℕ) (at : ℕ) : Type 0 where
+pub record Met (table : List ℕ) (first end seen at : ℕ) : Type 0 where
   pub ids : List ℕ
   pub left : ℕ
   pub keeps : Keeps seen ids
@@ -43,11 +46,11 @@ pub record Met (table : List ℕ) (first end : ℕ) (seen : List ℕ) (at : ℕ)
   pub so : type_ids_fit table first end ≡ all_fresh ids (siblings left 3 table at end)
 
 module _ (table : List ℕ) (first end : ℕ) where
-  pub met_start : Met table first end zeros first
+  pub met_start : Met table first end 0 first
   unfolding type_ids_fit
   met_start = record { ids = []; left = end - first; keeps = keeps_none; enough = omega arith; so = all_fresh_lem (siblings (end - first) 3 table first end) }
 
-  module _ (seen : List ℕ) (at : ℕ) (m : Met table first end seen at) where
+  module _ (seen at : ℕ) (m : Met table first end seen at) where
     pub met-end : end ≤ at → true ≡ type_ids_fit table first end
     unfolding fresh_ids
     met-end h = sym (m.so ∙ rw (sibling-end 3 table at end m.left h))
@@ -79,16 +82,16 @@ module _ (table : List ℕ) (first end : ℕ) where
             met-big h = sym (next ∙ rw (le-ltb id 128 h))
 
             module _ (h : id < 128) where
-              pub met-twice : is_kept seen id ≡ true → false ≡ type_ids_fit table first end
-              met-twice k = sym (next ∙ rw (lt-ltb id 128 h, ← m.keeps.same id h, k))
+              pub met-twice : bit_and (seen / 2 ^ id) 1 ≡ 1 → false ≡ type_ids_fit table first end
+              met-twice k = sym (next ∙ rw (lt-ltb id 128 h, ← m.keeps.same id, ← shr_and_one seen id, eq-eqb (bit_and (seen / 2 ^ id) 1) 1 k))
 
-              pub met-again : (seen' : List ℕ) → is_kept seen id ≡ false → seen' ≡ keep_id seen id → Met table first end seen' (at + s)
-              met-again seen' k c = record {
+              pub met-again : (bit_and (seen / 2 ^ id) 1 ≡ 1 → ⊥) → Met table first end (bit_or seen (1 * 2 ^ id % 2 ^ 128)) (at + s)
+              met-again k = record {
                 ids = id ∷ m.ids;
                 left = m.left - 1;
-                keeps = rw c (keeps-more seen m.ids m.keeps id h k);
+                keeps = keeps-more seen m.ids id h m.keeps;
                 enough = let w = m.enough in omega arith;
-                so = next ∙ rw (lt-ltb id 128 h, ← m.keeps.same id h, k);
+                so = next ∙ rw (lt-ltb id 128 h, ← m.keeps.same id, ← shr_and_one seen id, ne_eqb (bit_and (seen / 2 ^ id) 1) 1 k);
               }
 
 -- where the rows nest, they are the ids of the trees

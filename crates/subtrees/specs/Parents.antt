@@ -1,4 +1,5 @@
--- Parents of rows (document 02, 'Rows that know their parent'): word 11 of a row is its parent's row number, 0 for the root.
+-- Parents of rows (document 02, 'Rows that know their parent'): word 11 of a row is its parent's row number, 0 for the
+-- root.
 use Rattle.std.specs.Prelude.{Bool, true, ◌&&◌, List, [], ◌∷◌, ◌++◌, ℕ, zero, suc, ◌+◌, ◌*◌, ◌/◌, length, set, ltb, eqb, if◌then◌else◌}
 use Rattle.datatype.specs.Tree.{Forest, ∅, node, count, Row}
 use Rattle.datatype.specs.Table.{row_words, table_of, rows_lent, rows_at, parent_word_at}

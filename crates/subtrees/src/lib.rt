@@ -4,7 +4,6 @@
 #![tactic(auto)]
 
 mod equality;
-mod ids;
 mod levels;
 mod map_entries;
 mod parents;
@@ -13,6 +12,6 @@ mod union_fields;
 
 pub use equality::equal_trees;
 pub use levels::levels_of;
-pub use map_entries::entries_refusal;
+pub use map_entries::check_entries;
 pub use parents::{parents_fit, set_first_parents, set_parents};
 pub use union_fields::try_new;

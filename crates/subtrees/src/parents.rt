@@ -4,7 +4,7 @@ ghost use Rattle.datatype.specs.Table.{row_words, rows_lent, parent_word_at};
 ghost use Rattle.subtrees.specs.Parents.{parent_at, parents_set, with_parents, parents_fit};
 ghost use Rattle.subtrees.specs.Internal.Climb.{Climbs};
 
-use crate::rows::{subtree, wide, word};
+use crate::rows::{subtree, word};
 use datatype::rows::{MAX_ROWS, PARENT, ROW_WORDS, rows_lent};
 
 // The parent that row i has in the table.
@@ -12,17 +12,7 @@ fn parent(rows: &[u32], i: usize) -> usize
     requires { row_words * (i + 1) ≤ length rows.now }
     ensures { result ≡ parent_word_at rows.now i }
 {
-    wide(word(rows, i, PARENT))
-}
-
-// The lesser of two numbers.
-fn lesser(a: usize, b: usize) -> usize
-    ensures { result ≡ min a b }
-{
-    if a < b {
-        return a;
-    }
-    b
+    word(rows, i, PARENT) as usize
 }
 
 // The row that row i stands under, where the rows before it have their parents: the row before it, or the first row up
@@ -44,18 +34,14 @@ fn parent_of(rows: &[u32], i: usize) -> usize
     0
 }
 
-// Sets the parents of the first n rows, or of as many as the table holds where those are fewer: what a builder of n rows
-// in a lent buffer calls last. Each row is passed once, and climbed from once at the most.
+// Sets the parents of the first n rows, or of as many as the table holds where those are fewer: what a builder of n
+// rows in a lent buffer calls last. Each row is passed once, and climbed from once at the most.
+#[tactic(auto, using(crate::proofs::ParentSet::lent))]
 pub fn set_first_parents(rows: &mut [u32], n: usize)
     ensures { rows.new ≡ parents_set rows.old (min n (rows_lent (length rows.old))) }
 {
-    let most = rows_lent(rows.len());
-    let count = lesser(n, most);
-    let mut i = 0;
-    while i < count {
-        let p = parent_of(rows, i);
-        rows[ROW_WORDS * i + PARENT] = p as u32;
-        i += 1;
+    for i in 0..n.min(rows_lent(rows.len())) {
+        rows[ROW_WORDS * i + PARENT] = parent_of(rows, i) as u32;
     }
 }
 
@@ -70,13 +56,10 @@ pub fn set_parents(rows: &mut [u32])
 pub fn parents_fit(rows: &[u32]) -> bool
     ensures { result ≡ parents_fit rows.now }
 {
-    let n = rows.len() / ROW_WORDS;
-    let mut i = 0;
-    while i < n {
+    for i in 0..rows.len() / ROW_WORDS {
         if parent(rows, i) != parent_of(rows, i) {
             return false;
         }
-        i += 1;
     }
     true
 }

@@ -4,13 +4,6 @@ ghost use Rattle.datatype.specs.Table.{row_words, rows_at};
 
 use datatype::rows::{ROW_WORDS, ROWS};
 
-// A word as a number of the machine's width.
-pub(crate) fn wide(x: u32) -> usize
-    ensures { result ≡ x }
-{
-    x as usize
-}
-
 // Word k of row i.
 pub(crate) fn word(rows: &[u32], i: usize, k: usize) -> u32
     requires { (row_words * (i + 1) ≤ length rows.now) × (k < row_words) }
@@ -24,5 +17,5 @@ pub(crate) fn subtree(rows: &[u32], i: usize) -> usize
     requires { row_words * (i + 1) ≤ length rows.now }
     ensures { result ≡ rows_at rows.now i }
 {
-    wide(word(rows, i, ROWS))
+    word(rows, i, ROWS) as usize
 }

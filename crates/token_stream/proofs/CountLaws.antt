@@ -1,58 +1,181 @@
--- Tokens that are read one behind another: what the loop that counts them meets.
+-- Tokens that are read one behind another: the place behind each, and what the loop that counts them meets.
 use mathlib.Core.Path.{◌≡◌, refl, sym, ap, ◌∙◌, subst}
-use mathlib.Core.Bool.{true, false}
+use mathlib.Core.Bool.{Bool, true, false, not}
 use mathlib.Core.List.{List, [], ◌∷◌}
 use mathlib.Core.Option.{Option, none, some}
 use Prim.Native.Nat.{ℕ, zero, suc, ◌+◌, ◌≤◌, ◌<◌}
 use native.Mathlib.Omega.{arith}
-use lib.ListN.{length, drop, get_or, drop_of_length-le, length-drop}
+use lib.ListN.{length, drop, get_or}
+use lib.Dec.{T, eqb, eqb→eq}
+use Rattle.std.specs.declared.result.Result.{Result}
+use Rattle.std.specs.declared.result.Result.TheVariants.{Ok, Err}
+use Rattle.tokenizer.specs.Answer.{Out, refused, done, refuse, number_of, answer_of}
+use Rattle.tokenizer.specs.declared.refusal.Refusal as R
+use Rattle.tokenizer.specs.declared.refusal.Refusal.TheVariants.{TextTooLong, NotUtf8, TooDeep, TooManyRows, TextEnds, StringNeverEnds, StringEmpty, UnknownWord, UnexpectedToken, NumberOutOfRange, WrongTimeUnit, WrongDecimal, MustBeNonNull, WrongMapEntries, WrongUnionId, TrailingText, NotSound, NotAscii, PrintTooLong}
+use Rattle.tokenizer.specs.Internal.Ends.{word_end}
 use Rattle.tokenizer.specs.Places.{after_spaces}
-use Rattle.tokenizer.specs.Token.{token, token_from, token_at, is_separator, word_of, word_kind, until_quote, string_token, value_of}
+use Rattle.tokenizer.specs.Words.{words}
+use Rattle.tokenizer.specs.Token.{Standing, token, token_or_refusal, no_token, sort_of, value_of, is_separator, word_of, word_kind, until_quote, string_token, token_at}
 use Rattle.tokenizer.specs.declared.Token.{Token}
 use Rattle.tokenizer.specs.declared.TokenKind.{TokenKind}
-use Rattle.tokenizer.specs.declared.TokenKind.TheVariants.{LParen, RParen, Comma, Colon, Integer, DoubleQuotedString, SingleQuotedString, DataType, TimeUnit, IntervalUnit, UnionMode, MapSorted, Nullability, Field, Some, None, X, Refused}
-use Rattle.tokenizer.proofs.Runs.{spaces-end, word_part, Within, until_within}
-use Rattle.tokenizer.proofs.Marks.{by_cases, word_first}
+use Rattle.tokenizer.specs.declared.TokenKind.TheVariants.{LParen, RParen, Comma, Colon, Integer, DoubleQuotedString, SingleQuotedString, DataType, TimeUnit, IntervalUnit, UnionMode, MapSorted, Nullability, Field, Some, None, X}
+use Rattle.tokenizer.proofs.Marks.{is_mark, mark_kind, marks, by_cases, word_first, word_holds, bounds}
 use Rattle.token_stream.specs.Count.{is_read, tokens_from, tokens_of, place_behind, count_tokens}
 
--- ---- a token that is read takes a byte at least, and lies in the text
+-- ---- what is answered, and what stands there
 
-pub record Moves (text : List ℕ) (at : ℕ) (t : Token) : Type 0 where
+module _ (s : Standing) (r : Result Token R.Refusal) (e : answer_of r ≡ token_or_refusal s) where
+  pub token-is : (t : Token) → r ≡ Ok t → (s.kind ≡ done t.kind) × (t.next ≡ s.next)
+  token-is t h = by-kind s.kind refl
+    where
+      by-kind : (k : Out TokenKind) → s.kind ≡ k → (s.kind ≡ done t.kind) × (t.next ≡ s.next)
+      by-kind (refused x) q = let z : done t ≡ refused x = ap answer_of (sym h) ∙ e ∙ rw q in absurd (let y : ◌≡◌ {A = ℕ} 0 1 = cc in omega arith)
+      by-kind (done k) q =
+          let z : done t ≡ done (record { kind = k; start = s.start; size = s.size; next = s.next }) = ap answer_of (sym h) ∙ e ∙ rw q in
+          let y : t ≡ record { kind = k; start = s.start; size = s.size; next = s.next } = cc in
+          (q ∙ ap (λ (x : Token). done x.kind) (sym y), ap (λ (x : Token). x.next) y)
+
+  pub refusal-is : (n : R.Refusal) → r ≡ Err n → s.kind ≡ refuse (number_of n)
+  refusal-is n h = by-kind s.kind refl
+    where
+      by-kind : (k : Out TokenKind) → s.kind ≡ k → s.kind ≡ refuse (number_of n)
+      by-kind (refused x) q = let z : ◌≡◌ {A = Out Token} (refuse (number_of n)) (refused x) = ap answer_of (sym h) ∙ e ∙ rw q in q ∙ cc
+      by-kind (done k) q = let z : ◌≡◌ {A = Out Token} (refuse (number_of n)) (done (record { kind = k; start = s.start; size = s.size; next = s.next })) = ap answer_of (sym h) ∙ e ∙ rw q in absurd (let y : ◌≡◌ {A = ℕ} 0 1 = cc in omega arith)
+
+-- ---- the place behind what is refused
+
+-- an unknown word is passed; all else that is refused would begin behind the spaces
+abbrev Behind : ℕ → ℕ → Standing → Type 0
+Behind p word s = (n : ℕ) → s.kind ≡ refuse n → (n ≡ 8 → s.next ≡ p + word) × ((n ≡ 8 → ⊥) → s.next ≡ p)
+
+abbrev number_or_zero : Out TokenKind → ℕ
+number_or_zero (refused r) = r.number
+number_or_zero (done k) = 0
+
+same_number : (n m : ℕ) → ◌≡◌ {A = Out TokenKind} (refuse n) (refuse m) → n ≡ m
+same_number n m e = ap number_or_zero e
+
+begins : (p word r : ℕ) → (r ≡ 8 → ⊥) → Behind p word (token (refuse r) p 0)
+begins p word r h = λ n e. let q = same_number r n e in (λ k. absurd (h (q ∙ k)), λ _. omega arith)
+
+read_here : (p word : ℕ) (s : Standing) (k : TokenKind) → s.kind ≡ done k → Behind p word s
+read_here p word s k h = λ n e. let q : ◌≡◌ {A = Out TokenKind} (done k) (refuse n) = sym h ∙ e in absurd (let z : ◌≡◌ {A = ℕ} 0 1 = cc in omega arith)
+
+string-behind : (p word : ℕ) (k : TokenKind) (o : Option ℕ) → Behind p word (string_token k p o)
+string-behind p word k none = begins p word 6 (λ e. omega arith)
+string-behind p word k (some zero) = begins p word 7 (λ e. omega arith)
+string-behind p word k (some (suc n)) = read_here p word (string_token k p (some (suc n))) k refl
+
+mark-behind : (p word m : ℕ) → T (is_mark m) → Behind p word (token (mark_kind m) p 1)
+mark-behind p word =
+    marks (λ m. Behind p word (token (mark_kind m) p 1))
+    (read_here p word (token (done LParen) p 1) LParen refl)
+    (read_here p word (token (done RParen) p 1) RParen refl)
+    (read_here p word (token (done Comma) p 1) Comma refl)
+    (read_here p word (token (done Colon) p 1) Colon refl)
+
+-- a word is refused as unknown, and as nothing else
+abbrev only_unknown : List ℕ → Out TokenKind → Bool
+only_unknown w (refused r) = eqb r.number 8
+only_unknown w (done k) = true
+
+unknown : (w : List ℕ) (n : ℕ) (k : Out TokenKind) → T (only_unknown w k) → k ≡ refuse n → n ≡ 8
+unknown w n k t e = eqb→eq n 8 (subst (λ x. T (only_unknown w x)) e t)
+
+word-unknown : (c : ℕ) (w : List ℕ) → T (only_unknown (c ∷ w) (word_kind (c ∷ w)))
+unfolding words
+word-unknown = word_holds only_unknown (λ w negative v h. tt) (λ w. tt) tt
+
+-- only an unknown word has the number 8
+eight : (n : R.Refusal) → (n ≡ UnknownWord → ⊥) → number_of n ≡ 8 → ⊥
+eight TextTooLong o e = omega arith
+eight NotUtf8 o e = omega arith
+eight TooDeep o e = omega arith
+eight TooManyRows o e = omega arith
+eight TextEnds o e = omega arith
+eight StringNeverEnds o e = omega arith
+eight StringEmpty o e = omega arith
+eight UnknownWord o e = o refl
+eight UnexpectedToken o e = omega arith
+eight NumberOutOfRange o e = omega arith
+eight WrongTimeUnit o e = omega arith
+eight WrongDecimal o e = omega arith
+eight MustBeNonNull o e = omega arith
+eight WrongMapEntries o e = omega arith
+eight WrongUnionId o e = omega arith
+eight TrailingText o e = omega arith
+eight NotSound o e = omega arith
+eight NotAscii o e = omega arith
+eight PrintTooLong o e = omega arith
+
+module _ (text : List ℕ) (at : ℕ) where
+  abbrev start : ℕ
+  start = after_spaces text at
+
+  word-behind : start < length text → is_separator (get_or text start 0) ≡ false
+      → Behind start (length (word_of (drop start text))) (token (word_kind (word_of (drop start text))) start (length (word_of (drop start text))))
+  word-behind h s =
+      let w : word_of (drop start text) ≡ get_or text start 0 ∷ word_of (drop (suc start) text) = word_first text start h s in
+      let t : T (only_unknown (word_of (drop start text)) (word_kind (word_of (drop start text)))) =
+      subst (λ (x : List ℕ). T (only_unknown x (word_kind x))) (sym w) (word-unknown (get_or text start 0) (word_of (drop (suc start) text))) in
+      λ n e. (λ _. refl, λ f. absurd (f (unknown (word_of (drop start text)) n (word_kind (word_of (drop start text))) t e)))
+
+  behind : Behind start (length (word_of (drop start text))) (token_at text at)
+  behind =
+      by_cases text at (Behind start (length (word_of (drop start text)))) (record {
+        over = λ _. begins start _ 5 (λ e. omega arith);
+        mark = λ m t h e. mark-behind start _ m t;
+        double = λ h e. string-behind start _ DoubleQuotedString (until_quote 34 false (drop (start + 1) text));
+        single = λ h e. string-behind start _ SingleQuotedString (until_quote 39 false (drop (start + 1) text));
+        word = λ h s. word-behind h s;
+      })
+
+  module _ (r : Result Token R.Refusal) (e : answer_of r ≡ token_or_refusal (token_at text at)) where
+    pub next-token : (t : Token) → r ≡ Ok t → t.next ≡ (token_at text at).next
+    next-token t h = (token-is (token_at text at) r e t h).1
+
+    pub next-word : r ≡ Err UnknownWord → word_end text start ≡ (token_at text at).next
+    unfolding word_end
+    next-word h = sym ((behind 8 (refusal-is (token_at text at) r e _ h)).0 refl)
+
+    pub next-refused : (n : R.Refusal) → r ≡ Err n → (n ≡ UnknownWord → ⊥) → start ≡ (token_at text at).next
+    next-refused n h o = sym ((behind (number_of n) (refusal-is (token_at text at) r e n h)).1 (eight n o))
+
+-- ---- one turn of the loop
+
+-- every token is read
+token-read : (k : TokenKind) → is_read (done k) ≡ true
+token-read LParen = refl
+token-read RParen = refl
+token-read Comma = refl
+token-read Colon = refl
+token-read (Integer n) = refl
+token-read DoubleQuotedString = refl
+token-read SingleQuotedString = refl
+token-read (DataType k) = refl
+token-read (TimeUnit u) = refl
+token-read (IntervalUnit u) = refl
+token-read (UnionMode m) = refl
+token-read (MapSorted b) = refl
+token-read (Nullability r) = refl
+token-read Field = refl
+token-read Some = refl
+token-read None = refl
+token-read X = refl
+
+some-sort : (k : Out TokenKind) → is_read k ≡ true → sort_of k ≡ no_token → ⊥
+some-sort k h e = let z : true ≡ false = sym h ∙ ap (λ n. not (eqb n no_token)) e in let y : ◌≡◌ {A = ℕ} 0 1 = cc in omega arith
+
+-- a token that is read takes a byte at least, and lies in the text
+pub record Moves (text : List ℕ) (at : ℕ) (t : Standing) : Type 0 where
   pub further : at < t.next
   pub within : t.next ≤ length text
 
-abbrev ReadMoves : List ℕ → ℕ → Token → Type 0
-ReadMoves text at t = is_read t.kind ≡ true → Moves text at t
-
--- a token that is not read says nothing
-unread : (text : List ℕ) (at e p size : ℕ) → ReadMoves text at (token (Refused e) p size)
-unread text at e p size h = absurd (let z : ◌≡◌ {A = ℕ} 0 1 = cc in omega arith)
-
-string_moves : (text : List ℕ) (at p : ℕ) (k : TokenKind) (o : Option ℕ) → at ≤ p → p < length text → Within (length (drop (p + 1) text)) o → ReadMoves text at (string_token k p o)
-unfolding Within
-string_moves text at p k none b h w = unread text at 6 p 0
-string_moves text at p k (some zero) b h w = unread text at 7 p 0
-string_moves text at p k (some (suc n)) b h w = λ _. record { further = omega arith; within = omega (arith, length-drop (p + 1) text) }
-
-word_moves : (text : List ℕ) (at p : ℕ) → at ≤ p → p < length text → is_separator (get_or text p 0) ≡ false → Moves text at (token (word_kind (word_of (drop p text))) p (length (word_of (drop p text))))
-word_moves text at p b h s =
-    let w = (word_part (drop p text)).within in
-    let f : length (word_of (drop p text)) ≡ suc (length (word_of (drop (suc p) text))) = ap length (word_first text p h s) in
-    record { further = omega arith; within = omega (arith, length-drop p text) }
-
 pub token_moves : (text : List ℕ) (at : ℕ) → is_read (token_at text at).kind ≡ true → Moves text at (token_at text at)
-token_moves text at =
-    let p = after_spaces text at in
-    let b = (spaces-end text at).behind in
-    by_cases text at (ReadMoves text at) (record {
-      over = λ _. unread text at 5 p 0;
-      mark = λ m t h e _. record { further = omega arith; within = omega arith };
-      double = λ h e. string_moves text at p DoubleQuotedString (until_quote 34 false (drop (p + 1) text)) b h (until_within 34 false (drop (p + 1) text));
-      single = λ h e. string_moves text at p SingleQuotedString (until_quote 39 false (drop (p + 1) text)) b h (until_within 39 false (drop (p + 1) text));
-      word = λ h s _. word_moves text at p b h s;
-    })
-
--- ---- one turn of the loop
+token_moves text at h =
+    let b = bounds text at in
+    let k = some-sort (token_at text at).kind h in
+    record { further = b.past k; within = b.inside k }
 
 -- `tokens` of them stand before the place, and the others from it on
 pub record Turn (text : List ℕ) (at tokens : ℕ) : Type 0 where
@@ -75,72 +198,49 @@ one_read : (text : List ℕ) (most at : ℕ) → is_read (token_at text at).kind
 unfolding tokens_from
 one_read text most at e = rw e
 
-behind_one : (at : ℕ) (t : Token) (ts : List Token) → place_behind at (t ∷ ts) ≡ place_behind t.next ts
+behind_one : (at : ℕ) (s : Standing) (ss : List Standing) → place_behind at (s ∷ ss) ≡ place_behind s.next ss
 unfolding place_behind
-behind_one at t ts = refl
+behind_one at s ss = refl
 
-module _ (text : List ℕ) (at tokens : ℕ) (u : Turn text at tokens) (t : Token) (e : t ≡ token_at text at) where
-  -- the token is not read: the count is done
-  pub turn-stop : (refusal : ℕ) → t.kind ≡ Refused refusal → record { tokens = tokens; refusal = refusal } ≡ count_tokens text
+module _ (text : List ℕ) (at tokens : ℕ) (u : Turn text at tokens) (r : Result Token R.Refusal) (e : answer_of r ≡ token_or_refusal (token_at text at)) where
+  -- no token is read: the count is done
+  pub turn-stop : (n : R.Refusal) → r ≡ Err n → record { tokens = tokens; refusal = number_of n } ≡ count_tokens text
   unfolding count_tokens place_behind
-  turn-stop refusal k =
-      let kind : (token_at text at).kind ≡ Refused refusal = ap (λ (x : Token). x.kind) (sym e) ∙ k in
+  turn-stop n h =
+      let kind : (token_at text at).kind ≡ refuse (number_of n) = refusal-is (token_at text at) r e n h in
       let rest : tokens_from text u.most at ≡ [] = none_read text u.most at (rw kind) in
-      let n : tokens ≡ length (tokens_of text) = omega (arith, u.counted, ap length rest) in
-      let p : at ≡ place_behind 0 (tokens_of text) = sym (u.behind ∙ ap (place_behind at) rest) in
-      let v : refusal ≡ value_of (token_at text at).kind = sym (ap value_of kind) in
-      λ i. record { tokens = n i; refusal = (v ∙ ap (λ (x : ℕ). value_of (token_at text x).kind) p) i }
+      let size : tokens ≡ length (tokens_of text) = omega (arith, u.counted, ap length rest) in
+      let place : at ≡ place_behind 0 (tokens_of text) = sym (u.behind ∙ ap (place_behind at) rest) in
+      let value : number_of n ≡ value_of (token_at text at).kind = sym (ap value_of kind) in
+      λ i. record { tokens = size i; refusal = (value ∙ ap (λ (x : ℕ). value_of (token_at text x).kind) place) i }
 
-  module _ (h : at < length text) (r : is_read t.kind ≡ true) where
-    pub step-moves : Moves text at t
-    step-moves = subst (Moves text at) (sym e) (token_moves text at (ap (λ (x : Token). is_read x.kind) (sym e) ∙ r))
+  module _ (t : Token) (h : r ≡ Ok t) where
+    is-read : is_read (token_at text at).kind ≡ true
+    is-read = ap is_read (token-is (token_at text at) r e t h).0 ∙ token-read t.kind
+
+    pub further : at < t.next
+    further = let x = (token_moves text at is-read).further in let y = next-token text at r e t h in omega arith
+
+    within : t.next ≤ length text
+    within = let x = (token_moves text at is-read).within in let y = next-token text at r e t h in omega arith
 
     pub turn_step : Turn text t.next (tokens + 1)
     turn_step = go u.most u.enough u.counted u.behind
       where
         go : (most : ℕ) → length text ≤ at + most → length (tokens_of text) ≡ tokens + length (tokens_from text most at)
             → place_behind 0 (tokens_of text) ≡ place_behind at (tokens_from text most at) → Turn text t.next (tokens + 1)
-        go zero l c b = absurd (omega arith)
+        go zero l c b = let x = further in let y = within in absurd (omega arith)
         go (suc most) l c b =
-            let m = step-moves in
-            let x = m.further in
-            let y = m.within in
+            let x = further in
+            let y = within in
             let z = u.fewer in
-            let one : tokens_from text (suc most) at ≡ t ∷ tokens_from text most t.next =
-            one_read text most at (ap (λ (x : Token). is_read x.kind) (sym e) ∙ r) ∙ ap (λ (k : Token). k ∷ tokens_from text most k.next) (sym e) in
+            let one : tokens_from text (suc most) at ≡ token_at text at ∷ tokens_from text most t.next =
+            one_read text most at is-read ∙ ap (λ (k : ℕ). token_at text at ∷ tokens_from text most k) (sym (next-token text at r e t h)) in
             record {
               most = most;
               enough = omega arith;
               inside = y;
               fewer = omega arith;
               counted = omega (arith, c, ap length one);
-              behind = b ∙ ap (place_behind at) one ∙ behind_one at t (tokens_from text most t.next);
+              behind = b ∙ ap (place_behind at) one ∙ behind_one at (token_at text at) (tokens_from text most t.next) ∙ ap (λ (k : ℕ). place_behind k (tokens_from text most t.next)) (sym (next-token text at r e t h));
             }
-
--- at the text's end
-pub turn_end : (text : List ℕ) (at tokens : ℕ) → Turn text at tokens → length text ≤ at → record { tokens = tokens; refusal = 5 } ≡ count_tokens text
-unfolding token_at token_from
-turn_end text at tokens u h =
-    let e : token_at text at ≡ token (Refused 5) at 0 = rw (drop_of_length-le text h) in
-    turn-stop text at tokens u (token_at text at) refl 5 (ap (λ (t : Token). t.kind) e)
-
--- every kind but `Refused` is that of a token that is read
-pub other_kind : (k : TokenKind) → ((r : ℕ) → k ≡ Refused r → ⊥) → is_read k ≡ true
-other_kind LParen o = refl
-other_kind RParen o = refl
-other_kind Comma o = refl
-other_kind Colon o = refl
-other_kind (Integer b m) o = refl
-other_kind DoubleQuotedString o = refl
-other_kind SingleQuotedString o = refl
-other_kind (DataType k) o = refl
-other_kind (TimeUnit u) o = refl
-other_kind (IntervalUnit u) o = refl
-other_kind (UnionMode m) o = refl
-other_kind (MapSorted b) o = refl
-other_kind (Nullability r) o = refl
-other_kind Field o = refl
-other_kind Some o = refl
-other_kind None o = refl
-other_kind X o = refl
-other_kind (Refused r) o = absurd (o r refl)

@@ -4,11 +4,13 @@
 #![tactic(auto)]
 
 ghost use Rattle.std.specs.Prelude.{◌≡◌};
-ghost use Rattle.tokenizer.specs.Token.{token_at};
+ghost use Rattle.tokenizer.specs.Answer.{answer_of};
+ghost use Rattle.tokenizer.specs.Token.{token_or_refusal, token_at};
+ghost use Rattle.tokenizer.specs.Internal.Ends.{word_end};
 ghost use Rattle.token_stream.specs.Stream.{start_of, token_of, moved_on};
-ghost use Rattle.token_stream.specs.Count.{count_tokens};
+ghost use Rattle.token_stream.specs.Count.{count_of, count_tokens};
 
-use tokenizer::{Token, TokenKind, next_token};
+use tokenizer::{Refusal, Token, is_separator, next_token, skip_spaces};
 
 #[derive(Clone, Copy)]
 pub struct Tokenizer<'a> {
@@ -25,63 +27,89 @@ impl<'a> Tokenizer<'a> {
     }
 
     // The token at the place.
-    pub fn peek(self) -> Token
-        ensures { result ≡ token_of self.entry }
+    pub fn peek(self) -> Result<Token, Refusal>
+        ensures { answer_of result ≡ token_of self.entry }
     {
         next_token(self.text, self.at)
     }
 
-    // The same text, at the place behind the token.
+    // The same text, at the place behind the token. What is no token is passed if it is a word, and else begins there.
     pub fn advance(self) -> Tokenizer<'a>
         ensures { result ≡ moved_on self.entry }
     {
-        let token = next_token(self.text, self.at);
+        let token = self.peek();
         Tokenizer {
             text: self.text,
-            at: token.next,
+            at: place_behind(self.text, self.at, token),
         }
     }
 
     // The token at the place, and the place moves behind it.
-    pub fn next(&mut self) -> Token
-        ensures { (result ≡ token_of self.old) × (self.new ≡ moved_on self.old) }
+    pub fn next(&mut self) -> Result<Token, Refusal>
+        ensures token { answer_of result ≡ token_of self.old }
+        ensures place { self.new ≡ moved_on self.old }
     {
-        let token = next_token(self.text, self.at);
-        self.at = token.next;
+        let token = self.peek();
+        self.at = place_behind(self.text, self.at, token);
         token
     }
 }
 
+// The place behind the word that starts at `from`.
+fn word_end(text: &[u8], from: usize) -> usize
+    ensures { result ≡ word_end text.now from }
+{
+    for i in from..text.len() {
+        if is_separator(text[i]) {
+            return i;
+        }
+    }
+    from.max(text.len())
+}
+
+// The place behind the token that is read at a place, or behind a word that is none; else where it would begin.
+fn place_behind(text: &[u8], at: usize, token: Result<Token, Refusal>) -> usize
+    requires { answer_of token ≡ token_or_refusal (token_at text.now at) }
+    ensures { result ≡ (token_at text.now at).next }
+{
+    let start = skip_spaces(text, at);
+    match token {
+        Ok(token) => token.next,
+        Err(refusal) => match refusal {
+            Refusal::UnknownWord => word_end(text, start),
+            _ => start,
+        },
+    }
+}
+
 // The token at or behind a place, by a tokenizer that stands there. Its contract says nothing of a tokenizer.
-pub fn token_from(text: &[u8], at: usize) -> Token
-    ensures { result ≡ token_at text.now at }
+pub fn token_from(text: &[u8], at: usize) -> Result<Token, Refusal>
+    ensures { answer_of result ≡ token_or_refusal (token_at text.now at) }
 {
     let tokens = Tokenizer { text, at };
     tokens.peek()
 }
 
-// How many tokens are read one behind another, and what ends them: 5 at the text's end, else what the next token is
-// refused with.
+// How many tokens are read one behind another, and what the next is refused with.
 #[derive(Clone, Copy)]
 pub struct TokenCount {
     pub tokens: usize,
-    pub refusal: u32,
+    pub refusal: Refusal,
 }
 
 // Counts the tokens of a text.
 pub fn count_tokens(text: &[u8]) -> TokenCount
-    ensures { result ≡ count_tokens text.now }
+    ensures { count_of result ≡ count_tokens text.now }
 {
     let mut at = 0;
     let mut tokens = 0;
-    while at < text.len() {
-        let token = token_from(text, at);
-        let kind = token.kind;
-        if let TokenKind::Refused(refusal) = kind {
-            return TokenCount { tokens, refusal };
+    loop {
+        match token_from(text, at) {
+            Ok(token) => {
+                at = token.next;
+                tokens += 1;
+            }
+            Err(refusal) => return TokenCount { tokens, refusal },
         }
-        at = token.next;
-        tokens += 1;
     }
-    TokenCount { tokens, refusal: 5 }
 }

@@ -1,7 +1,7 @@
 pub mod Basics
-pub mod Bytes
+pub mod Answered
 pub mod Runs
-pub mod Magnitude
+pub mod Numbers
 pub mod Listed
 pub mod Tokens
 pub mod StringLaws
@@ -9,3 +9,4 @@ pub mod Marks
 pub mod Walks
 pub mod WordTokens
 pub mod Utf8Laws
+pub mod RustUtf8

@@ -11,17 +11,16 @@ use lib.ListN.{length, drop, get_or, length-drop}
 use lib.Seq.{drop-cons}
 use lib.Dec.{T, leb, ltb, eqb, ltb→lt, leb→le, eqb→eq}
 use borrow.Author.Tests.{eqb-true, eqb-false, eq-eqb, ne_eqb, le-leb}
+use Rattle.tokenizer.specs.Answer.{Out, done, refuse}
 use Rattle.tokenizer.specs.Text.{all, same}
 use Rattle.tokenizer.specs.Words.{Listed, words, find}
-use Rattle.tokenizer.specs.Token.{lparen, rparen, comma, colon, integer, double_quoted, single_quoted, type_word, time_unit, interval_unit, union_mode, map_sorted, nullability, no_token, sort_of, value_of, token, is_separator, word_of, is_digit, number_from, is_number, number_kind, word_kind, until_quote, string_token, token_at}
+use Rattle.tokenizer.specs.Token.{lparen, rparen, comma, colon, integer, double_quoted, single_quoted, type_word, time_unit, interval_unit, union_mode, map_sorted, nullability, no_token, sort_of, value_of, Standing, token, is_separator, word_of, is_digit, number_from, is_number, signed, number_kind, word_kind, until_quote, string_token, token_at}
 use Rattle.tokenizer.specs.Places.{after_spaces}
-use Rattle.tokenizer.specs.Internal.Digits.{limit}
-use Rattle.tokenizer.specs.declared.Token.{Token}
 use Rattle.tokenizer.specs.declared.TokenKind.{TokenKind}
-use Rattle.tokenizer.specs.declared.TokenKind.TheVariants.{LParen, RParen, Comma, Colon, Integer, DoubleQuotedString, SingleQuotedString, Refused}
+use Rattle.tokenizer.specs.declared.TokenKind.TheVariants.{LParen, RParen, Comma, Colon, Integer, DoubleQuotedString, SingleQuotedString}
 use Rattle.tokenizer.proofs.Basics.{and_l, and_r, of_true}
 use Rattle.tokenizer.proofs.Listed.{same_path}
-use Rattle.tokenizer.proofs.Magnitude.{limit_most}
+use Rattle.tokenizer.proofs.Numbers.{limit, limit_most, abs_signed}
 use Rattle.tokenizer.proofs.Runs.{Within, until_within, Skipped, spaces-end, word_part}
 use Rattle.tokenizer.proofs.Tokens.{token_end, token-40, token-41, token-44, token-58, token-34, token-39, token-word}
 
@@ -30,8 +29,8 @@ use Rattle.tokenizer.proofs.Tokens.{token_end, token-40, token-41, token-44, tok
 abbrev pub is_mark : ℕ → Bool
 is_mark m = eqb m 40 || eqb m 41 || eqb m 44 || eqb m 58
 
-abbrev pub mark_kind : ℕ → TokenKind
-mark_kind m = if eqb m 40 then LParen else if eqb m 41 then RParen else if eqb m 44 then Comma else Colon
+abbrev pub mark_kind : ℕ → Out TokenKind
+mark_kind m = if eqb m 40 then done LParen else if eqb m 41 then done RParen else if eqb m 44 then done Comma else done Colon
 
 -- ---- cases
 
@@ -60,14 +59,14 @@ unfolding is_separator
 not_separator c p q r s t = rw (ne_eqb c 40 p, ne_eqb c 41 q, ne_eqb c 44 r, ne_eqb c 58 s, ne_eqb c 32 t)
 
 -- every token, by the first byte behind the spaces: P holds of it where P holds in each of the five cases
-pub record Cases (text : List ℕ) (p : ℕ) (P : Token → Type 0) : Type 0 where
-  pub over : length text ≤ p → P (token (Refused 5) p 0)
+pub record Cases (text : List ℕ) (p : ℕ) (P : Standing → Type 0) : Type 0 where
+  pub over : length text ≤ p → P (token (refuse 5) p 0)
   pub mark : (m : ℕ) → T (is_mark m) → p < length text → get_or text p 0 ≡ m → P (token (mark_kind m) p 1)
   pub double : p < length text → get_or text p 0 ≡ 34 → P (string_token DoubleQuotedString p (until_quote 34 false (drop (p + 1) text)))
   pub single : p < length text → get_or text p 0 ≡ 39 → P (string_token SingleQuotedString p (until_quote 39 false (drop (p + 1) text)))
   pub word : p < length text → is_separator (get_or text p 0) ≡ false → P (token (word_kind (word_of (drop p text))) p (length (word_of (drop p text))))
 
-module _ (text : List ℕ) (at : ℕ) (P : Token → Type 0) (k : Cases text (after_spaces text at) P) where
+module _ (text : List ℕ) (at : ℕ) (P : Standing → Type 0) (k : Cases text (after_spaces text at) P) where
   inside : after_spaces text at < length text → P (token_at text at)
   inside h =
       let p = after_spaces text at in
@@ -104,21 +103,21 @@ module _ (text : List ℕ) (at : ℕ) (h : after_spaces text at < length text) w
 -- ---- what holds of every word's token
 
 -- a test passes for each word of a list and its token
-abbrev pub all_listed : (List ℕ → TokenKind → Bool) → List Listed → Bool
+abbrev pub all_listed : (List ℕ → Out TokenKind → Bool) → List Listed → Bool
 all_listed q [] = true
-all_listed q (l ∷ ls) = q l.word l.kind && all_listed q ls
+all_listed q (l ∷ ls) = q l.word (done l.kind) && all_listed q ls
 
-module _ (q : List ℕ → TokenKind → Bool) where
-  find-holds : (w : List ℕ) (ls : List Listed) → T (all_listed q ls) → T (q w (Refused 8)) → T (q w (find w ls).kind)
+module _ (q : List ℕ → Out TokenKind → Bool) where
+  find-holds : (w : List ℕ) (ls : List Listed) → T (all_listed q ls) → T (q w (refuse 8)) → T (q w (find w ls))
   find-holds w [] t r = r
   find-holds w (l ∷ ls) t r =
-      choice (λ (x : Listed). T (q w x.kind)) (same w l.word) l (find w ls)
-      (λ e. subst (λ (v : List ℕ). T (q v l.kind)) (sym (same_path w l.word (of_true (same w l.word) e)))
-      (and_l (q l.word l.kind) (all_listed q ls) t))
-      (λ e. find-holds w ls (and_r (q l.word l.kind) (all_listed q ls) t) r)
+      choice (λ (x : Out TokenKind). T (q w x)) (same w l.word) (done l.kind) (find w ls)
+      (λ e. subst (λ (v : List ℕ). T (q v (done l.kind))) (sym (same_path w l.word (of_true (same w l.word) e)))
+      (and_l (q l.word (done l.kind)) (all_listed q ls) t))
+      (λ e. find-holds w ls (and_r (q l.word (done l.kind)) (all_listed q ls) t) r)
 
-  module _ (number : (w : List ℕ) (negative : Bool) (v : ℕ) → v ≤ 9223372036854775808 → T (q w (Integer negative v)))
-      (none : (w : List ℕ) → T (q w (Refused 8))) (listed : T (all_listed q words)) where
+  module _ (number : (w : List ℕ) (negative : Bool) (v : ℕ) → v ≤ 9223372036854775808 → T (q w (done (Integer (signed negative v)))))
+      (none : (w : List ℕ) → T (q w (refuse 8))) (listed : T (all_listed q words)) where
     most : (negative : Bool) (digits : List ℕ) → is_number negative digits ≡ true → number_from 0 digits ≤ 9223372036854775808
     most negative [] e = absurd (let z : ◌≡◌ {A = ℕ} 0 1 = ap (λ (b : Bool). if b then 1 else 0) e in omega arith)
     most negative (d ∷ ds) e =
@@ -129,16 +128,16 @@ module _ (q : List ℕ → TokenKind → Bool) where
 
     number-holds : (w : List ℕ) (negative : Bool) (digits : List ℕ) → T (q w (number_kind negative digits))
     number-holds w negative digits =
-        choice (λ (k : TokenKind). T (q w k)) (is_number negative digits) (Integer negative (number_from 0 digits)) (Refused 8)
+        choice (λ (k : Out TokenKind). T (q w k)) (is_number negative digits) (done (Integer (signed negative (number_from 0 digits)))) (refuse 8)
         (λ e. number w negative (number_from 0 digits) (most negative digits e))
         (λ e. none w)
 
     pub word_holds : (c : ℕ) (w : List ℕ) → T (q (c ∷ w) (word_kind (c ∷ w)))
     unfolding word_kind
     word_holds c w =
-        choice (λ (k : TokenKind). T (q (c ∷ w) k)) (eqb c 45) (number_kind true w) (if is_digit c then number_kind false (c ∷ w) else (find (c ∷ w) words).kind)
+        choice (λ (k : Out TokenKind). T (q (c ∷ w) k)) (eqb c 45) (number_kind true w) (if is_digit c then number_kind false (c ∷ w) else (find (c ∷ w) words))
         (λ e. number-holds (c ∷ w) true w)
-        (λ e. choice (λ (k : TokenKind). T (q (c ∷ w) k)) (is_digit c) (number_kind false (c ∷ w)) (find (c ∷ w) words).kind
+        (λ e. choice (λ (k : Out TokenKind). T (q (c ∷ w) k)) (is_digit c) (number_kind false (c ∷ w)) (find (c ∷ w) words)
         (λ f. number-holds (c ∷ w) false (c ∷ w))
         (λ f. find-holds (c ∷ w) words listed (none (c ∷ w))))
 
@@ -163,7 +162,7 @@ starts sort c =
     else true
 
 -- the byte that begins a sort does, or the token is none
-string_starts : (k : TokenKind) (c p : ℕ) (o : Option ℕ) → T (starts (sort_of k) c) → T (starts (sort_of (string_token k p o).kind) c)
+string_starts : (k : TokenKind) (c p : ℕ) (o : Option ℕ) → T (starts (sort_of (done k)) c) → T (starts (sort_of (string_token k p o).kind) c)
 string_starts k c p none t = tt
 string_starts k c p (some zero) t = tt
 string_starts k c p (some (suc n)) t = t
@@ -200,7 +199,7 @@ module _ (text : List ℕ) (at : ℕ) where
   -- where the text is over, no token stands
   pub text-over : length text ≤ after_spaces text at → (sort : ℕ) → eqb no_token sort ≡ false → eqb (sort_of (token_at text at).kind) sort ≡ false
   text-over h sort n =
-      ap (λ (t : Token). eqb (sort_of t.kind) sort) (sym (token_end text at (after_spaces text at) refl h)) ∙ n
+      ap (λ (t : Standing). eqb (sort_of t.kind) sort) (sym (token_end text at (after_spaces text at) refl h)) ∙ n
 
   pub no-lparen : (get_or text (after_spaces text at) 0 ≡ 40 → ⊥) → eqb (sort_of (token_at text at).kind) lparen ≡ false
   no-lparen = other_byte lparen 40 (λ c. refl)
@@ -226,7 +225,7 @@ module _ (text : List ℕ) (at : ℕ) where
 -- ---- bounds
 
 -- A token's bounds. Only a refusal may be empty.
-pub record Bounds (text : List ℕ) (at : ℕ) (t : Token) : Type 0 where
+pub record Bounds (text : List ℕ) (at : ℕ) (t : Standing) : Type 0 where
   pub behind : at ≤ t.start
   pub onward : at ≤ t.next
   pub within : t.next ≤ max at (length text)
@@ -237,7 +236,7 @@ pub record Bounds (text : List ℕ) (at : ℕ) (t : Token) : Type 0 where
   pub bytes : (sort_of t.kind ≡ no_token → ⊥) → t.start + t.size ≤ length text
 
 module _ (text : List ℕ) (at p : ℕ) (e : Skipped text at p) where
-  refused-bounds : (n : ℕ) → Bounds text at (token (Refused n) p 0)
+  refused-bounds : (n : ℕ) → Bounds text at (token (refuse n) p 0)
   refused-bounds n =
       let b = e.behind in
       let i = e.inside in
@@ -252,7 +251,7 @@ module _ (text : List ℕ) (at p : ℕ) (e : Skipped text at p) where
         bytes = λ f. absurd (f refl);
       }
 
-  token-bounds : (k : TokenKind) (size : ℕ) → 1 ≤ size → p + size ≤ length text → Bounds text at (token k p size)
+  token-bounds : (k : Out TokenKind) (size : ℕ) → 1 ≤ size → p + size ≤ length text → Bounds text at (token k p size)
   token-bounds k size s h =
       let b = e.behind in
       record {
@@ -322,7 +321,7 @@ in_range sort v =
     else if eqb sort integer then leb v 9223372036854775808
     else true
 
-string_values : (k : TokenKind) (p : ℕ) (o : Option ℕ) → T (in_range (sort_of k) (value_of k))
+string_values : (k : TokenKind) (p : ℕ) (o : Option ℕ) → T (in_range (sort_of (done k)) (value_of (done k)))
     → T (in_range (sort_of (string_token k p o).kind) (value_of (string_token k p o).kind))
 string_values k p none t = tt
 string_values k p (some zero) t = tt
@@ -332,7 +331,7 @@ word_values : (c : ℕ) (w : List ℕ) → T (in_range (sort_of (word_kind (c �
 unfolding words
 word_values =
     word_holds (λ w k. in_range (sort_of k) (value_of k))
-    (λ w negative v h. of_true (leb v 9223372036854775808) (le-leb v 9223372036854775808 h)) (λ w. tt) tt
+    (λ w negative v h. rw (abs_signed negative v) (of_true (leb v 9223372036854775808) (le-leb v 9223372036854775808 h))) (λ w. tt) tt
 
 module _ (text : List ℕ) (at : ℕ) where
   pub values : T (in_range (sort_of (token_at text at).kind) (value_of (token_at text at).kind))

@@ -9,15 +9,17 @@ use native.Mathlib.Omega.{arith}
 use native.Mathlib.Numerals.{add-one}
 use lib.ListN.{length, take, drop, get_or, drop_of_length-le, length-drop}
 use lib.Seq.{drop-cons}
-use lib.Dec.{eqb}
-use borrow.Author.Tests.{eq-eqb, ne_eqb, eqb-false}
-use Rattle.tokenizer.specs.Token.{token, is_separator, word_of, word_kind, escaped_after, until_quote, string_token}
+use native.Mathlib.Decide.{dec_lt}
+use lib.Dec.{eqb, ltb, ltb→lt}
+use borrow.Author.Tests.{eq-eqb, ne_eqb, eqb-false, lt-ltb, le-ltb}
+use Rattle.std.specs.declared.option.Option as S
+use Rattle.std.specs.declared.option.Option.TheVariants.{Some, None}
+use Rattle.tokenizer.specs.Answer.{done, refuse}
+use Rattle.tokenizer.specs.Token.{Standing, token, is_separator, word_of, escaped_after, until_quote, string_token}
 use Rattle.tokenizer.specs.Places.{spaces_from, after_spaces}
-use Rattle.tokenizer.specs.Internal.Ends.{word_end, closes, place_or, quote_end}
-use Rattle.tokenizer.specs.declared.Token.{Token}
+use Rattle.tokenizer.specs.Internal.Ends.{word_end, closes, place_or, quote_end, mark_place}
 use Rattle.tokenizer.specs.declared.TokenKind.{TokenKind}
-use Rattle.tokenizer.specs.declared.TokenKind.TheVariants.{Refused}
-use Rattle.tokenizer.proofs.Basics.{skip}
+use Rattle.tokenizer.proofs.Basics.{skip, of_true}
 
 -- ---- spaces
 
@@ -33,6 +35,14 @@ module _ (text : List ℕ) (i : ℕ) where
   pub spaces-go : i < length text → get_or text i 0 ≡ 32 → after_spaces text i ≡ after_spaces text (i + 1)
   unfolding after_spaces spaces_from
   spaces-go h e = rw (drop-cons text i 0 h, eq-eqb (get_or text i 0) 32 e, add-one i)
+
+-- a search from a place on that has come to the end of a text: it ends there, or at the place where that is behind the end
+pub at_end : (end : ℕ → ℕ) (l from at : ℕ) → ((i : ℕ) → l ≤ i → end i ≡ i) → end from ≡ end at → l ≤ at → (from ≤ l → at ≤ l) → max from l ≡ end from
+at_end end l from at out e h k =
+    elim (dec_lt l from) [
+      | yes m ↦ (let t : max from l ≡ from = omega arith in t ∙ sym (out from (omega arith)))
+      | no m ↦ (let t : max from l ≡ at = let q = k (omega arith) in omega arith in t ∙ sym (e ∙ out at h))
+    ]
 
 -- where the spaces end: at or behind the place, inside the text or at its end, and at no space
 pub record Skipped (text : List ℕ) (at p : ℕ) : Type 0 where
@@ -99,23 +109,18 @@ unfolding word_of
 word_part [] = none_part []
 word_part (c ∷ s) = either (is_separator c) [] (c ∷ word_of s) (c ∷ s) (none_part (c ∷ s)) (more_part c s (word_of s) (word_part s))
 
-module _ (text : List ℕ) (at end : ℕ) (h : at < length text) (e : end ≡ word_end text at) where
-  pub word-least : at ≤ end
-  unfolding word_end
-  word-least = omega arith
-
-  pub word-most : end ≤ length text
-  unfolding word_end
-  word-most = let w = (word_part (drop at text)).within in omega (arith, length-drop at text)
-
-  pub word_is : (k : TokenKind) → k ≡ word_kind (take (end - at) (drop at text))
-      → token k at (end - at) ≡ token (word_kind (word_of (drop at text))) at (length (word_of (drop at text)))
-  unfolding word_end
-  word_is k f =
-      let n : end - at ≡ length (word_of (drop at text)) = omega arith in
-      rw (f, n, (word_part (drop at text)).cut)
-
 -- ---- quoted strings
+
+abbrev some_or : ℕ → S.Option ℕ → ℕ
+some_or n None = n
+some_or n (Some m) = m
+
+abbrev number_some : S.Option ℕ → ℕ
+number_some None = 0
+number_some (Some m) = 1
+
+some_none : {n : ℕ} → Some n ≡ None → ⊥
+some_none e = absurd (let z : ◌≡◌ {A = ℕ} 1 0 = ap number_some e in omega arith)
 
 shift : (end i : ℕ) (o : Option ℕ) → place_or end i (map suc o) ≡ place_or end (suc i) o
 shift end i none = refl
@@ -136,6 +141,37 @@ module _ (text : List ℕ) (quote : ℕ) (escaped : Bool) (i : ℕ) where
   quote-go h e =
       rw (drop-cons text i 0 h, e, add-one i)
       (shift (length text) i (until_quote quote (escaped_after quote escaped (get_or text i 0)) (drop (suc i) text)))
+
+-- the place of the mark that ends a string, if one does
+module _ (text : List ℕ) (quote : ℕ) (escaped : Bool) (at : ℕ) where
+  pub mark-found : (n : ℕ) → n < length text → quote_end text quote escaped at ≡ n → Some n ≡ mark_place text quote escaped at
+  mark-found n h e = rw (e, lt-ltb n (length text) h)
+
+  pub mark-none : length text ≤ quote_end text quote escaped at → None ≡ mark_place text quote escaped at
+  mark-none h = rw (le-ltb (quote_end text quote escaped at) (length text) h)
+
+  found : (b : Bool) (n : ℕ) → ltb (quote_end text quote escaped at) (length text) ≡ b → Some n ≡ (if b then Some (quote_end text quote escaped at) else None)
+      → (n < length text) × (n ≡ quote_end text quote escaped at)
+  found true n h e =
+      let f : n ≡ quote_end text quote escaped at = ap (λ (o : S.Option ℕ). some_or n o) e in
+      let l = ltb→lt (quote_end text quote escaped at) (length text) (of_true (ltb (quote_end text quote escaped at) (length text)) h) in
+      (omega arith, f)
+  found false n h e = absurd (some_none e)
+
+  pub mark-at : (n : ℕ) → Some n ≡ mark_place text quote escaped at → (n < length text) × (n ≡ quote_end text quote escaped at)
+  mark-at n e = found (ltb (quote_end text quote escaped at) (length text)) n refl e
+
+  lost : (b : Bool) → ltb (quote_end text quote escaped at) (length text) ≡ b → None ≡ (if b then Some (quote_end text quote escaped at) else None)
+      → length text ≤ quote_end text quote escaped at
+  lost true h e = absurd (some_none (sym e))
+  lost false h e =
+      elim (dec_lt (quote_end text quote escaped at) (length text)) [
+        | yes m ↦ absurd (let z : ◌≡◌ {A = ℕ} 1 0 = ap (λ (x : Bool). if x then 1 else 0) (sym (lt-ltb _ _ m) ∙ h) in omega arith)
+        | no m ↦ omega arith
+      ]
+
+  pub no-mark-at : None ≡ mark_place text quote escaped at → length text ≤ quote_end text quote escaped at
+  no-mark-at e = lost (ltb (quote_end text quote escaped at) (length text)) refl e
 
 -- a number of bytes, if there is one, is below a length
 unfoldable pub Within : ℕ → Option ℕ → Type 0
@@ -161,38 +197,38 @@ until_within quote escaped (c ∷ s) =
 
 -- the string by the place of the mark that ends it, its bytes starting at a place of a text with l bytes behind that place
 module _ (k : TokenKind) (l at end : ℕ) (h : at < l) where
-  open_by : (o : Option ℕ) → Within (l - (at + 1)) o → end ≡ place_or l (at + 1) o → l ≤ end → token (Refused 6) at 0 ≡ string_token k at o
+  open_by : (o : Option ℕ) → Within (l - (at + 1)) o → end ≡ place_or l (at + 1) o → l ≤ end → token (refuse 6) at 0 ≡ string_token k at o
   unfolding Within
   open_by none w e m = refl
   open_by (some zero) w e m = absurd (omega arith)
   open_by (some (suc n)) w e m = absurd (omega arith)
 
-  empty-by : (o : Option ℕ) → end ≡ place_or l (at + 1) o → end < l → end ≤ at + 1 → token (Refused 7) at 0 ≡ string_token k at o
+  empty-by : (o : Option ℕ) → end ≡ place_or l (at + 1) o → end < l → end ≤ at + 1 → token (refuse 7) at 0 ≡ string_token k at o
   empty-by none e m i = absurd (omega arith)
   empty-by (some zero) e m i = refl
   empty-by (some (suc n)) e m i = absurd (omega arith)
 
   whole_by : (o : Option ℕ) → end ≡ place_or l (at + 1) o → end < l → at + 1 < end
-      → ◌≡◌ {A = Token} (record { kind = k; start = at + 1; size = end - (at + 1); next = end + 1 }) (string_token k at o)
+      → ◌≡◌ {A = Standing} (record { kind = done k; start = at + 1; size = end - (at + 1); next = end + 1 }) (string_token k at o)
   whole_by none e m i = absurd (omega arith)
   whole_by (some zero) e m i = absurd (omega arith)
   whole_by (some (suc n)) e m i =
       let p : end - (at + 1) ≡ suc n = omega arith in
       let q : end + 1 ≡ at + 1 + suc n + 1 = omega arith in
-      λ j. record { kind = k; start = at + 1; size = p j; next = q j }
+      λ j. record { kind = done k; start = at + 1; size = p j; next = q j }
 
 module _ (k : TokenKind) (text : List ℕ) (quote at end : ℕ) (h : at < length text) (e : end ≡ quote_end text quote false (at + 1)) where
-  pub string-open : length text ≤ end → token (Refused 6) at 0 ≡ string_token k at (until_quote quote false (drop (at + 1) text))
+  pub string-open : length text ≤ end → token (refuse 6) at 0 ≡ string_token k at (until_quote quote false (drop (at + 1) text))
   unfolding quote_end
   string-open m =
       open_by k (length text) at end h (until_quote quote false (drop (at + 1) text))
       (rw (length-drop (at + 1) text) at (until_within quote false (drop (at + 1) text))) e m
 
-  pub string-empty : end < length text → end ≤ at + 1 → token (Refused 7) at 0 ≡ string_token k at (until_quote quote false (drop (at + 1) text))
+  pub string-empty : end < length text → end ≤ at + 1 → token (refuse 7) at 0 ≡ string_token k at (until_quote quote false (drop (at + 1) text))
   unfolding quote_end
   string-empty m i = empty-by k (length text) at end h (until_quote quote false (drop (at + 1) text)) e m i
 
   pub string-whole : end < length text → at + 1 < end
-      → ◌≡◌ {A = Token} (record { kind = k; start = at + 1; size = end - (at + 1); next = end + 1 }) (string_token k at (until_quote quote false (drop (at + 1) text)))
+      → ◌≡◌ {A = Standing} (record { kind = done k; start = at + 1; size = end - (at + 1); next = end + 1 }) (string_token k at (until_quote quote false (drop (at + 1) text)))
   unfolding quote_end
   string-whole m i = whole_by k (length text) at end h (until_quote quote false (drop (at + 1) text)) e m i

@@ -10,9 +10,10 @@ use lib.ListN.{length, drop, get_or, drop_of_length-le}
 use lib.Seq.{drop-cons}
 use lib.Dec.{eqb}
 use borrow.Author.Tests.{ne_eqb}
+use Rattle.tokenizer.specs.Answer.{done, refuse}
 use Rattle.tokenizer.specs.Token.{token, word_of, word_kind, until_quote, string_token, token_from, token_at}
 use Rattle.tokenizer.specs.Places.{spaces_from, after_spaces}
-use Rattle.tokenizer.specs.declared.TokenKind.TheVariants.{LParen, RParen, Comma, Colon, DoubleQuotedString, SingleQuotedString, Refused}
+use Rattle.tokenizer.specs.declared.TokenKind.TheVariants.{LParen, RParen, Comma, Colon, DoubleQuotedString, SingleQuotedString}
 use Rattle.tokenizer.proofs.Basics.{skip}
 use Rattle.tokenizer.proofs.Runs.{spaces-out, spaces-stop, spaces-end}
 
@@ -46,7 +47,7 @@ module _ (text : List ℕ) where
 -- ---- the token at a place that holds no space
 
 module _ (text : List ℕ) (from at : ℕ) (e : at ≡ after_spaces text from) where
-  pub token_end : length text ≤ at → token (Refused 5) at 0 ≡ token_at text from
+  pub token_end : length text ≤ at → token (refuse 5) at 0 ≡ token_at text from
   unfolding token_at token_from
   token_end h = sym (token-spaces text from ∙ rw (← e, drop_of_length-le text h))
 
@@ -55,19 +56,19 @@ module _ (text : List ℕ) (from at : ℕ) (e : at ≡ after_spaces text from) w
     unfolding token_at
     here = token-spaces text from ∙ rw (← e, drop-cons text at 0 h)
 
-    pub token-40 : get_or text at 0 ≡ 40 → token LParen at 1 ≡ token_at text from
+    pub token-40 : get_or text at 0 ≡ 40 → token (done LParen) at 1 ≡ token_at text from
     unfolding token_from
     token-40 c = rw (here, c)
 
-    pub token-41 : get_or text at 0 ≡ 41 → token RParen at 1 ≡ token_at text from
+    pub token-41 : get_or text at 0 ≡ 41 → token (done RParen) at 1 ≡ token_at text from
     unfolding token_from
     token-41 c = rw (here, c)
 
-    pub token-44 : get_or text at 0 ≡ 44 → token Comma at 1 ≡ token_at text from
+    pub token-44 : get_or text at 0 ≡ 44 → token (done Comma) at 1 ≡ token_at text from
     unfolding token_from
     token-44 c = rw (here, c)
 
-    pub token-58 : get_or text at 0 ≡ 58 → token Colon at 1 ≡ token_at text from
+    pub token-58 : get_or text at 0 ≡ 58 → token (done Colon) at 1 ≡ token_at text from
     unfolding token_from
     token-58 c = rw (here, c)
 

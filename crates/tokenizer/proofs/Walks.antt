@@ -11,12 +11,12 @@ use lib.ListN.{length, drop, get_or, get_or-eq_default}
 use lib.Seq.{get_or-drop}
 use lib.Dec.{T, eqb}
 use borrow.Author.Tests.{eq-eqb, eqb-true, lt-ltb, le-ltb}
+use Rattle.tokenizer.specs.Answer.{Out, done, refuse}
 use Rattle.tokenizer.specs.Text.{same}
 use Rattle.tokenizer.specs.Words.{Listed, words, find}
 use Rattle.tokenizer.specs.Edges.{places, edges}
 use Rattle.tokenizer.specs.WordTable.{edge_of, leads_on, step, ending, walk, token_of_number, walk_kind}
 use Rattle.tokenizer.specs.declared.TokenKind.{TokenKind}
-use Rattle.tokenizer.specs.declared.TokenKind.TheVariants.{Refused}
 use Rattle.tokenizer.proofs.Basics.{and_l, and_r, of_true}
 use Rattle.tokenizer.proofs.Listed.{same_path}
 
@@ -51,16 +51,16 @@ abbrev words_of : List Listed → List (List ℕ)
 words_of [] = []
 words_of (l ∷ ls) = l.word ∷ words_of ls
 
-abbrev kinds_of : List Listed → List TokenKind
+abbrev kinds_of : List Listed → List (Out TokenKind)
 kinds_of [] = []
-kinds_of (l ∷ ls) = l.kind ∷ kinds_of ls
+kinds_of (l ∷ ls) = done l.kind ∷ kinds_of ls
 
-abbrev walked : List Listed → List TokenKind
+abbrev walked : List Listed → List (Out TokenKind)
 walked [] = []
 walked (l ∷ ls) = walk_kind edges l.word ∷ walked ls
 
 -- The rule of the entire table: each listed word ends at its token, and no other word at any.
-rule : ◌≡◌ {A = List TokenKind × Bool} (walked words, right 16 0 (words_of words)) (kinds_of words, true)
+rule : ◌≡◌ {A = List (Out TokenKind) × Bool} (walked words, right 16 0 (words_of words)) (kinds_of words, true)
 unfolding edges step ending walk token_of_number words
 rule = refl
 
@@ -130,32 +130,32 @@ told (suc n) s us (b ∷ v) t =
 
 -- ---- the law
 
-head_or : TokenKind → List TokenKind → TokenKind
+head_or : Out TokenKind → List (Out TokenKind) → Out TokenKind
 head_or k [] = k
 head_or k (x ∷ xs) = x
 
-tail_of : List TokenKind → List TokenKind
+tail_of : List (Out TokenKind) → List (Out TokenKind)
 tail_of [] = []
 tail_of (x ∷ xs) = xs
 
 module _ (w : List ℕ) where
-  one-of-more : (l : Listed) (ls : List Listed) (x : Bool) → same w l.word ≡ x → walk_kind edges l.word ≡ l.kind
-      → (Told 0 w (words_of ls) → walk_kind edges w ≡ (find w ls).kind)
-      → T (eqb (walk edges 0 w) 0 || (x || is_one_of w (words_of ls))) → walk_kind edges w ≡ (if x then l else find w ls).kind
+  one-of-more : (l : Listed) (ls : List Listed) (x : Bool) → same w l.word ≡ x → walk_kind edges l.word ≡ done l.kind
+      → (Told 0 w (words_of ls) → walk_kind edges w ≡ find w ls)
+      → T (eqb (walk edges 0 w) 0 || (x || is_one_of w (words_of ls))) → walk_kind edges w ≡ (if x then done l.kind else find w ls)
   one-of-more l ls true e k i t = ap (walk_kind edges) (same_path w l.word (of_true (same w l.word) e)) ∙ k
   one-of-more l ls false e k i t = i t
 
-  found : (ls : List Listed) → walked ls ≡ kinds_of ls → Told 0 w (words_of ls) → walk_kind edges w ≡ (find w ls).kind
+  found : (ls : List Listed) → walked ls ≡ kinds_of ls → Told 0 w (words_of ls) → walk_kind edges w ≡ find w ls
   unfolding token_of_number head_or tail_of
   found [] k t = go (eqb (walk edges 0 w) 0) refl t where
-    go : (x : Bool) → eqb (walk edges 0 w) 0 ≡ x → T (x || false) → walk_kind edges w ≡ Refused 8
+    go : (x : Bool) → eqb (walk edges 0 w) 0 ≡ x → T (x || false) → walk_kind edges w ≡ refuse 8
     go true e t = rw (eqb-true (walk edges 0 w) 0 e)
     go false e t = absurd t
   found (l ∷ ls) k t =
-      one-of-more l ls (same w l.word) refl (ap (head_or l.kind) k) (λ u. found ls (ap tail_of k) u) t
+      one-of-more l ls (same w l.word) refl (ap (head_or (done l.kind)) k) (λ u. found ls (ap tail_of k) u) t
 
 -- Every word, listed or not, the empty one too, is by the walk what it is by comparison with each listed word.
-pub walk_find : (w : List ℕ) → walk_kind edges w ≡ (find w words).kind
+pub walk_find : (w : List ℕ) → walk_kind edges w ≡ find w words
 walk_find w =
-    found w words (ap (λ (r : List TokenKind × Bool). r.0) rule)
-    (told 16 0 (words_of words) w (of_true (right 16 0 (words_of words)) (ap (λ (r : List TokenKind × Bool). r.1) rule)))
+    found w words (ap (λ (r : List (Out TokenKind) × Bool). r.0) rule)
+    (told 16 0 (words_of words) w (of_true (right 16 0 (words_of words)) (ap (λ (r : List (Out TokenKind) × Bool). r.1) rule)))

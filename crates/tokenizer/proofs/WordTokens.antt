@@ -1,6 +1,6 @@
 -- The token of a word by a walk through a table: what the code meets, and that the listed words' table gives `token_at`.
 use mathlib.Core.Path.{◌≡◌, refl, sym, ap, ◌∙◌, subst}
-use mathlib.Core.Bool.{Bool, true, false}
+use mathlib.Core.Bool.{Bool, true, false, ◌||◌}
 use mathlib.Core.List.{List, [], ◌∷◌}
 use Prim.Native.Nat.{ℕ, suc, ◌+◌, ◌-◌, ◌/◌, ◌%◌, ◌≤◌, ◌<◌}
 use native.Mathlib.Omega.{arith}
@@ -10,14 +10,14 @@ use lib.ListN.{length, take, drop, get_or, drop_of_length-le, length-drop}
 use lib.Seq.{drop-cons}
 use lib.Dec.{T, eqb}
 use borrow.Author.Tests.{eq-eqb, ne_eqb, lt-ltb, le-ltb}
-use Rattle.tokenizer.specs.Token.{token, is_separator, word_of, is_digit, number_kind, word_kind, token_at}
+use Rattle.tokenizer.specs.Answer.{Out, refuse}
+use Rattle.tokenizer.specs.Token.{Standing, token, token_or_refusal, is_separator, word_of, is_digit, word_kind, token_at}
 use Rattle.tokenizer.specs.Places.{after_spaces}
 use Rattle.tokenizer.specs.Edges.{places, edges}
 use Rattle.tokenizer.specs.WordTable.{edge_of, step, ending, walk, token_of_number, walk_kind, word_kind_by, begins_word, token_by}
 use Rattle.tokenizer.specs.Internal.Ends.{word_end}
-use Rattle.tokenizer.specs.declared.Token.{Token}
+use Rattle.tokenizer.specs.Internal.Digits.{begins_number}
 use Rattle.tokenizer.specs.declared.TokenKind.{TokenKind}
-use Rattle.tokenizer.specs.declared.TokenKind.TheVariants.{DataType, TimeUnit, IntervalUnit, UnionMode, MapSorted, Nullability, Field, Some, None, X, Refused}
 use Rattle.tokenizer.proofs.Runs.{word_out, word-stop, word-go, word_part, spaces-end}
 use Rattle.tokenizer.proofs.Tokens.{token-word}
 use Rattle.tokenizer.proofs.Marks.{case, not_separator, word_first}
@@ -44,70 +44,6 @@ module _ (t : List ℕ) (s : ℕ) where
     pub ends-not : (get_or t (s + 32) 0 % 256 ≡ 32 → ⊥) → 0 ≡ ending t s
     unfolding ending
     ends-not o = rw (← edge_in 32 h, ne_eqb (get_or t (s + 32) 0 % 256) 32 o)
-
--- ---- a token's number
-
-module _ (n : ℕ) where
-  pub no-token : n ≡ 0 → Refused 8 ≡ token_of_number n
-  unfolding token_of_number
-  no-token e = rw e
-
-  pub type-word : (n ≡ 0 → ⊥) → n < 42 → DataType (n - 1) ≡ token_of_number n
-  unfolding token_of_number
-  type-word l h = rw (ne_eqb n 0 l, lt-ltb n 42 h)
-
-  pub time-unit : 42 ≤ n → n < 46 → TimeUnit (n - 42) ≡ token_of_number n
-  unfolding token_of_number
-  time-unit l h = rw (ne_eqb n 0 (λ e. omega arith), le-ltb n 42 (omega arith), lt-ltb n 46 h)
-
-  pub interval-unit : 46 ≤ n → n < 49 → IntervalUnit (n - 46) ≡ token_of_number n
-  unfolding token_of_number
-  interval-unit l h = rw (ne_eqb n 0 (λ e. omega arith), le-ltb n 42 (omega arith), le-ltb n 46 (omega arith), lt-ltb n 49 h)
-
-  pub union-mode : 49 ≤ n → n < 51 → UnionMode (n - 49) ≡ token_of_number n
-  unfolding token_of_number
-  union-mode l h = rw (ne_eqb n 0 (λ e. omega arith), le-ltb n 42 (omega arith), le-ltb n 46 (omega arith), le-ltb n 49 (omega arith), lt-ltb n 51 h)
-
-  pub map-sorted : 51 ≤ n → n < 53 → MapSorted (n - 51) ≡ token_of_number n
-  unfolding token_of_number
-  map-sorted l h = rw (ne_eqb n 0 (λ e. omega arith), le-ltb n 42 (omega arith), le-ltb n 46 (omega arith), le-ltb n 49 (omega arith), le-ltb n 51 (omega arith), lt-ltb n 53 h)
-
-  pub nullability : 53 ≤ n → n < 55 → Nullability (n - 52) ≡ token_of_number n
-  unfolding token_of_number
-  nullability l h = rw (ne_eqb n 0 (λ e. omega arith), le-ltb n 42 (omega arith), le-ltb n 46 (omega arith), le-ltb n 49 (omega arith), le-ltb n 51 (omega arith), le-ltb n 53 (omega arith), lt-ltb n 55 h)
-
-  pub field-word : n ≡ 55 → Field ≡ token_of_number n
-  unfolding token_of_number
-  field-word e = rw e
-
-  pub some_word : n ≡ 56 → Some ≡ token_of_number n
-  unfolding token_of_number
-  some_word e = rw e
-
-  pub none-word : n ≡ 57 → None ≡ token_of_number n
-  unfolding token_of_number
-  none-word e = rw e
-
-  pub x-word : n ≡ 58 → X ≡ token_of_number n
-  unfolding token_of_number
-  x-word e = rw e
-
-  pub beyond : 55 ≤ n → (n ≡ 55 → ⊥) → (n ≡ 56 → ⊥) → (n ≡ 57 → ⊥) → (n ≡ 58 → ⊥) → Refused 8 ≡ token_of_number n
-  unfolding token_of_number
-  beyond l a b c d =
-      rw (
-        ne_eqb n 0 (λ e. omega arith),
-        le-ltb n 42 (omega arith),
-        le-ltb n 46 (omega arith),
-        le-ltb n 49 (omega arith),
-        le-ltb n 51 (omega arith),
-        le-ltb n 53 (omega arith),
-        le-ltb n 55 l,
-        ne_eqb n 55 a,
-        ne_eqb n 56 b,
-        ne_eqb n 57 c,
-        ne_eqb n 58 d,
-      )
 
 -- ---- the walk at a place of a text
 
@@ -137,19 +73,13 @@ module _ (t text : List ℕ) (s i : ℕ) where
     unfolding walk step word_of
     walk-lost o = rw (drop-cons text i 0 h, n, ← k, ne_eqb (e % 256) (get_or text i 0) o)
 
+-- a word that is none is refused
+lost_token : (n : ℕ) (o : Out TokenKind) (at size : ℕ) → refuse n ≡ o → refuse n ≡ token_or_refusal (token o at size)
+lost_token n o at size e = subst (λ (p : Out TokenKind). refuse n ≡ token_or_refusal (token p at size)) e refl
+
 -- The token of the word at a place, of a kind that is given.
-abbrev pub word_token : TokenKind → List ℕ → ℕ → Token
+abbrev pub word_token : Out TokenKind → List ℕ → ℕ → Standing
 word_token k text at = token k at (length (word_of (drop at text)))
-
--- a word from a byte on that no edge takes
-module _ (text : List ℕ) (at i : ℕ) where
-  pub lost-within : at ≤ i → (end : ℕ) → end ≡ word_end text i → at ≤ end
-  unfolding word_end
-  lost-within h end f = omega arith
-
-  pub lost-token : (end : ℕ) → end ≡ word_end text i → token (Refused 8) at (end - at) ≡ token (token_of_number 0) at (word_end text i - at)
-  unfolding token_of_number
-  lost-token end f = rw f
 
 -- the walk of the word at a place has come to another place, in a state
 pub record Reached (t text : List ℕ) (at s i : ℕ) : Type 0 where
@@ -163,7 +93,7 @@ pub reached_first : (t text : List ℕ) (at : ℕ) → at < length text → Reac
 reached_first t text at h = record { bound = omega arith; onward = omega arith; within = omega arith; walks = refl; ends = refl }
 
 module _ (t text : List ℕ) (at s i : ℕ) (so : Reached t text at s i) where
-  finish : (k : TokenKind) (end : ℕ) → k ≡ walk_kind t (word_of (drop at text)) → end ≡ word_end text i
+  finish : (k : Out TokenKind) (end : ℕ) → k ≡ walk_kind t (word_of (drop at text)) → end ≡ word_end text i
       → token k at (end - at) ≡ word_token (walk_kind t (word_of (drop at text))) text at
   unfolding word_end
   finish k end f e =
@@ -171,26 +101,30 @@ module _ (t text : List ℕ) (at s i : ℕ) (so : Reached t text at s i) where
       let n : end - at ≡ length (word_of (drop at text)) = omega arith in
       rw (f, n)
 
-  ended : (k : TokenKind) → k ≡ token_of_number (ending t s) → walk t s (word_of (drop i text)) ≡ ending t s → k ≡ walk_kind t (word_of (drop at text))
+  ended : (k : Out TokenKind) → k ≡ token_of_number (ending t s) → walk t s (word_of (drop i text)) ≡ ending t s → k ≡ walk_kind t (word_of (drop at text))
   ended k f w = f ∙ ap token_of_number (sym (so.walks ∙ w))
 
-  pub done-out : (k : TokenKind) → k ≡ token_of_number (ending t s) → length text ≤ i → token k at (i - at) ≡ word_token (walk_kind t (word_of (drop at text))) text at
-  done-out k f h = finish k i (ended k f (walk-out t text s i h)) (sym (word_out text i h))
+  pub done-out : (k : Out TokenKind) → k ≡ token_of_number (ending t s) → length text ≤ i → token k at (length text - at) ≡ word_token (walk_kind t (word_of (drop at text))) text at
+  done-out k f h =
+      let w = so.within in
+      let e : length text ≡ word_end text i = omega (arith, word_out text i h) in
+      finish k (length text) (ended k f (walk-out t text s i h)) e
 
   module _ (h : i < length text) where
-    pub done-stop : (k : TokenKind) → k ≡ token_of_number (ending t s) → is_separator (get_or text i 0) ≡ true
+    pub done-stop : (k : Out TokenKind) → k ≡ token_of_number (ending t s) → is_separator (get_or text i 0) ≡ true
         → token k at (i - at) ≡ word_token (walk_kind t (word_of (drop at text))) text at
     done-stop k f n = finish k i (ended k f (walk-stop t text s i h n)) (sym (word-stop text i h n))
 
     module _ (n : is_separator (get_or text i 0) ≡ false) where
-      lost : walk t s (word_of (drop i text)) ≡ 0 → token (token_of_number 0) at (word_end text i - at) ≡ word_token (walk_kind t (word_of (drop at text))) text at
-      lost w = finish (token_of_number 0) (word_end text i) (ap token_of_number (sym (so.walks ∙ w))) refl
+      lost : walk t s (word_of (drop i text)) ≡ 0 → refuse 8 ≡ token_or_refusal (word_token (walk_kind t (word_of (drop at text))) text at)
+      unfolding token_of_number
+      lost w = lost_token 8 _ at _ (ap token_of_number (sym (so.walks ∙ w)))
 
-      pub done-out-of-table : places ≤ s + get_or text i 0 → token (token_of_number 0) at (word_end text i - at) ≡ word_token (walk_kind t (word_of (drop at text))) text at
+      pub done-out-of-table : places ≤ s + get_or text i 0 → refuse 8 ≡ token_or_refusal (word_token (walk_kind t (word_of (drop at text))) text at)
       done-out-of-table l = lost (walk-beyond t text s i h n l)
 
       module _ (l : s + get_or text i 0 < places) where
-        pub done-lost : (get_or t (s + get_or text i 0) 0 % 256 ≡ get_or text i 0 → ⊥) → token (token_of_number 0) at (word_end text i - at) ≡ word_token (walk_kind t (word_of (drop at text))) text at
+        pub done-lost : (get_or t (s + get_or text i 0) 0 % 256 ≡ get_or text i 0 → ⊥) → refuse 8 ≡ token_or_refusal (word_token (walk_kind t (word_of (drop at text))) text at)
         done-lost o = lost (walk-lost t text s i h n (get_or t (s + get_or text i 0) 0) (edge_in t s (get_or text i 0) l) o)
 
         pub reached-next : get_or t (s + get_or text i 0) 0 % 256 ≡ get_or text i 0 → (r : ℕ) → (r ≡ get_or t (s + get_or text i 0) 0 / 256 + get_or text i 0) × (r ≤ 510) → Reached t text at r (i + 1)
@@ -201,40 +135,53 @@ module _ (t text : List ℕ) (at s i : ℕ) (so : Reached t text at s i) where
 
 -- ---- a number
 
-module _ (text : List ℕ) (from end : ℕ) (h : from ≤ length text) (e : end ≡ word_end text from) where
-  pub digits-end : from ≤ end
+module _ (text : List ℕ) (at end : ℕ) (h : at < length text) (e : end ≡ word_end text at) where
+  pub word_least : at ≤ end
   unfolding word_end
-  digits-end = omega arith
+  word_least = omega arith
 
-  pub digits-within : end ≤ length text
+  pub word_most : end ≤ length text
   unfolding word_end
-  digits-within = let w = (word_part (drop from text)).within in omega (arith, length-drop from text)
+  word_most = let w = (word_part (drop at text)).within in omega (arith, length-drop at text)
 
-  pub digits-token : (at : ℕ) (negative : Bool) (k : TokenKind) → k ≡ number_kind negative (take (end - from) (drop from text))
-      → token k at (end - at) ≡ token (number_kind negative (word_of (drop from text))) at (word_end text from - at)
+  pub word_cut : take (end - at) (drop at text) ≡ word_of (drop at text)
   unfolding word_end
-  digits-token at negative k f =
-      let n : end - from ≡ length (word_of (drop from text)) = omega arith in
-      rw (f, n, (word_part (drop from text)).cut, ← e)
+  word_cut =
+      let n : end - at ≡ length (word_of (drop at text)) = omega arith in
+      rw n (word_part (drop at text)).cut
+
+  pub word_is : (k o : Out TokenKind) → k ≡ o → token k at (end - at) ≡ token o at (length (word_of (drop at text)))
+  unfolding word_end
+  word_is k o f =
+      let n : end - at ≡ length (word_of (drop at text)) = omega arith in
+      rw (f, n)
 
 -- ---- a word
+
+or_true : (b : Bool) → (b || true) ≡ true
+or_true true = refl
+or_true false = refl
+
+-- a word with a minus sign or a digit before all begins as a number does
+module _ (text : List ℕ) (at : ℕ) (h : at < length text) (n : is_separator (get_or text at 0) ≡ false) where
+  pub minus_begins : get_or text at 0 ≡ 45 → T (begins_number (word_of (drop at text)))
+  minus_begins e = rw (word_first text at h n, e) tt
+
+  pub digit_begins : is_digit (get_or text at 0) ≡ true → T (begins_number (word_of (drop at text)))
+  digit_begins d = rw (word_first text at h n, d, or_true (eqb (get_or text at 0) 45)) tt
 
 module _ (t text : List ℕ) (at : ℕ) (h : at < length text) (n : is_separator (get_or text at 0) ≡ false) where
   first : word_of (drop at text) ≡ get_or text at 0 ∷ word_of (drop (suc at) text)
   first = word_first text at h n
 
-  pub word-minus : get_or text at 0 ≡ 45 → token (number_kind true (word_of (drop (at + 1) text))) at (word_end text (at + 1) - at) ≡ word_token (word_kind_by t (word_of (drop at text))) text at
-  unfolding word_kind_by word_end
-  word-minus e =
-      let l : suc at + length (word_of (drop (suc at) text)) - at ≡ suc (length (word_of (drop (suc at) text))) = omega arith in
-      rw (first, add-one at, eq-eqb (get_or text at 0) 45 e, l)
+  pub word-minus : get_or text at 0 ≡ 45 → word_token (word_kind (word_of (drop at text))) text at ≡ word_token (word_kind_by t (word_of (drop at text))) text at
+  unfolding word_kind_by word_kind
+  word-minus e = rw (first, eq-eqb (get_or text at 0) 45 e)
 
   module _ (m : get_or text at 0 ≡ 45 → ⊥) where
-    pub word-digits : is_digit (get_or text at 0) ≡ true → token (number_kind false (word_of (drop at text))) at (word_end text at - at) ≡ word_token (word_kind_by t (word_of (drop at text))) text at
-    unfolding word_kind_by word_end
-    word-digits d =
-        let l : at + length (word_of (drop at text)) - at ≡ length (word_of (drop at text)) = omega arith in
-        rw (l, first, ne_eqb (get_or text at 0) 45 m, d)
+    pub word-digits : is_digit (get_or text at 0) ≡ true → word_token (word_kind (word_of (drop at text))) text at ≡ word_token (word_kind_by t (word_of (drop at text))) text at
+    unfolding word_kind_by word_kind
+    word-digits d = rw (first, ne_eqb (get_or text at 0) 45 m, d)
 
     pub word-walked : is_digit (get_or text at 0) ≡ false → word_token (walk_kind t (word_of (drop at text))) text at ≡ word_token (word_kind_by t (word_of (drop at text))) text at
     unfolding word_kind_by
@@ -291,7 +238,7 @@ module _ (text : List ℕ) (from : ℕ) where
       case c 34 (λ e. sym (by-other edges text from at refl h 34 refl e)) (λ n₅.
       case c 39 (λ e. sym (by-other edges text from at refl h 39 refl e)) (λ n₆.
       sym (by_word edges text from at refl h n₁ n₂ n₃ n₄ n₅ n₆)
-      ∙ ap (λ (k : TokenKind). word_token k text at) (kind_by (word_of (drop at text)))
+      ∙ ap (λ (k : Out TokenKind). word_token k text at) (kind_by (word_of (drop at text)))
       ∙ token-word text from at refl h n₁ n₂ n₃ n₄ n₅ n₆))))))
 
   pub token-by : token_by edges text from ≡ token_at text from

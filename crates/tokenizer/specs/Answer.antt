@@ -1,5 +1,9 @@
 -- Answers: a value, or a refusal (document 01, 'Numbers a caller may get').
 use Rattle.std.specs.Prelude.{ℕ}
+use Rattle.std.specs.declared.result.Result.{Result}
+use Rattle.std.specs.declared.result.Result.TheVariants.{Ok, Err}
+use Rattle.tokenizer.specs.declared.refusal.Refusal as R
+use Rattle.tokenizer.specs.declared.refusal.Refusal.TheVariants.{TextTooLong, NotUtf8, TooDeep, TooManyRows, TextEnds, StringNeverEnds, StringEmpty, UnknownWord, UnexpectedToken, NumberOutOfRange, WrongTimeUnit, WrongDecimal, MustBeNonNull, WrongMapEntries, WrongUnionId, TrailingText, NotSound, NotAscii, PrintTooLong}
 
 -- A refusal, by its number.
 pub record Refusal : Type 0 where
@@ -18,3 +22,32 @@ infixl 10 ◌>>=◌
 abbrev pub ◌>>=◌ : {A B : Type 0} → Out A → (A → Out B) → Out B
 refused r >>= f = refused r
 done a >>= f = f a
+
+-- ---- the answers of the code
+
+-- The number of each refusal (document 01, 'Numbers a caller may get').
+abbrev pub number_of : R.Refusal → ℕ
+number_of TextTooLong = 1
+number_of NotUtf8 = 2
+number_of TooDeep = 3
+number_of TooManyRows = 4
+number_of TextEnds = 5
+number_of StringNeverEnds = 6
+number_of StringEmpty = 7
+number_of UnknownWord = 8
+number_of UnexpectedToken = 9
+number_of NumberOutOfRange = 10
+number_of WrongTimeUnit = 11
+number_of WrongDecimal = 12
+number_of MustBeNonNull = 13
+number_of WrongMapEntries = 14
+number_of WrongUnionId = 15
+number_of TrailingText = 16
+number_of NotSound = 17
+number_of NotAscii = 18
+number_of PrintTooLong = 19
+
+-- What a `Result` says: the value, or the refusal by its number.
+abbrev pub answer_of : {A : Type 0} → Result A R.Refusal → Out A
+answer_of (Ok value) = done value
+answer_of (Err e) = refuse (number_of e)

@@ -1,13 +1,14 @@
 -- Tokens (document 01, 'Tokens').
-use Rattle.std.specs.Prelude.{Bool, true, false, not, ◌&&◌, ◌||◌, List, [], ◌∷◌, ℕ, zero, suc, ◌+◌, ◌*◌, ◌-◌, ◌^◌, length, drop, leb, eqb, if◌then◌else◌}
+use Rattle.std.specs.Prelude.{Bool, true, false, not, ℤ, pos, negsuc, neg_ℤ, nat_abs, ◌&&◌, ◌||◌, List, [], ◌∷◌, ℕ, zero, suc, ◌+◌, ◌*◌, ◌-◌, ◌^◌, length, drop, leb, eqb, if◌then◌else◌}
 use Rattle.std.proofs.Math.Option.{Option, none, some, map}
 use Rattle.tokenizer.specs.Text.{all}
+use Rattle.tokenizer.specs.Answer.{Out, refused, done, refuse, ◌>>=◌}
 use Rattle.tokenizer.specs.Words.{words, find}
 use Rattle.tokenizer.specs.declared.Token.{Token}
 use Rattle.tokenizer.specs.declared.TokenKind.{TokenKind}
-use Rattle.tokenizer.specs.declared.TokenKind.TheVariants.{LParen, RParen, Comma, Colon, Integer, DoubleQuotedString, SingleQuotedString, DataType, TimeUnit, IntervalUnit, UnionMode, MapSorted, Nullability, Field, Some, None, X, Refused}
+use Rattle.tokenizer.specs.declared.TokenKind.TheVariants.{LParen, RParen, Comma, Colon, Integer, DoubleQuotedString, SingleQuotedString, DataType, TimeUnit, IntervalUnit, UnionMode, MapSorted, Nullability, Field, Some, None, X}
 
--- ---- the sorts of tokens, and what each case of `TokenKind` says
+-- ---- the sorts of tokens, and what each case of `TokenKind` says; no token is a refusal
 
 abbrev pub lparen : ℕ
 lparen = 1
@@ -64,71 +65,87 @@ x_word = 17
 abbrev pub no_token : ℕ
 no_token = 0
 
-abbrev pub sort_of : TokenKind → ℕ
-sort_of LParen = lparen
-sort_of RParen = rparen
-sort_of Comma = comma
-sort_of Colon = colon
-sort_of (Integer negative magnitude) = integer
-sort_of DoubleQuotedString = double_quoted
-sort_of SingleQuotedString = single_quoted
-sort_of (DataType k) = type_word
-sort_of (TimeUnit u) = time_unit
-sort_of (IntervalUnit u) = interval_unit
-sort_of (UnionMode m) = union_mode
-sort_of (MapSorted b) = map_sorted
-sort_of (Nullability r) = nullability
-sort_of Field = field_word
-sort_of Some = some_word
-sort_of None = none_word
-sort_of X = x_word
-sort_of (Refused n) = no_token
+abbrev pub sort_of : Out TokenKind → ℕ
+sort_of (refused r) = no_token
+sort_of (done LParen) = lparen
+sort_of (done RParen) = rparen
+sort_of (done Comma) = comma
+sort_of (done Colon) = colon
+sort_of (done (Integer n)) = integer
+sort_of (done DoubleQuotedString) = double_quoted
+sort_of (done SingleQuotedString) = single_quoted
+sort_of (done (DataType k)) = type_word
+sort_of (done (TimeUnit u)) = time_unit
+sort_of (done (IntervalUnit u)) = interval_unit
+sort_of (done (UnionMode m)) = union_mode
+sort_of (done (MapSorted b)) = map_sorted
+sort_of (done (Nullability r)) = nullability
+sort_of (done Field) = field_word
+sort_of (done Some) = some_word
+sort_of (done None) = none_word
+sort_of (done X) = x_word
 
 -- A type's kind, a unit, a mode, sorted or not, a role; a number's magnitude; of no token the refusal's number.
-abbrev pub value_of : TokenKind → ℕ
-value_of LParen = 0
-value_of RParen = 0
-value_of Comma = 0
-value_of Colon = 0
-value_of (Integer negative magnitude) = magnitude
-value_of DoubleQuotedString = 0
-value_of SingleQuotedString = 0
-value_of (DataType k) = k
-value_of (TimeUnit u) = u
-value_of (IntervalUnit u) = u
-value_of (UnionMode m) = m
-value_of (MapSorted b) = b
-value_of (Nullability r) = r
-value_of Field = 0
-value_of Some = 0
-value_of None = 0
-value_of X = 0
-value_of (Refused n) = n
+abbrev pub value_of : Out TokenKind → ℕ
+value_of (refused r) = r.number
+value_of (done LParen) = 0
+value_of (done RParen) = 0
+value_of (done Comma) = 0
+value_of (done Colon) = 0
+value_of (done (Integer n)) = nat_abs n
+value_of (done DoubleQuotedString) = 0
+value_of (done SingleQuotedString) = 0
+value_of (done (DataType k)) = k
+value_of (done (TimeUnit u)) = u
+value_of (done (IntervalUnit u)) = u
+value_of (done (UnionMode m)) = m
+value_of (done (MapSorted b)) = b
+value_of (done (Nullability r)) = r
+value_of (done Field) = 0
+value_of (done Some) = 0
+value_of (done None) = 0
+value_of (done X) = 0
 
--- A number with a minus sign before it.
-abbrev pub is_negative : TokenKind → Bool
-is_negative LParen = false
-is_negative RParen = false
-is_negative Comma = false
-is_negative Colon = false
-is_negative (Integer negative magnitude) = negative
-is_negative DoubleQuotedString = false
-is_negative SingleQuotedString = false
-is_negative (DataType k) = false
-is_negative (TimeUnit u) = false
-is_negative (IntervalUnit u) = false
-is_negative (UnionMode m) = false
-is_negative (MapSorted b) = false
-is_negative (Nullability r) = false
-is_negative Field = false
-is_negative Some = false
-is_negative None = false
-is_negative X = false
-is_negative (Refused n) = false
+abbrev pub is_below_zero : ℤ → Bool
+is_below_zero (pos n) = false
+is_below_zero (negsuc n) = true
+
+-- A number below 0.
+abbrev pub is_negative : Out TokenKind → Bool
+is_negative (refused r) = false
+is_negative (done LParen) = false
+is_negative (done RParen) = false
+is_negative (done Comma) = false
+is_negative (done Colon) = false
+is_negative (done (Integer n)) = is_below_zero n
+is_negative (done DoubleQuotedString) = false
+is_negative (done SingleQuotedString) = false
+is_negative (done (DataType k)) = false
+is_negative (done (TimeUnit u)) = false
+is_negative (done (IntervalUnit u)) = false
+is_negative (done (UnionMode m)) = false
+is_negative (done (MapSorted b)) = false
+is_negative (done (Nullability r)) = false
+is_negative (done Field) = false
+is_negative (done Some) = false
+is_negative (done None) = false
+is_negative (done X) = false
+
+-- What stands at a place of a text: the kind of a token, or the refusal of what is none; where it starts, how long it is,
+-- and the place behind it. Start and length of a quoted string are those of the bytes between its marks.
+pub record Standing : Type 0 where
+  pub kind : Out TokenKind
+  pub start : ℕ
+  pub size : ℕ
+  pub next : ℕ
 
 -- The token of a kind that starts at a place and has a length.
-abbrev pub token : TokenKind → ℕ → ℕ → Token
+abbrev pub token : Out TokenKind → ℕ → ℕ → Standing
 token k at size = record { kind = k; start = at; size = size; next = at + size }
+
+-- The token that stands there, or its refusal: what `next_token` answers.
+abbrev pub token_or_refusal : Standing → Out Token
+token_or_refusal s = s.kind >>= λ k. done (record { kind = k; start = s.start; size = s.size; next = s.next })
 
 -- ---- words
 
@@ -154,14 +171,18 @@ abbrev pub is_number : Bool → List ℕ → Bool
 is_number negative [] = false
 is_number negative (d ∷ ds) = all is_digit (d ∷ ds) && leb (number_from 0 (d ∷ ds)) (if negative then 2 ^ 63 else (2 ^ 63 - 1))
 
-abbrev pub number_kind : Bool → List ℕ → TokenKind
-number_kind negative digits = if is_number negative digits then Integer negative (number_from 0 digits) else Refused 8
+-- A number with its sign: -0 is 0.
+abbrev pub signed : Bool → ℕ → ℤ
+signed negative n = if negative then neg_ℤ (pos n) else pos n
+
+abbrev pub number_kind : Bool → List ℕ → Out TokenKind
+number_kind negative digits = if is_number negative digits then done (Integer (signed negative (number_from 0 digits))) else refuse 8
 
 -- What a word is: a number where it begins with a digit or a minus sign, else a listed word, else refusal 8.
-unfoldable pub word_kind : List ℕ → TokenKind
-word_kind [] = Refused 8
+unfoldable pub word_kind : List ℕ → Out TokenKind
+word_kind [] = refuse 8
 word_kind (c ∷ w) =
-    let word = (find (c ∷ w) words).kind in
+    let word = find (c ∷ w) words in
     if eqb c 45 then number_kind true w else if is_digit c then number_kind false (c ∷ w) else word
 
 -- ---- quoted strings
@@ -178,29 +199,29 @@ until_quote quote escaped (c ∷ s) =
     if eqb c quote && not escaped then some 0 else more
 
 -- A string whose opening mark stands at a place: none where it never ends (6) or is empty (7).
-abbrev pub string_token : TokenKind → ℕ → Option ℕ → Token
-string_token k at none = token (Refused 6) at 0
-string_token k at (some zero) = token (Refused 7) at 0
-string_token k at (some (suc n)) = record { kind = k; start = at + 1; size = suc n; next = at + 1 + suc n + 1 }
+abbrev pub string_token : TokenKind → ℕ → Option ℕ → Standing
+string_token k at none = token (refuse 6) at 0
+string_token k at (some zero) = token (refuse 7) at 0
+string_token k at (some (suc n)) = record { kind = done k; start = at + 1; size = suc n; next = at + 1 + suc n + 1 }
 
 -- ---- the token at a place
 
 -- The token of a text whose part from the place `at` on is the list. Only the space is skipped.
-unfoldable pub token_from : ℕ → List ℕ → Token
-token_from at [] = token (Refused 5) at 0
+unfoldable pub token_from : ℕ → List ℕ → Standing
+token_from at [] = token (refuse 5) at 0
 token_from at (c ∷ s) =
     let skipped = token_from (at + 1) s in
     let double = string_token DoubleQuotedString at (until_quote 34 false s) in
     let single = string_token SingleQuotedString at (until_quote 39 false s) in
     let word = token (word_kind (word_of (c ∷ s))) at (length (word_of (c ∷ s))) in
     if eqb c 32 then skipped
-    else if eqb c 40 then token LParen at 1
-    else if eqb c 41 then token RParen at 1
-    else if eqb c 44 then token Comma at 1
-    else if eqb c 58 then token Colon at 1
+    else if eqb c 40 then token (done LParen) at 1
+    else if eqb c 41 then token (done RParen) at 1
+    else if eqb c 44 then token (done Comma) at 1
+    else if eqb c 58 then token (done Colon) at 1
     else if eqb c 34 then double
     else if eqb c 39 then single
     else word
 
-unfoldable pub token_at : List ℕ → ℕ → Token
+unfoldable pub token_at : List ℕ → ℕ → Standing
 token_at text at = token_from at (drop at text)

@@ -4,12 +4,12 @@
 -- leads to the state d + byte. A word's end is the edge of a space, which no word holds: there d is the number of the
 -- word's token. A place without an edge has 32, the space's edge to no token, and so has every place behind the table.
 use Rattle.std.specs.Prelude.{Bool, true, false, not, ◌&&◌, ◌||◌, List, [], ◌∷◌, ℕ, ◌+◌, ◌-◌, ◌/◌, ◌%◌, length, drop, get_or, ltb, eqb, if◌then◌else◌}
+use Rattle.tokenizer.specs.Answer.{Out, done, refuse}
 use Rattle.tokenizer.specs.Edges.{places}
-use Rattle.tokenizer.specs.Token.{token, is_separator, word_of, is_digit, number_kind, token_at}
+use Rattle.tokenizer.specs.Token.{Standing, token, is_separator, word_of, is_digit, number_kind, token_at}
 use Rattle.tokenizer.specs.Places.{after_spaces}
-use Rattle.tokenizer.specs.declared.Token.{Token}
 use Rattle.tokenizer.specs.declared.TokenKind.{TokenKind}
-use Rattle.tokenizer.specs.declared.TokenKind.TheVariants.{DataType, TimeUnit, IntervalUnit, UnionMode, MapSorted, Nullability, Field, Some, None, X, Refused}
+use Rattle.tokenizer.specs.declared.TokenKind.TheVariants.{DataType, TimeUnit, IntervalUnit, UnionMode, MapSorted, Nullability, Field, Some, None, X}
 
 -- ---- the walk
 
@@ -37,28 +37,28 @@ walk table s (b ∷ w) = let more = walk table (step table s b) w in if leads_on
 -- ---- tokens
 
 -- The tokens that words are, by their numbers.
-unfoldable pub token_of_number : ℕ → TokenKind
+unfoldable pub token_of_number : ℕ → Out TokenKind
 token_of_number n =
-    if eqb n 0 then Refused 8
-    else if ltb n 42 then DataType (n - 1)
-    else if ltb n 46 then TimeUnit (n - 42)
-    else if ltb n 49 then IntervalUnit (n - 46)
-    else if ltb n 51 then UnionMode (n - 49)
-    else if ltb n 53 then MapSorted (n - 51)
-    else if ltb n 55 then Nullability (n - 52)
-    else if eqb n 55 then Field
-    else if eqb n 56 then Some
-    else if eqb n 57 then None
-    else if eqb n 58 then X
-    else Refused 8
+    if eqb n 0 then refuse 8
+    else if ltb n 42 then done (DataType (n - 1))
+    else if ltb n 46 then done (TimeUnit (n - 42))
+    else if ltb n 49 then done (IntervalUnit (n - 46))
+    else if ltb n 51 then done (UnionMode (n - 49))
+    else if ltb n 53 then done (MapSorted (n - 51))
+    else if ltb n 55 then done (Nullability (n - 52))
+    else if eqb n 55 then done Field
+    else if eqb n 56 then done Some
+    else if eqb n 57 then done None
+    else if eqb n 58 then done X
+    else refuse 8
 
 -- What a word is by a walk from the first state, which is 0.
-abbrev pub walk_kind : List ℕ → List ℕ → TokenKind
+abbrev pub walk_kind : List ℕ → List ℕ → Out TokenKind
 walk_kind table w = token_of_number (walk table 0 w)
 
 -- What a word is: as `word_kind` says, but by a walk where that compares it with the listed words.
-unfoldable pub word_kind_by : List ℕ → List ℕ → TokenKind
-word_kind_by table [] = Refused 8
+unfoldable pub word_kind_by : List ℕ → List ℕ → Out TokenKind
+word_kind_by table [] = refuse 8
 word_kind_by table (c ∷ w) =
     let word = walk_kind table (c ∷ w) in
     if eqb c 45 then number_kind true w else if is_digit c then number_kind false (c ∷ w) else word
@@ -69,7 +69,7 @@ begins_word [] = false
 begins_word (c ∷ s) = not (is_separator c || eqb c 34 || eqb c 39)
 
 -- The token at a place: as `token_at` says, but a word is what the table says.
-unfoldable pub token_by : List ℕ → List ℕ → ℕ → Token
+unfoldable pub token_by : List ℕ → List ℕ → ℕ → Standing
 token_by table text at =
     let p = after_spaces text at in
     let w = word_of (drop p text) in

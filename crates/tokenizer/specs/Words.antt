@@ -2,8 +2,9 @@
 use Rattle.std.specs.Prelude.{List, [], ◌∷◌, ℕ, if◌then◌else◌}
 use Prim.Native.String.{String}
 use Rattle.tokenizer.specs.Text.{bytes, same}
+use Rattle.tokenizer.specs.Answer.{Out, done, refuse}
 use Rattle.tokenizer.specs.declared.TokenKind.{TokenKind}
-use Rattle.tokenizer.specs.declared.TokenKind.TheVariants.{DataType, TimeUnit, IntervalUnit, UnionMode, MapSorted, Nullability, Field, Some, None, X, Refused}
+use Rattle.tokenizer.specs.declared.TokenKind.TheVariants.{DataType, TimeUnit, IntervalUnit, UnionMode, MapSorted, Nullability, Field, Some, None, X}
 
 -- A listed word: its bytes, and the token that it is.
 pub record Listed : Type 0 where
@@ -85,6 +86,6 @@ words =
     ∷ []
 
 -- A word compared with the words of a list, one by one: refusal 8 where it is none of them.
-abbrev pub find : List ℕ → List Listed → Listed
-find w [] = record { word = w; kind = Refused 8 }
-find w (l ∷ ls) = let later = find w ls in if same w l.word then l else later
+abbrev pub find : List ℕ → List Listed → Out TokenKind
+find w [] = refuse 8
+find w (l ∷ ls) = let later = find w ls in if same w l.word then done l.kind else later

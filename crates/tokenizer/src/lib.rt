@@ -4,24 +4,24 @@
 
 mod edges;
 mod number;
-pub mod refusal;
+mod refusal;
 mod tokenizer;
 mod utf8;
 mod words;
 
 pub use edges::{EDGES, WordTable};
+pub use refusal::Refusal;
 pub use tokenizer::{is_separator, next_token, next_token_by, skip_spaces};
 pub use utf8::is_utf8;
 
-// What a token is.
+// What a token is. Kinds, units, modes and roles are numbers, as they stand in the words of rows, which C reads and writes.
 #[derive(Clone, Copy)]
 pub enum TokenKind {
     LParen,
     RParen,
     Comma,
     Colon,
-    // Whether a minus sign stands before it, and its magnitude.
-    Integer(bool, u64),
+    Integer(i64),
     DoubleQuotedString,
     SingleQuotedString,
     // The kind of a type, in the order of the Rust's `DataType`.
@@ -36,8 +36,6 @@ pub enum TokenKind {
     Some,
     None,
     X,
-    // No token: the text ends (5), or the token is broken (6, 7, 8).
-    Refused(u32),
 }
 
 // A token, where it starts, how long it is, and the place behind it. Start and length of a quoted string are those of

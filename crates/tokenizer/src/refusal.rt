@@ -1,41 +1,57 @@
-// The refusals, by the numbers of document 01.
+// The refusals, one for each number of document 01.
+ghost use Rattle.std.specs.Prelude.{◌≡◌};
+ghost use Rattle.tokenizer.specs.Answer.{number_of};
 
-// Of the reader: 1 and 2 first, then the first that is met from left to right.
-pub const TEXT_TOO_LONG: u32 = 1; // the text is longer than 16,384 bytes
+#[derive(Clone, Copy, Debug, PartialEq, Eq)]
+pub enum Refusal {
+    // Of the reader: the first two come first, then the first that is met from left to right.
+    TextTooLong, // 1: the text is longer than 16,384 bytes
+    NotUtf8, // 2: the text is not UTF-8
+    TooDeep, // 3: types are nested deeper than 64 levels
+    TooManyRows, // 4: there are more types in the text than rows for them
+    TextEnds, // 5: the text ends where more is needed
+    StringNeverEnds, // 6: a quoted string never ends
+    StringEmpty, // 7: a quoted string is empty
+    UnknownWord, // 8: a word is neither known nor a number of 64 bits
+    UnexpectedToken, // 9: a token stands where one of another sort is needed
+    NumberOutOfRange, // 10: a number is outside its range
+    WrongTimeUnit, // 11: Time32 takes s or ms, and Time64 takes us or ns
+    WrongDecimal, // 12: a decimal's precision or scale is not one that it may have
+    MustBeNonNull, // 13: Map entries, Map keys and run ends must be non-null
+    WrongMapEntries, // 14: Map entries must be a Struct of two fields
+    WrongUnionId, // 15: a union id is negative or used twice
+    TrailingText, // 16: something follows the type
+    // Of the printer, in this order.
+    NotSound, // 17: text and rows are no sound tree
+    NotAscii, // 18: a name or zone to print in double quotes is not ASCII
+    PrintTooLong, // 19: the printed text is longer than 16,384 bytes or the buffer
+}
 
-pub const NOT_UTF8: u32 = 2; // the text is not UTF-8
-
-pub const TOO_DEEP: u32 = 3; // types are nested deeper than 64 levels
-
-pub const TOO_MANY_ROWS: u32 = 4; // there are more types in the text than rows for them
-
-pub const TEXT_ENDS: u32 = 5; // the text ends where more is needed
-
-pub const STRING_NEVER_ENDS: u32 = 6; // a quoted string never ends
-
-pub const STRING_EMPTY: u32 = 7; // a quoted string is empty
-
-pub const UNKNOWN_WORD: u32 = 8; // a word is neither known nor a number of 64 bits
-
-pub const UNEXPECTED_TOKEN: u32 = 9; // a token stands where one of another sort is needed
-
-pub const NUMBER_OUT_OF_RANGE: u32 = 10; // a number is outside its range
-
-pub const WRONG_TIME_UNIT: u32 = 11; // Time32 takes s or ms, and Time64 takes us or ns
-
-pub const WRONG_DECIMAL: u32 = 12; // a decimal's precision or scale is not one that it may have
-
-pub const MUST_BE_NON_NULL: u32 = 13; // Map entries, Map keys and run ends must be non-null
-
-pub const WRONG_MAP_ENTRIES: u32 = 14; // Map entries must be a Struct of two fields
-
-pub const WRONG_UNION_ID: u32 = 15; // a union id is negative or used twice
-
-pub const TRAILING_TEXT: u32 = 16; // something follows the type
-
-// Of the printer, in this order.
-pub const NOT_SOUND: u32 = 17; // text and rows are no sound tree
-
-pub const NOT_ASCII: u32 = 18; // a name or zone to print in double quotes is not ASCII
-
-pub const PRINT_TOO_LONG: u32 = 19; // the printed text is longer than 16,384 bytes or the buffer
+impl Refusal {
+    // The number of document 01, as callers from C and the line program get it.
+    pub fn number(self) -> u32
+        ensures { result ≡ number_of self }
+    {
+        match self {
+            Refusal::TextTooLong => 1,
+            Refusal::NotUtf8 => 2,
+            Refusal::TooDeep => 3,
+            Refusal::TooManyRows => 4,
+            Refusal::TextEnds => 5,
+            Refusal::StringNeverEnds => 6,
+            Refusal::StringEmpty => 7,
+            Refusal::UnknownWord => 8,
+            Refusal::UnexpectedToken => 9,
+            Refusal::NumberOutOfRange => 10,
+            Refusal::WrongTimeUnit => 11,
+            Refusal::WrongDecimal => 12,
+            Refusal::MustBeNonNull => 13,
+            Refusal::WrongMapEntries => 14,
+            Refusal::WrongUnionId => 15,
+            Refusal::TrailingText => 16,
+            Refusal::NotSound => 17,
+            Refusal::NotAscii => 18,
+            Refusal::PrintTooLong => 19,
+        }
+    }
+}

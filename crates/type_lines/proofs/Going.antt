@@ -1,24 +1,18 @@
 -- Answering lines: whatever follows in the input, what is printed at last stays the same.
-use Rattle.std.specs.Prelude.{if◌then◌else◌}
+use Rattle.std.specs.Prelude.{if◌then◌else◌, Option, Some, None}
+use Rattle.std.specs.Option.{unwrap_or}
 use mathlib.Core.Path.{◌≡◌, refl, sym, ap, ◌∙◌, subst}
 use mathlib.Core.Bool.{Bool, true, false, ◌&&◌}
 use mathlib.Core.List.{List, [], ◌∷◌, ◌++◌, append_assoc, append-nil}
-use mathlib.Core.Option.{Option, none, some}
 use Prim.Native.Nat.{ℕ, suc, ◌+◌, ◌-◌, ◌≤◌, ◌<◌}
 use native.Mathlib.Omega.{arith}
 use lib.ListN.{length, take, drop, length-append, length-drop, drop_of_length-le}
 use lib.Seq.{take-append-le, drop-append-le, take-append-add, drop-append-add, take_at, take_all, take-length, length-take-le, drop-drop, drop-length, drop_at}
 use lib.Dec.{eqb, leb}
-use types.Run.{OneOf}
-use denote.Enum.Declared.{tag_of}
 use borrow.Author.Tests.{le-leb}
-use Rattle.tokenizer.specs.Text.{bytes}
-use Rattle.answer_line.specs.Line.{line_answer, line_words, lines_of, answers, output, before_newline, line_end, line_answered, line_out, answered_means, answer_bytes}
-use Rattle.answer_line.specs.declared.Answered.{Answered}
-use Rattle.answer_line.specs.declared.Answered.TheVariants.{Bytes, NoRoom}
-use Rattle.answer_line.specs.contracts.Answered.{the_type as answered-type}
+use Rattle.answer_line.specs.Line.{line_answer, line_words, lines_of, answers, output, before_newline, line_end, line_answered, line_out, answer_bytes}
 use Rattle.answer_line.proofs.Ends.{before_within, lines_some, long_line}
-use Rattle.type_lines.specs.Run.{output_from, printed_at, line_at, Room, Inside, Behind, Wrote, Goes, Unfinished, Halts, Ends}
+use Rattle.type_lines.specs.Run.{output_from, printed_at, line_at, Inside, Behind, Wrote, Goes, Unfinished, Halts, Ends}
 use Rattle.type_lines.specs.declared.Progress.{Progress}
 
 -- ---- newlines in what is read and in what follows
@@ -146,54 +140,43 @@ module _ (line out part back : List ℕ) (wrote : ℕ) (fits : wrote ≤ length 
         answers = ap (take (wrote + n)) is ∙ take_at (take wrote out ++ a) (behind ++ after) (wrote + n) front;
       }
 
-no_room_of : (r : Answered) → OneOf (1 ∷ []) (tag_of answered-type r) → r ≡ NoRoom
-no_room_of (Bytes n) o = absurd (omega arith)
-no_room_of NoRoom o = refl
+module _ (line rows out lent part : List ℕ) (wrote size : ℕ) (sized : length out ≡ size) (words : line_words ≤ length rows) (room : wrote + answer_bytes ≤ length out)
+    (is_lent : lent ≡ take (size - wrote) (drop wrote out)) (r : Option ℕ) (a : r ≡ line_answered line rows lent) where
+  lent_is : lent ≡ take (length out - wrote) (drop wrote out)
+  lent_is = is_lent ∙ ap (λ (n : ℕ). take (n - wrote) (drop wrote out)) (sym sized)
 
-module _ (line rows out lent part : List ℕ) (wrote : ℕ) (words : line_words ≤ length rows) (room : wrote + answer_bytes ≤ length out)
-    (is_lent : lent ≡ take (length out - wrote) (drop wrote out)) (r : Answered) (a : answered_means r ≡ line_answered line rows lent) where
   lent_length : length lent ≡ length out - wrote
   lent_length =
       let d = length-drop wrote out in
-      ap (λ (l : List ℕ). length l) is_lent ∙ length-take-le (length out - wrote) (drop wrote out) (omega arith)
+      ap (λ (l : List ℕ). length l) lent_is ∙ length-take-le (length out - wrote) (drop wrote out) (omega arith)
 
   lent-all : lent ≡ drop wrote out
-  lent-all = let d = length-drop wrote out in is_lent ∙ take_all (length out - wrote) (drop wrote out) (omega arith)
+  lent-all = let d = length-drop wrote out in lent_is ∙ take_all (length out - wrote) (drop wrote out) (omega arith)
 
   enough : (A : Type 0) (x y : A) → (if (leb line_words (length rows) && leb answer_bytes (length lent)) then x else y) ≡ x
   enough A x y = let l = lent_length in rw (le-leb line_words (length rows) words, le-leb answer_bytes (length lent) (omega arith))
 
   module _ (o : part ≡ line_out line rows lent) (k : length part ≡ length lent) where
-    answer-size : (n : ℕ) → r ≡ Bytes n → n ≡ length (line_answer line)
-    unfolding answered_means line_answered
-    answer-size n e =
-        let some-n : some n ≡ some (length (line_answer line)) = sym (ap answered_means e) ∙ a ∙ enough (Option ℕ) (some (length (line_answer line))) none in
-        cc
+    -- the bytes of the answer, where there is room
+    answer-size : unwrap_or r 0 ≡ length (line_answer line)
+    unfolding line_answered
+    answer-size = ap (λ (o : Option ℕ). unwrap_or o 0) (a ∙ enough (Option ℕ) (Some (length (line_answer line))) None)
 
     answer-bytes : part ≡ line_answer line ++ drop (length (line_answer line)) lent
     unfolding line_out
     answer-bytes = o ∙ enough (List ℕ) (line_answer line ++ drop (length (line_answer line)) lent) lent
 
-    pub wrote-within : (n : ℕ) → r ≡ Bytes n → wrote + n ≤ length out
-    wrote-within n e =
+    pub wrote-within : wrote + unwrap_or r 0 ≤ length out
+    wrote-within =
         let s : List ℕ = line_answer line in
-        let c = answer-size n e in
+        let c = answer-size in
         let l = ap (λ (x : List ℕ). length x) answer-bytes ∙ length-append s (drop (length s) lent) in
         let m = lent_length in
         omega arith
 
-    module _ (back : List ℕ) (is_back : back ≡ take wrote out ++ (part ++ drop (length out - wrote) (drop wrote out))) where
-      pub wrote_at : (n : ℕ) → r ≡ Bytes n → Wrote line out wrote (wrote + n) back
-      wrote_at n e = wrote-line line out part back wrote (omega arith) is_back n (answer-size n e) (drop (length (line_answer line)) lent) answer-bytes
-          (ap (λ (i : ℕ). drop i lent) (sym (answer-size n e)) ∙ ap (drop n) lent-all) (k ∙ lent_length)
-
-  -- there is room
-  pub wrote_none : OneOf (1 ∷ []) (tag_of answered-type r) → (back : List ℕ) → Wrote line out wrote wrote back
-  unfolding answered_means line_answered
-  wrote_none t back =
-      absurd
-      (let n : none ≡ some (length (line_answer line)) = sym (ap answered_means (no_room_of r t)) ∙ a ∙ enough (Option ℕ) (some (length (line_answer line))) none in
-      let z : ◌≡◌ {A = ℕ} 0 1 = cc in omega arith)
+    pub wrote_at : (back : List ℕ) → back ≡ take wrote out ++ (part ++ drop (size - wrote) (drop wrote out)) → Wrote line out wrote (wrote + unwrap_or r 0) back
+    wrote_at back is_back = wrote-line line out part back wrote (omega arith) (is_back ∙ ap (λ (n : ℕ). take wrote out ++ (part ++ drop (n - wrote) (drop wrote out))) (sym sized)) (unwrap_or r 0) answer-size (drop (length (line_answer line)) lent) answer-bytes
+        (ap (λ (i : ℕ). drop i lent) (sym answer-size) ∙ ap (drop (unwrap_or r 0)) lent-all) (k ∙ lent_length)
 
 -- ---- from place to place
 
@@ -313,8 +296,8 @@ nothing_left s h = let w = before_within s in record { partial = omega arith; sh
 pub left_none : (input : List ℕ) (from : ℕ) → length input ≤ from → Unfinished (drop from input)
 left_none input from h = nothing_left (drop from input) (let l = length-drop from input in omega arith)
 
-pub halts_short : (input out : List ℕ) (p : Progress) → length out - answer_bytes < p.wrote → answer_bytes ≤ length out → Halts input p out
-halts_short input out p h k = record { left = λ l. absurd (omega arith) }
+pub halts_short : (input out : List ℕ) (p : Progress) → length out < p.wrote + answer_bytes → Halts input p out
+halts_short input out p h = record { left = λ l. absurd (omega arith) }
 
 pub halts_left : (input out : List ℕ) (p : Progress) → Unfinished (drop p.from input) → Halts input p out
 halts_left input out p u = record { left = λ l. u }
@@ -347,27 +330,21 @@ module _ (input : List ℕ) (p : Progress) (out : List ℕ) (i : Inside input p 
 
 -- ---- the loop over the lines
 
--- The place that the loop has reached, and buffers as long as they were.
-pub record Reached (input : List ℕ) (start had from wrote : ℕ) (rows out rows' out' : List ℕ) : Type 0 where
+-- The place that the loop has reached, and an output as long as it was.
+pub record Reached (input : List ℕ) (start had from wrote : ℕ) (out out' : List ℕ) : Type 0 where
   pub goes : Goes input (line_at start had) out (line_at from wrote) out'
-  pub room : Room rows' out'
-  pub words : length rows' ≡ length rows
   pub bytes : length out' ≡ length out
 
-module _ (input : List ℕ) (start had : ℕ) (rows out : List ℕ) where
-  pub reached-start : Room rows out → Inside input (line_at start had) out → Reached input start had start had rows out rows out
-  reached-start r i = record { goes = goes-nowhere input out (line_at start had) i; room = r; words = refl; bytes = refl }
+module _ (input : List ℕ) (start had : ℕ) (out : List ℕ) where
+  pub reached-start : Inside input (line_at start had) out → Reached input start had start had out out
+  reached-start i = record { goes = goes-nowhere input out (line_at start had) i; bytes = refl }
 
-  module _ (from wrote : ℕ) (rows₁ out₁ : List ℕ) (t : Reached input start had from wrote rows out rows₁ out₁) where
-    pub reached-more : (end next : ℕ) (rows₂ out₂ : List ℕ) → end ≡ line_end input from → (end ≡ length input → ⊥) → length rows₂ ≡ length rows₁ → length out₂ ≡ length out₁
-        → Wrote (take (end - from) (drop from input)) out₁ wrote next out₂ → Reached input start had (end + 1) next rows out rows₂ out₂
-    reached-more end next rows₂ out₂ e h k l w =
-        let a = t.room.words in
-        let b = t.room.bytes in
+  module _ (from wrote : ℕ) (out₁ : List ℕ) (t : Reached input start had from wrote out out₁) where
+    pub reached-more : (end next : ℕ) (out₂ : List ℕ) → end ≡ line_end input from → (end ≡ length input → ⊥) → length out₂ ≡ length out₁
+        → Wrote (take (end - from) (drop from input)) out₁ wrote next out₂ → Reached input start had (end + 1) next out out₂
+    reached-more end next out₂ e h l w =
         record {
           goes = goes_then input out (line_at start had) (line_at from wrote) out₁ t.goes (line_at (end + 1) next) out₂ (goes-line input out₁ from wrote t.goes.inside.read end next out₂ e h w);
-          room = record { words = omega arith; bytes = omega arith };
-          words = k ∙ t.words;
           bytes = l ∙ t.bytes;
         }
 

@@ -1,6 +1,6 @@
 -- What the functions that answer lines promise: whatever follows in the input, what is printed at last stays the same.
 use Rattle.std.specs.Prelude.{◌≡◌, Bool, true, false, List, ◌++◌, ℕ, suc, ◌+◌, ◌-◌, ◌≤◌, length, take, drop}
-use Rattle.answer_line.specs.Line.{line_answer, line_words, output, before_newline, answer_bytes}
+use Rattle.answer_line.specs.Line.{line_answer, output, before_newline, answer_bytes}
 use Rattle.type_lines.specs.declared.Progress.{Progress}
 use Rattle.datatype.specs.Limits.{max_text}
 
@@ -20,11 +20,6 @@ abbrev pub line_at : ℕ → ℕ → Progress
 line_at from wrote = record { from = from; wrote = wrote; skip = false }
 
 -- ---- the buffers
-
--- They hold the rows and an answer.
-pub record Room (rows out : List ℕ) : Type 0 where
-  pub words : line_words ≤ length rows
-  pub bytes : answer_bytes ≤ length out
 
 -- A place lies in the input and in the output.
 pub record Inside (input : List ℕ) (p : Progress) (out : List ℕ) : Type 0 where

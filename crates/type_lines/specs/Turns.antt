@@ -1,15 +1,11 @@
 -- What a turn of the program promises, and all of them together. No contract knows what `read` gives and what becomes of
 -- the bytes handed to `write`; a turn says which bytes of its buffers these were, and ties them to one another.
-use Rattle.std.specs.Prelude.{◌≡◌, Bool, false, List, [], ◌++◌, ℕ, suc, ◌+◌, ◌-◌, ◌≤◌, ◌<◌, length, take, drop}
-use Rattle.type_lines.specs.Run.{output_from, Room, Unfinished, Behind}
+use Rattle.std.specs.Prelude.{◌≡◌, Bool, false, List, [], ◌++◌, ℕ, suc, ◌+◌, ◌-◌, ◌≤◌, ◌<◌, length, take, drop, Option, Some, None, Result, Ok, Err}
+use Rattle.type_lines.specs.Run.{output_from, Unfinished, Behind}
 use Rattle.type_lines.specs.declared.Turn.{Turn}
 use Rattle.type_lines.specs.declared.After.{After}
-use Rattle.type_lines.specs.declared.After.TheVariants.{More, End, Failed}
-use Rattle.type_lines.specs.declared.Written.{Written}
-use Rattle.type_lines.specs.declared.Written.TheVariants.{All, NotAll}
-use Rattle.type_lines.specs.declared.Ending.{Ending}
-use Rattle.type_lines.specs.declared.Ending.TheVariants.{Done, Broken, Limit}
-use Rattle.datatype.specs.Limits.{max_text}
+use Rattle.type_lines.specs.declared.After.TheVariants.{More, End}
+use Rattle.type_lines.specs.declared.Failure.{Failure}
 
 -- ---- a turn
 
@@ -28,10 +24,8 @@ left_in t input = take (t.filled - t.read) input
 unfoldable pub ahead : Turn → List ℕ → List ℕ → List ℕ
 ahead t input rest = output_from t.skip (drop t.from (take t.filled input) ++ rest)
 
--- The buffers are large enough, and the place lies in the bytes read.
-pub record Running (input : List ℕ) (t : Turn) (rows out : List ℕ) : Type 0 where
-  pub large : max_text < length input
-  pub room : Room rows out
+-- The place lies in the bytes read, and these in the buffer.
+pub record Running (input : List ℕ) (t : Turn) : Type 0 where
   pub fits : t.filled ≤ length input
   pub place : t.from ≤ t.filled
 
@@ -48,17 +42,17 @@ pub record Turned (t : Turn) (input out : List ℕ) (t' : Turn) (input' out' : L
   pub place : t'.from ≤ t'.filled
 
 -- After a turn there is another, if bytes were read or written; or the input has ended, and a last line is left.
-unfoldable pub GoesOn : Turn → List ℕ → List ℕ → After → List ℕ → List ℕ → Type 0
-GoesOn t input out (More t') input' out' = Turned t input out t' input' out' × (0 < t'.read + t'.written)
-GoesOn t input out (End t') input' out' = Turned t input out t' input' out' × (t'.read ≡ 0) × (t'.from ≡ 0) × Unfinished (take t'.filled input')
-GoesOn t input out Failed input' out' = Unit
+abbrev pub GoesOn : Turn → List ℕ → List ℕ → Result After Failure → List ℕ → List ℕ → Type 0
+GoesOn t input out (Ok (More t')) input' out' = Turned t input out t' input' out' × (0 < t'.read + t'.written)
+GoesOn t input out (Ok (End t')) input' out' = Turned t input out t' input' out' × (t'.read ≡ 0) × (t'.from ≡ 0) × Unfinished (take t'.filled input')
+GoesOn t input out (Err e) input' out' = Unit
 
 -- ---- its parts
 
 -- All of so many bytes were handed to `write`.
-unfoldable pub Handed : Written → ℕ → Type 0
-Handed (All k) n = k ≡ n
-Handed NotAll n = Unit
+abbrev pub Handed : Result ℕ Failure → ℕ → Type 0
+Handed (Ok k) n = k ≡ n
+Handed (Err e) n = Unit
 
 -- What was read stands behind the bytes left; skipping and the bytes written are handed on.
 pub record Reads (input : List ℕ) (left : ℕ) (skip : Bool) (wrote : ℕ) (t : Turn) (input' : List ℕ) : Type 0 where
@@ -66,16 +60,15 @@ pub record Reads (input : List ℕ) (left : ℕ) (skip : Bool) (wrote : ℕ) (t 
   pub fits : t.filled ≤ length input'
   pub kept : take left input' ≡ take left input
 
-unfoldable pub ReadOn : After → List ℕ → ℕ → Bool → ℕ → List ℕ → Type 0
-ReadOn (More t) input left skip wrote input' = Reads input left skip wrote t input' × (0 < t.read)
-ReadOn (End t) input left skip wrote input' = Reads input left skip wrote t input' × (t.read ≡ 0)
-ReadOn Failed input left skip wrote input' = Unit
+abbrev pub ReadOn : Result After Failure → List ℕ → ℕ → Bool → ℕ → List ℕ → Type 0
+ReadOn (Ok (More t)) input left skip wrote input' = Reads input left skip wrote t input' × (0 < t.read)
+ReadOn (Ok (End t)) input left skip wrote input' = Reads input left skip wrote t input' × (t.read ≡ 0)
+ReadOn (Err e) input left skip wrote input' = Unit
 
 -- The last line: what is written is all that is still to be printed.
-unfoldable pub LastLine : List ℕ → Bool → Ending → List ℕ → Type 0
-LastLine line skip (Done n) out' = take n out' ≡ output_from skip line
-LastLine line skip Broken out' = Unit
-LastLine line skip (Limit n) out' = ⊥
+abbrev pub LastLine : List ℕ → Bool → Result ℕ Failure → List ℕ → Type 0
+LastLine line skip (Ok n) out' = take n out' ≡ output_from skip line
+LastLine line skip (Err e) out' = Unit
 
 -- ---- all turns
 
@@ -103,11 +96,11 @@ pub record Ended (h : History) (n : ℕ) (out : List ℕ) : Type 0 where
   pub none : last.read ≡ 0
   pub rest : take n out ≡ ahead last input []
 
--- How the program ends: with the input; because a read or a write failed; or after 2⁶⁴ - 1 turns.
-unfoldable pub Closes : History → Ending → List ℕ → Type 0
-Closes h (Done n) out = Ended h n out
-Closes h Broken out = Unit
-Closes h (Limit n) out = (n ≡ h.count) × (n ≡ 18446744073709551615)
+-- How the program ends: with the input; after 2⁶⁴ - 1 turns; or because a read or a write failed.
+abbrev pub Closes : History → Result (Option ℕ) Failure → List ℕ → Type 0
+Closes h (Ok (Some n)) out = Ended h n out
+Closes h (Ok None) out = h.count ≡ 18446744073709551615
+Closes h (Err e) out = Unit
 
-abbrev pub Ran : Ending → List ℕ → Type 0
+abbrev pub Ran : Result (Option ℕ) Failure → List ℕ → Type 0
 Ran r out = (h : History) × Closes h r out

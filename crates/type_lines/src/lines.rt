@@ -1,21 +1,24 @@
-// Answering the lines that stand in a buffer. Whatever follows them in the input, what is printed at last stays the same.
+// Answering the lines that stand in a buffer. Whatever follows them in the input, what is printed at last stays the
+// same.
 ghost use Rattle.std.specs.Prelude.{◌≡◌, ◌+◌, ◌≤◌, length, drop};
-ghost use Rattle.answer_line.specs.Line.{line_words, before_newline, answer_bytes};
-ghost use Rattle.type_lines.specs.Run.{Room, line_at, Inside, Goes, Halts, Unfinished, Wrote, Ends, Moved};
+ghost use Rattle.answer_line.specs.Line.{before_newline, answer_bytes};
+ghost use Rattle.type_lines.specs.Run.{line_at, Inside, Goes, Halts, Unfinished, Wrote, Ends, Moved};
 
-use crate::Progress;
-use answer_line::{ANSWER_BYTES, Answered};
+use crate::{BUFFER_BYTES, Progress};
+use answer_line::{ANSWER_BYTES, LINE_WORDS};
 use datatype::rows::MAX_TEXT;
 
 // Answers a line behind the answers that are in the output, and gives the place behind its answer.
-fn answer_at(line: &[u8], rows: &mut [u32], out: &mut [u8], wrote: usize) -> usize
-    requires { (line_words ≤ length rows.old) × (wrote + answer_bytes ≤ length out.old) }
-    ensures { Wrote line.now out.old wrote result out.new }
+fn answer_at(
+    line: &[u8],
+    rows: &mut [u32; LINE_WORDS],
+    out: &mut [u8; BUFFER_BYTES],
+    wrote: usize,
+) -> usize
+    requires { wrote + answer_bytes ≤ length out.old }
+    ensures { Wrote line.now out.old wrote result out.new × (length out.new ≡ length out.old) }
 {
-    match answer_line::answer_line(line, rows, &mut out[wrote..]) {
-        Answered::Bytes(n) => wrote + n,
-        Answered::NoRoom => wrote,
-    }
+    wrote + answer_line::answer_line(line, rows, &mut out[wrote..]).unwrap_or(0)
 }
 
 // A line whose end is not read yet waits for it, unless it is too long for a text: then it is answered, and the rest of
@@ -24,16 +27,16 @@ fn answer_part(
     input: &[u8],
     from: usize,
     wrote: usize,
-    rows: &mut [u32],
-    out: &mut [u8],
+    rows: &mut [u32; LINE_WORDS],
+    out: &mut [u8; BUFFER_BYTES],
 ) -> Progress
-    requires { (line_words ≤ length rows.old) × (wrote + answer_bytes ≤ length out.old) × (from ≤ length input.now) × (before_newline (drop from input.now) ≡ length (drop from input.now)) }
+    requires { (wrote + answer_bytes ≤ length out.old) × (from ≤ length input.now) × (before_newline (drop from input.now) ≡ length (drop from input.now)) }
     ensures { Goes input.now (line_at from wrote) out.old result out.new × Unfinished (drop result.from input.now) }
 {
     if input.len() - from <= MAX_TEXT {
         return Progress {
-            from: from,
-            wrote: wrote,
+            from,
+            wrote,
             skip: false,
         };
     }
@@ -45,15 +48,16 @@ fn answer_part(
     }
 }
 
-// Answers lines until the output is short of room or no whole line is left.
+// Answers lines until the output is short of room or no whole line is left. A `while`, since it goes from line to line
+// as long as an answer has room, and counts no index.
 fn answer_whole(
     input: &[u8],
     start: usize,
     had: usize,
-    rows: &mut [u32],
-    out: &mut [u8],
+    rows: &mut [u32; LINE_WORDS],
+    out: &mut [u8; BUFFER_BYTES],
 ) -> Progress
-    requires { Room rows.old out.old × Inside input.now (line_at start had) out.old }
+    requires { Inside input.now (line_at start had) out.old }
     ensures { Goes input.now (line_at start had) out.old result out.new × Halts input.now result out.new }
 {
     let mut from = start;
@@ -67,43 +71,47 @@ fn answer_whole(
         from = end + 1;
     }
     Progress {
-        from: from,
-        wrote: wrote,
+        from,
+        wrote,
         skip: false,
     }
 }
 
 // Answers what can be answered of the bytes read.
-pub(crate) fn answer_lines(input: &[u8], p: Progress, rows: &mut [u32], out: &mut [u8]) -> Progress
-    requires { Room rows.old out.old × Inside input.now p out.old }
+pub(crate) fn answer_lines(
+    input: &[u8],
+    p: Progress,
+    rows: &mut [u32; LINE_WORDS],
+    out: &mut [u8; BUFFER_BYTES],
+) -> Progress
+    requires { Inside input.now p out.old }
     ensures { Goes input.now p out.old result out.new × Halts input.now result out.new }
 {
-    let from = p.from;
-    let wrote = p.wrote;
-    let skip = p.skip;
-    if skip {
-        let end = answer_line::line_end(input, from);
+    if p.skip {
+        let end = answer_line::line_end(input, p.from);
         if end == input.len() {
             return Progress {
                 from: end,
-                wrote: wrote,
+                wrote: p.wrote,
                 skip: true,
             };
         }
-        return answer_whole(input, end + 1, wrote, rows, out);
+        return answer_whole(input, end + 1, p.wrote, rows, out);
     }
-    answer_whole(input, from, wrote, rows, out)
+    answer_whole(input, p.from, p.wrote, rows, out)
 }
 
 // Answers what is left at the end of the input: a line without a newline, unless it is empty or answered already.
-pub(crate) fn answer_last(line: &[u8], skip: bool, rows: &mut [u32], out: &mut [u8]) -> usize
-    requires { Room rows.old out.old × Unfinished line.now }
+pub(crate) fn answer_last(
+    line: &[u8],
+    skip: bool,
+    rows: &mut [u32; LINE_WORDS],
+    out: &mut [u8; BUFFER_BYTES],
+) -> usize
+    requires { Unfinished line.now }
     ensures { Ends line.now skip out.old result out.new }
 {
-    if skip {
-        return 0;
-    }
-    if line.len() == 0 {
+    if skip || line.is_empty() {
         return 0;
     }
     answer_at(line, rows, out, 0)
@@ -115,10 +123,6 @@ pub(crate) fn move_left(input: &mut [u8], from: usize, to: usize) -> usize
     ensures { Moved input.old from to result input.new }
 {
     let size = to - from;
-    let mut i = 0;
-    while i < size {
-        input[i] = input[from + i];
-        i += 1;
-    }
+    input.copy_within(from..to, 0);
     size
 }

@@ -1,14 +1,12 @@
 // The line program: standard input has a type text on each line, standard output gets an answer for each. Answers are
-// written before each read, so that whoever waits for one before it writes the next line gets it. A read or a write that
-// fails ends the program with a message; its exit status is 0 all the same.
+// written before each read, so that whoever waits for one before it writes the next line gets it. A read or a write
+// that fails ends the program with a message; its exit status is 0 all the same.
 
 #![tactic(auto)]
 
-ghost use Rattle.std.specs.Prelude.{◌≡◌, ◌<◌, ◌≤◌, length};
-ghost use Rattle.answer_line.specs.Line.{line_words};
-ghost use Rattle.type_lines.specs.Run.{Room, Unfinished};
+ghost use Rattle.std.specs.Prelude.{◌<◌, ◌≤◌, length};
+ghost use Rattle.type_lines.specs.Run.{Unfinished};
 ghost use Rattle.type_lines.specs.Turns.{Handed, ReadOn, Running, GoesOn, LastLine, Ran};
-ghost use Rattle.datatype.specs.Limits.{max_text};
 
 use answer_line::{ANSWER_BYTES, LINE_WORDS};
 use std::io;
@@ -16,8 +14,11 @@ use std::io::{Cursor, Read, Write};
 
 mod lines;
 
+// The bytes of the input that are held at a time, and of the output.
+const BUFFER_BYTES: usize = 65_536;
+
 // Where the lines have got to: the place in the bytes read, how many bytes of answers are in the output, and whether
-// what comes next is the rest of a line that is answered already.
+// what comes next is the rest of a line that is answered already: a yes or no on which no other field hangs.
 #[derive(Drop)]
 struct Progress {
     from: usize,
@@ -37,58 +38,37 @@ struct Turn {
     read: usize,
 }
 
-// After a turn: the next one, or the input has ended, or a read or a write has failed.
+// After a turn: the next one, or the input has ended.
+// No field of a turn says which: one that only wrote read 0 bytes too.
 #[derive(Drop)]
 enum After {
     More(Turn),
     End(Turn),
-    Failed,
 }
 
-// All bytes of a part of the output were written, so many; or that failed.
+// Why the program stopped before its input ended.
 #[derive(Drop)]
-enum Written {
-    All(usize),
-    NotAll,
-}
-
-// How the program ended: with the input, and so many bytes were written last; because a read or a write failed; or
-// because so many turns were all.
-#[derive(Drop)]
-enum Ending {
-    Done(usize),
-    Broken,
-    Limit(u64),
-}
-
-// Room for 1,024 rows.
-fn row_words() -> [u32; LINE_WORDS]
-    ensures { line_words ≡ length result }
-{
-    [0; LINE_WORDS]
-}
-
-// 65,536 zeros, for the input or the output.
-fn large_buffer() -> [u8; 65536]
-    ensures { 65536 ≡ length result }
-{
-    [0; 65536]
+enum Failure {
+    Reading(io::Error),
+    Writing(io::Error),
 }
 
 // How many bytes of an error's text say why: the error's number stands behind them in brackets.
 fn reason_length(text: &[u8]) -> usize
     ensures { result ≤ length text.now }
 {
-    for i in (1..text.len()).rev() {
-        if text[i] == b'(' {
-            return i - 1;
-        }
+    match text.iter().rposition(|c| *c == b'(') {
+        Some(i) if 0 < i => i - 1,
+        _ => text.len(),
     }
-    text.len()
 }
 
 // Writes a line to standard error: what failed, a colon and why.
-fn fail(rt: &HostRuntime, what: &str, error: io::Error) -> io::Result<()> {
+fn report(rt: &HostRuntime, failure: Failure) -> io::Result<()> {
+    let (what, error) = match failure {
+        Failure::Reading(error) => ("type_lines: reading standard input", error),
+        Failure::Writing(error) => ("type_lines: writing standard output", error),
+    };
     let mut text = Cursor::new([0u8; 320]);
     text.write_fmt(error)?;
     let size = text.position();
@@ -102,48 +82,52 @@ fn fail(rt: &HostRuntime, what: &str, error: io::Error) -> io::Result<()> {
     stderr.write_fmt("\n")
 }
 
-// Writes so many bytes at the front of the output to standard output; where that fails, says so.
-fn flush(rt: &HostRuntime, out: &[u8], n: usize) -> Written
+// Writes so many bytes at the front of the output to standard output.
+fn flush(rt: &HostRuntime, out: &[u8], n: usize) -> Result<usize, Failure>
     requires { n ≤ length out.now }
     ensures { Handed result n }
 {
-    match rt.write_all(&out[..n]) {
-        Ok(()) => Written::All(n),
-        Err(error) => {
-            let _ = fail(rt, "type_lines: writing standard output", error);
-            Written::NotAll
-        }
-    }
+    rt.write_all(&out[..n]).map_err(Failure::Writing)?;
+    Ok(n)
 }
 
 // Reads more behind so many bytes of the input, an unfinished line.
-fn read_on(rt: &HostRuntime, input: &mut [u8], left: usize, skip: bool, wrote: usize) -> After
+fn read_on(
+    rt: &HostRuntime,
+    input: &mut [u8],
+    left: usize,
+    skip: bool,
+    wrote: usize,
+) -> Result<After, Failure>
     requires { left < length input.old }
     ensures { ReadOn result input.old left skip wrote input.new }
 {
-    let n = match rt.stdin().read(&mut input[left..]) {
-        Ok(n) => n,
-        Err(error) => {
-            let _ = fail(rt, "type_lines: reading standard input", error);
-            return After::Failed;
-        }
-    };
+    let n = rt
+        .stdin()
+        .read(&mut input[left..])
+        .map_err(Failure::Reading)?;
     let next = Turn {
         filled: left + n,
         from: 0,
-        skip: skip,
+        skip,
         written: wrote,
         read: n,
     };
     if n == 0 {
-        return After::End(next);
+        return Ok(After::End(next));
     }
-    After::More(next)
+    Ok(After::More(next))
 }
 
 // One turn: answers what can be answered and writes the answers; then reads more, unless the output was short of room.
-fn take_turn(rt: &HostRuntime, input: &mut [u8], t: Turn, rows: &mut [u32], out: &mut [u8]) -> After
-    requires { Running input.old t rows.old out.old }
+fn take_turn(
+    rt: &HostRuntime,
+    input: &mut [u8; BUFFER_BYTES],
+    t: Turn,
+    rows: &mut [u32; LINE_WORDS],
+    out: &mut [u8; BUFFER_BYTES],
+) -> Result<After, Failure>
+    requires { Running input.old t }
     ensures { GoesOn t input.old out.old result input.new out.new }
 {
     let filled = t.filled;
@@ -153,37 +137,43 @@ fn take_turn(rt: &HostRuntime, input: &mut [u8], t: Turn, rows: &mut [u32], out:
         skip: t.skip,
     };
     let q = lines::answer_lines(&input[..filled], p, rows, out);
-    let Written::All(wrote) = flush(rt, out, q.wrote) else {
-        return After::Failed;
-    };
+    let wrote = flush(rt, out, q.wrote)?;
     if wrote <= out.len() - ANSWER_BYTES {
         let left = lines::move_left(input, q.from, filled);
         return read_on(rt, input, left, q.skip, wrote);
     }
-    After::More(Turn {
-        filled: filled,
+    Ok(After::More(Turn {
+        filled,
         from: q.from,
         skip: q.skip,
         written: wrote,
         read: 0,
-    })
+    }))
 }
 
-// Answers what is left at the end of the input, and writes the answer.
-fn finish(rt: &HostRuntime, line: &[u8], skip: bool, rows: &mut [u32], out: &mut [u8]) -> Ending
-    requires { Room rows.old out.old × Unfinished line.now }
+// Answers what is left at the end of the input, and writes the answer: how many bytes.
+fn finish(
+    rt: &HostRuntime,
+    line: &[u8],
+    skip: bool,
+    rows: &mut [u32; LINE_WORDS],
+    out: &mut [u8; BUFFER_BYTES],
+) -> Result<usize, Failure>
+    requires { Unfinished line.now }
     ensures { LastLine line.now skip result out.new }
 {
     let n = lines::answer_last(line, skip, rows, out);
-    let Written::All(wrote) = flush(rt, out, n) else {
-        return Ending::Broken;
-    };
-    Ending::Done(wrote)
+    flush(rt, out, n)
 }
 
-// Turns until the input ends. Each reads or writes a byte, so that their number never runs out.
-fn run(rt: &HostRuntime, input: &mut [u8], rows: &mut [u32], out: &mut [u8]) -> Ending
-    requires { (max_text < length input.old) × Room rows.old out.old }
+// Turns until the input ends, and how many bytes were written last; none where so many turns were all, which cannot run
+// out, since each reads or writes a byte.
+fn run(
+    rt: &HostRuntime,
+    input: &mut [u8; BUFFER_BYTES],
+    rows: &mut [u32; LINE_WORDS],
+    out: &mut [u8; BUFFER_BYTES],
+) -> Result<Option<usize>, Failure>
     ensures { Ran result out.new }
 {
     let mut t = Turn {
@@ -193,25 +183,23 @@ fn run(rt: &HostRuntime, input: &mut [u8], rows: &mut [u32], out: &mut [u8]) -> 
         written: 0,
         read: 0,
     };
-    let mut turns: u64 = 0;
-    while turns < u64::MAX {
-        let after = take_turn(rt, input, t, rows, out);
-        if let After::End(last) = after {
-            let left = last.filled;
-            return finish(rt, &input[..left], last.skip, rows, out);
+    for _ in 0..u64::MAX {
+        match take_turn(rt, input, t, rows, out)? {
+            After::More(next) => t = next,
+            After::End(last) => {
+                let left = last.filled;
+                return Ok(Some(finish(rt, &input[..left], last.skip, rows, out)?));
+            }
         }
-        let After::More(next) = after else {
-            return Ending::Broken;
-        };
-        t = next;
-        turns += 1;
     }
-    Ending::Limit(turns)
+    Ok(None)
 }
 
 fn main(rt: HostRuntime) {
-    let mut input = large_buffer();
-    let mut rows = row_words();
-    let mut out = large_buffer();
-    run(&rt, &mut input, &mut rows, &mut out);
+    let mut input = [0; BUFFER_BYTES];
+    let mut rows = [0; LINE_WORDS];
+    let mut out = [0; BUFFER_BYTES];
+    if let Err(failure) = run(&rt, &mut input, &mut rows, &mut out) {
+        let _ = report(&rt, failure);
+    }
 }

@@ -1,18 +1,14 @@
-use Rattle.answer_line.proofs.Ends.{past_end, passed_none, found, passed-more, not_found}
-use native.Mathlib.Omega.{arith}
+use Rattle.std.proofs.Common.{eqb, arith, rules, tests}
+use Rattle.std.proofs.lemmas.Iterator.{YieldsList-from_slice}
+use Rattle.std.proofs.lemmas.Iterator.Search.{position_from_yields_List}
+use Rattle.answer_line.proofs.Ends.{past_end, found_at}
 use Rattle.answer_line.proofs.line_end.Goals as goal
 
-pub returns-then-input-from : goal.returns-then-input-from
-returns-then-input-from c = past_end _ _ c.if-input-from.true
-
-pub loop-i-init : goal.loop-i-init
-loop-i-init c = passed_none _ _ (omega arith)
-
-pub returns-then-input-i-eq10 : goal.returns-then-input-i-eq10
-returns-then-input-i-eq10 c = found _ _ _ c.loop-i.invariant (omega arith) c.if-input-i-eq10.true
-
-pub loop-i-preserved : goal.loop-i-preserved
-loop-i-preserved c = passed-more _ _ _ c.loop-i.invariant (omega arith) c.if-input-i-eq10.false
-
 pub returns : goal.returns
-returns c = not_found _ _ _ c.loop-i.invariant c.loop-i-test.false
+returns c =
+    let part = c.in-Some.ensures.lookup.0 in
+    let found = position_from_yields_List (λ b. eqb b 10) _ _ c.position.result c.position.ensures.ran (YieldsList-from_slice c.in-Some.rest.now cc) (λ x b q k. search (rules, tests)) in
+    rw c.unwrap_or.ensures (found_at _ _ _ _ part.0 part.2 found)
+
+pub returns-in_default : goal.returns-in_default
+returns-in_default c = past_end _ _ (omega (arith, c.in_default.ensures.lookup.0))

@@ -1,6 +1,6 @@
 -- What the printer's private functions promise; nothing here has to be believed, since no public function's contract
 -- cites it.
-use Rattle.std.specs.Prelude.{◌≡◌, Bool, true, false, not, ◌&&◌, ◌||◌, List, [], ◌∷◌, ◌++◌, ℕ, ◌+◌, ◌-◌, ◌*◌, ◌/◌, ◌%◌, ◌≤◌, ◌<◌, length, get_or, take, drop, T, leb, ltb, eqb, if◌then◌else◌}
+use Rattle.std.specs.Prelude.{◌≡◌, Bool, true, false, not, ◌&&◌, ◌||◌, List, [], ◌++◌, ℕ, ◌+◌, ◌-◌, ◌*◌, ◌≤◌, ◌<◌, length, get_or, take, drop, T, leb, ltb, eqb, if◌then◌else◌}
 use Rattle.std.proofs.lemmas.List.Edits.{sets}
 use Rattle.tokenizer.specs.Text.{bytes}
 use Rattle.datatype.specs.Limits.{max_rows}
@@ -10,8 +10,8 @@ use Rattle.datatype.specs.Table.{row_words, rows_at}
 use Rattle.subtrees.specs.Internal.Run.{row_at, forest_at, Nests}
 use Rattle.row_table.specs.Sound.{Standing, rules_of, row_fits, rows_fit}
 use Rattle.output.specs.Digits.{digits}
-use Rattle.display_length.specs.Display.{kind_word, hex, escaped, quoted, Shown, nullity_text, field_text, type_text, shown}
-use Rattle.datatype_display.specs.declared.kind_words.Word.{Word}
+use Rattle.display_length.specs.Display.{hex, escaped, quoted, Shown, nullity_text, field_text, list_field_text, sorted_text, shape_text, type_text, shown}
+use Rattle.datatype_display.specs.declared.tree.Tree.{Tree}
 
 -- ---- the output buffer
 
@@ -23,31 +23,6 @@ pub record Fits (out : List ℕ) (at : ℕ) (s : List ℕ) : Type 0 where
 pub record Wrote (before : List ℕ) (at : ℕ) (s : List ℕ) (next : ℕ) (after : List ℕ) : Type 0 where
   pub stored : after ≡ sets before at s
   pub place : next ≡ at + length s
-
--- ---- numbers that hold bytes, the highest first
-
--- The four lowest bytes of a number, and its eight bytes.
-unfoldable pub four : ℕ → List ℕ
-four v = (v / 16777216 % 256) ∷ (v / 65536 % 256) ∷ (v / 256 % 256) ∷ (v % 256) ∷ []
-
-unfoldable pub eight : ℕ → List ℕ
-eight v = four (v / 4294967296) ++ four v
-
--- Bytes as one number.
-unfoldable pub packed : ℕ → List ℕ → ℕ
-packed n [] = n
-packed n (c ∷ s) = packed (256 * n + c) s
-
--- How many bytes the ends of a word of so many bytes have.
-abbrev pub end_size : ℕ → ℕ
-end_size n = if ltb n 4 then 0 else if leb n 8 then 4 else 8
-
--- A kind's word by its ends.
-unfoldable pub word_of : ℕ → Word
-word_of k =
-    let w = kind_word k in
-    let n = length w in
-    record { size = n; head = packed 0 (take (end_size n) w); tail = packed 0 (drop (n - end_size n) w) }
 
 -- ---- strings
 
@@ -87,6 +62,10 @@ name_text name role = quoted name ++ (bytes ": " ++ nullability role)
 
 unfoldable pub nullable_text : Shown → List ℕ
 nullable_text k = nullity_text k.label ++ k.text
+
+-- One of RunEndEncoded's two fields, with its name unless both have the default ones.
+unfoldable pub run_end_part : Bool → Shown → List ℕ
+run_end_part short k = if short then nullable_text k else field_text k
 
 unfoldable pub union_field_text : Shown → List ℕ
 union_field_text k = bytes ", " ++ (digits k.label.union_id ++ (bytes ": (" ++ (field_text k ++ bytes ")")))
@@ -141,3 +120,41 @@ pub record Shaped (s : Shape) (text names table : List ℕ) (level i : ℕ) : Ty
 pub record Child (text names table : List ℕ) (level i : ℕ) : Type 0 where
   pub some_level : 1 ≤ level
   pub subtree : Subtree text names table (level - 1) i
+
+-- ---- the same of a tree in hand
+
+abbrev pub label_in : Tree → ℕ → Label
+label_in t i = label_at t.text.now t.names.now t.rows.now i
+
+abbrev pub text_in : Tree → ℕ → List ℕ
+text_in t i = text_at t.text.now t.names.now t.rows.now i
+
+abbrev pub shown_in : Tree → ℕ → Shown
+shown_in t i = shown_at t.text.now t.names.now t.rows.now i
+
+-- What stands behind the kind's word, where the kind has a shape.
+abbrev pub shape_in : Shape → Tree → ℕ → List ℕ
+shape_in s t i = shape_text s (label_in t i) (shown (kids_at t.text.now t.names.now t.rows.now i))
+
+abbrev pub ShapedIn : Shape → Tree → ℕ → ℕ → Type 0
+ShapedIn s t level i = Shaped s t.text.now t.names.now t.rows.now level i
+
+abbrev pub ChildIn : Tree → ℕ → ℕ → Type 0
+ChildIn t level i = Child t.text.now t.names.now t.rows.now level i
+
+-- The second of row i's children.
+abbrev pub second_in : Tree → ℕ → ℕ
+second_in t i = i + 1 + rows_at t.rows.now (i + 1)
+
+-- What stands behind the word of a type with one type or two below it.
+abbrev pub list_in : Tree → ℕ → List ℕ
+list_in t i = bytes "(" ++ (list_field_text (shown_in t (i + 1)) ++ bytes ")")
+
+abbrev pub fixed_list_in : Tree → ℕ → List ℕ
+fixed_list_in t i = bytes "(" ++ (digits (label_in t i).number ++ (bytes " x " ++ (list_field_text (shown_in t (i + 1)) ++ bytes ")")))
+
+abbrev pub dictionary_in : Tree → ℕ → List ℕ
+dictionary_in t i = bytes "(" ++ (text_in t (i + 1) ++ (bytes ", " ++ (text_in t (second_in t i) ++ bytes ")")))
+
+abbrev pub map_in : Tree → ℕ → List ℕ
+map_in t i = bytes "(" ++ (field_text (shown_in t (i + 1)) ++ (bytes ", " ++ (sorted_text (label_in t i).number ++ bytes ")")))

@@ -1,6 +1,6 @@
 -- What private functions of this crate promise; nothing here has to be believed, since no public function's contract
 -- cites it.
-use Rattle.std.specs.Prelude.{◌≡◌, Bool, true, false, not, ◌&&◌, ◌||◌, List, [], ◌∷◌, ℕ, ◌+◌, ◌-◌, ◌*◌, ◌≤◌, ◌<◌, length, get_or, T, leb, eqb, if◌then◌else◌}
+use Rattle.std.specs.Prelude.{◌≡◌, Bool, true, false, not, ◌&&◌, ◌||◌, List, ℕ, ◌+◌, ◌-◌, ◌*◌, ◌≤◌, ◌<◌, length, get_or, T, leb, ltb, eqb, if◌then◌else◌}
 use Rattle.tokenizer.specs.Text.{all}
 use Rattle.datatype.specs.Limits.{max_text, max_rows}
 use Rattle.datatype.specs.Kind.{Shape, leaf, timestamp, time, interval, fixed, list, fixed_list, struct, union, dictionary, decimal, mapping, run_end_encoded, shape_of}
@@ -8,7 +8,7 @@ use Rattle.datatype.specs.Tree.{Forest, ∅, node, roots, depth, Label, zone_of,
 use Rattle.datatype.specs.Table.{row_words, rows_at}
 use Rattle.subtrees.specs.Internal.Run.{row_at, forest_at, Nests}
 use Rattle.output.specs.Digits.{digits}
-use Rattle.display_length.specs.Display.{unit_text, interval_text, mode_text, sorted_text, scale_text, quoted, list_name_text, zone_text}
+use Rattle.display_length.specs.Display.{kind_text, unit_text, interval_text, mode_text, sorted_text, scale_text, quoted, list_name_text, zone_text}
 use Rattle.display_length.specs.PrintedLength.{quotes_names, is_ascii, names_ascii}
 
 -- ---- rows
@@ -19,6 +19,10 @@ label_at text names table i = label_of text names (row_at table i)
 
 unfoldable pub kids_at : List ℕ → List ℕ → List ℕ → ℕ → Forest Label
 kids_at text names table i = labels text names (forest_at table (i + 1) (i + rows_at table i - (i + 1)))
+
+-- The trees of the rows from start to end.
+abbrev pub labels_of : List ℕ → List ℕ → List ℕ → ℕ → ℕ → Forest Label
+labels_of text names table start end = labels text names (forest_at table start (end - start))
 
 -- How many levels stand below row i.
 abbrev pub depth_below : List ℕ → ℕ → ℕ
@@ -47,6 +51,10 @@ is_clean c = leb 32 c && not (eqb c 92) && leb c 126
 unfoldable pub is_no_mark : ℕ → Bool
 is_no_mark c = not (eqb c 34)
 
+-- A byte's weight, at most 126 where it is clean.
+abbrev pub clean_weight : ℕ → ℕ
+clean_weight c = if ltb c 32 || eqb c 92 then 255 else c
+
 -- Bytes no longer than a text, and clean ones where the code takes them to be.
 pub record Clean (clean : Bool) (s : List ℕ) : Type 0 where
   pub short : length s ≤ max_text
@@ -54,17 +62,9 @@ pub record Clean (clean : Bool) (s : List ℕ) : Type 0 where
 
 -- ---- a row's own bytes, in the parts in which the code counts them
 
--- The lengths of the kinds' words, in their order; what is no kind has none.
-abbrev pub word_lengths : List ℕ
-word_lengths =
-    4 ∷ 7 ∷ 4 ∷ 5 ∷ 5 ∷ 5 ∷ 5 ∷ 6 ∷ 6 ∷ 6 ∷ 7 ∷ 7 ∷ 7
-    ∷ 9 ∷ 6 ∷ 6 ∷ 6 ∷ 6 ∷ 8 ∷ 8
-    ∷ 6 ∷ 15 ∷ 11 ∷ 10 ∷ 4 ∷ 9 ∷ 8
-    ∷ 4 ∷ 8 ∷ 13 ∷ 9 ∷ 13 ∷ 6 ∷ 5
-    ∷ 10 ∷ 9 ∷ 9 ∷ 10 ∷ 10 ∷ 3 ∷ 13 ∷ []
-
+-- How long a kind's word is.
 unfoldable pub word_length : ℕ → ℕ
-word_length k = get_or word_lengths k 0
+word_length k = length (kind_text k)
 
 -- What stands behind a kind's word, but for what stands around its children's types: the marks, and what words 4 and 5
 -- and the zone say.

@@ -1,29 +1,19 @@
--- What the answers of the reader's own functions mean, and how they and the rows match the definitions. This is how the
+-- What the reader's own functions keep of an answer, and how answers and rows match the definitions. This is how the
 -- code finds its way; what must be believed is in Parse.antt.
-use Rattle.std.specs.Prelude.{◌≡◌, Bool, ◌||◌, List, [], ◌∷◌, ℕ, ◌+◌, ◌*◌, ◌≤◌, length, eqb, if◌then◌else◌}
+use Rattle.std.specs.Prelude.{◌≡◌, Option, Some, None, Result, Ok, Bool, ◌||◌, List, [], ◌∷◌, ℕ, ◌+◌, ◌*◌, ◌≤◌, length, eqb, if◌then◌else◌}
 use Rattle.std.proofs.lemmas.List.Edits.{sets}
-use Rattle.tokenizer.specs.Answer.{Out, refused, done}
-use Rattle.tokenizer.specs.Token.{value_of, is_negative, lparen, rparen, comma, colon}
-use Rattle.tokenizer.specs.declared.Token.{Token}
+use Rattle.tokenizer.specs.Answer.{Out, refused, done, answer_of}
+use Rattle.tokenizer.specs.declared.refusal.Refusal as R
+use Rattle.tokenizer.specs.Token.{Standing, value_of, is_negative, signed, lparen, rparen, comma, colon}
 use Rattle.datatype.specs.Limits.{max_text, max_rows}
 use Rattle.datatype.specs.Tree.{Forest, ∅, node, count, Row}
 use Rattle.datatype.specs.Table.{row_words, words_of, table_of}
-use Rattle.parser.specs.Parse.{Name, Tree, Fields, Zone, single, rows_in}
-use Rattle.parser.specs.declared.Step.{Step}
-use Rattle.parser.specs.declared.Step.TheVariants as S
-use Rattle.parser.specs.declared.Look.{Look}
-use Rattle.parser.specs.declared.Look.TheVariants as L
-use Rattle.parser.specs.declared.Valued.{Valued}
-use Rattle.parser.specs.declared.Valued.TheVariants as W
-use Rattle.parser.specs.declared.Number.{Number}
-use Rattle.parser.specs.declared.Number.TheVariants as N
-use Rattle.parser.specs.declared.Quoted.{Quoted}
-use Rattle.parser.specs.declared.Quoted.TheVariants as Q
-use Rattle.parser.specs.declared.Read.{Read}
-use Rattle.parser.specs.declared.Read.TheVariants as R
+use Rattle.parser.specs.Parse.{Tree, Fields, Zone, single, rows_in}
 use Rattle.parser.specs.declared.Word.{Word}
+use Rattle.parser.specs.declared.Number.{Number}
 use Rattle.parser.specs.declared.Signed.{Signed}
 use Rattle.parser.specs.declared.Span.{Span}
+use Rattle.parser.specs.declared.Extent.{Extent}
 
 -- ---- tokens
 
@@ -34,39 +24,35 @@ mark_sort c = if eqb c 40 then lparen else if eqb c 41 then rparen else if eqb c
 abbrev pub is_mark : ℕ → Bool
 is_mark c = eqb c 40 || eqb c 41 || eqb c 44 || eqb c 58
 
--- A word, a number and a string that were read.
-abbrev pub word : ℕ → ℕ → Word
-word v n = record { value = v; next = n }
+-- What the code keeps of a token: the place behind it, if there is one; a word, a number and a string.
+unfoldable pub next_of : Out Standing → Out ℕ
+next_of (refused r) = refused r
+next_of (done t) = done t.next
 
-abbrev pub number : Bool → ℕ → ℕ → Signed
-number negative v n = record { negative = negative; magnitude = v; next = n }
+unfoldable pub look_of : Out Standing → Option ℕ
+look_of (refused r) = None
+look_of (done t) = Some t.next
 
-abbrev pub span : ℕ → ℕ → ℕ → Span
-span s l n = record { start = s; size = l; next = n }
+unfoldable pub word_of : Out Standing → Out Word
+word_of (refused r) = refused r
+word_of (done t) = done (record { value = value_of t.kind; next = t.next })
 
-unfoldable pub step_of : Out Token → Step
-step_of (refused r) = S.Refused r.number
-step_of (done t) = S.Next t.next
+unfoldable pub integer_of : Out Standing → Out Number
+integer_of (refused r) = refused r
+integer_of (done t) = done (record { value = signed (is_negative t.kind) (value_of t.kind); next = t.next })
 
-unfoldable pub look_of : Out Token → Look
-look_of (refused r) = L.Other
-look_of (done t) = L.Next t.next
+unfoldable pub signed_of : Out Standing → Out Signed
+signed_of (refused r) = refused r
+signed_of (done t) = done (record { value = signed (is_negative t.kind) (value_of t.kind); next = t.next })
 
-unfoldable pub valued_of : Out Token → Valued
-valued_of (refused r) = W.Refused r.number
-valued_of (done t) = W.Value (word (value_of t.kind) t.next)
+unfoldable pub span_of : Out Standing → Out Span
+span_of (refused r) = refused r
+span_of (done t) = done (record { start = t.start; size = t.size; next = t.next })
 
-unfoldable pub number_of : Out Token → Number
-number_of (refused r) = N.Refused r.number
-number_of (done t) = N.Value (number (is_negative t.kind) (value_of t.kind) t.next)
-
-unfoldable pub quoted_of : Out Token → Quoted
-quoted_of (refused r) = Q.Refused r.number
-quoted_of (done t) = Q.String (span t.start t.size t.next)
-
-unfoldable pub zone_step : Out Zone → Quoted
-zone_step (refused r) = Q.Refused r.number
-zone_step (done z) = Q.String (span z.start z.size z.next)
+-- The same of a zone.
+unfoldable pub zone_of : Out Zone → Out Span
+zone_of (refused r) = refused r
+zone_of (done z) = done (record { start = z.start; size = z.size; next = z.next })
 
 -- ---- rows
 
@@ -81,31 +67,32 @@ pub record Stored (f : Forest Row) (row left : ℕ) (before after : List ℕ) : 
   pub room : count f ≤ left
   pub rows : after ≡ sets before (row_words * row) (table_of f)
 
+-- A place behind, and so many rows.
+abbrev pub extent : ℕ → ℕ → Extent
+extent next used = record { next = next; used = used }
+
 -- A type or a field. The rows are left open on a refusal: the public function clears them.
-unfoldable pub Meets : Out Tree → ℕ → ℕ → List ℕ → Read → List ℕ → Type 0
-Meets (refused x) row left before r after = r ≡ R.Refused x.number
-Meets (done t) row left before r after = (r ≡ R.Tree t.next (rows_in t)) × Stored (single t) row left before after
+unfoldable pub Meets : Out Tree → ℕ → ℕ → List ℕ → Result Extent R.Refusal → List ℕ → Type 0
+Meets (refused x) row left before r after = answer_of r ≡ refused x
+Meets (done t) row left before r after = (r ≡ Ok (extent t.next (rows_in t))) × Stored (single t) row left before after
 
 -- A row that is written in front of the rows of its children, and where the type ends.
-abbrev pub Put : ℕ → ℕ → ℕ → Row → List ℕ → Read → List ℕ → Type 0
-Put next row used r before a after = (a ≡ R.Tree next (used + 1)) × (after ≡ sets before (row_words * row) (words_of r (used + 1)))
+abbrev pub Put : ℕ → ℕ → ℕ → Row → List ℕ → Extent → List ℕ → Type 0
+Put next row used r before a after = (a ≡ extent next (used + 1)) × (after ≡ sets before (row_words * row) (words_of r (used + 1)))
 
 -- The same, behind the mark that closes the type.
-unfoldable pub Closed : Out Token → ℕ → ℕ → Row → List ℕ → Read → List ℕ → Type 0
-Closed (refused x) row used r before a after = a ≡ R.Refused x.number
-Closed (done t) row used r before a after = Put t.next row used r before a after
+unfoldable pub Closed : Out Standing → ℕ → ℕ → Row → List ℕ → Result Extent R.Refusal → List ℕ → Type 0
+Closed (refused x) row used r before a after = answer_of a ≡ refused x
+Closed (done t) row used r before a after = (a ≡ Ok (extent t.next (used + 1))) × (after ≡ sets before (row_words * row) (words_of r (used + 1)))
 
--- The words that make a row a field's, as they are written; and for a name of the name list.
+-- The words that make a row a field's, as they are written.
 abbrev pub FieldWords : List ℕ → ℕ → ℕ → ℕ → ℕ → ℕ → ℕ → List ℕ → Type 0
 FieldWords before row role id home start size after = after ≡ sets (sets before (row_words * row + 2) (role ∷ id ∷ [])) (row_words * row + 6) (home ∷ start ∷ size ∷ [])
 
-abbrev pub Named : List ℕ → ℕ → ℕ → Name → List ℕ → Type 0
-Named before row role n after = FieldWords before row role 0 n.home n.start n.size after
-
 -- Some fields.
-unfoldable pub MeetsFields : Out Fields → ℕ → ℕ → List ℕ → Read → List ℕ → Type 0
-MeetsFields (refused x) row left before r after = r ≡ R.Refused x.number
-MeetsFields (done fs) row left before r after = (r ≡ R.Tree fs.next (count fs.trees)) × Stored fs.trees row left before after
+unfoldable pub MeetsFields : Out Fields → ℕ → ℕ → List ℕ → Result Extent R.Refusal → List ℕ → Type 0
+MeetsFields (refused x) row left before r after = answer_of r ≡ refused x
+MeetsFields (done fs) row left before r after = (r ≡ Ok (extent fs.next (count fs.trees))) × Stored fs.trees row left before after
 
 -- ---- rows read back
 

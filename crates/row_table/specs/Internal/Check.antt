@@ -1,18 +1,20 @@
 -- How `is_sound` finds its way: the clauses of soundness, in the order and the parts in which the code looks at them.
 -- Contracts of private functions cite these; nothing here has to be believed, since `is_sound`'s own contract does not.
-use Rattle.std.specs.Prelude.{Bool, true, false, ◌&&◌, ◌||◌, List, map, ℕ, zero, suc, ◌+◌, length, take, leb, ltb, eqb, if◌then◌else◌}
+use Rattle.std.specs.Prelude.{Bool, true, false, ◌&&◌, ◌||◌, List, map, ℕ, ◌+◌, ◌-◌, length, take, leb, ltb, eqb, if◌then◌else◌}
 use Rattle.std.proofs.Math.Option.{Option, none, some}
 use Rattle.tokenizer.specs.Utf8.{utf8_state, is_utf8}
 use Rattle.datatype.specs.Kind.{Shape, leaf, timestamp, time, interval, fixed, list, fixed_list, struct, union, dictionary, decimal, mapping, run_end_encoded, kinds, shape_of, unit_fits, decimal_fits, ids_fit}
 use Rattle.datatype.specs.Tree.{Forest, ∅, node, roots, depth, Row, name_list, part, labels}
-use Rattle.subtrees.specs.Internal.Run.{entries_of}
+use Rattle.subtrees.specs.Internal.Run.{forest_at, entries_of}
+use Rattle.row_table.specs.declared.rules.Standing.{Standing as Place}
+use Rattle.row_table.specs.declared.rules.Standing.TheVariants.{Bare, Field, UnionField}
 use Rattle.row_table.specs.Sound.{Standing, bare, field, union_field, arity_fits, id_fits, rules_of, is_listed, rows_fit, placed}
 
--- A standing as the code has it: 0 bare, 1 a field, 2 a field of a union.
-abbrev pub standing_of : ℕ → Standing
-standing_of zero = bare
-standing_of (suc zero) = field
-standing_of (suc (suc n)) = union_field
+-- A standing as the code has it.
+abbrev pub standing_of : Place → Standing
+standing_of Bare = bare
+standing_of Field = field
+standing_of UnionField = union_field
 
 -- Where a kind's children stand.
 abbrev pub below_of : ℕ → Standing
@@ -39,10 +41,6 @@ zone_ok text zoned start size = if eqb size 0 then eqb start 0 else (zoned && pa
 -- One of the four decimals.
 unfoldable pub is_decimal : ℕ → Bool
 is_decimal k = leb 35 k && leb k 38
-
--- One of the lists, of fixed size or not.
-unfoldable pub is_list : ℕ → Bool
-is_list k = leb 27 k && leb k 31
 
 -- What a shape asks of words 4 and 5 alone.
 abbrev pub own_shape : Shape → ℕ → ℕ → ℕ → Bool
@@ -73,6 +71,10 @@ own_fits text standing r =
     && id_fits standing r.union_id
     && name_ok text standing r.role r.home r.name_start r.name_length
     && zone_ok text (rules_of (shape_of r.kind)).zoned r.zone_start r.zone_length
+
+-- The trees of rows first to end.
+abbrev pub trees : List ℕ → ℕ → ℕ → Forest Row
+trees table first end = forest_at table first (end - first)
 
 -- Map's entries: a non-null Struct of two whose first is non-null.
 abbrev pub entries_ok : Forest Row → Bool

@@ -1,5 +1,5 @@
--- How the code finds parents: it climbs from the row before, through parents that are right already. Contracts of private
--- functions cite this; nothing here has to be believed, since no public function's contract does.
+-- How the code finds parents: it climbs from the row before, through parents that are right already. Contracts of
+-- private functions cite this; nothing here has to be believed, since no public function's contract does.
 use Rattle.std.specs.Prelude.{◌≡◌, List, ℕ, ◌*◌, ◌≤◌, ◌<◌, length}
 use Rattle.datatype.specs.Table.{row_words, parent_word_at}
 use Rattle.subtrees.specs.Parents.{parent_at}

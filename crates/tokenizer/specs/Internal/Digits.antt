@@ -1,15 +1,11 @@
--- How the code finds its way through a number; nothing here has to be believed.
-use Rattle.std.specs.Prelude.{Bool, ◌&&◌, List, ℕ, ◌-◌, ◌^◌, leb, if◌then◌else◌}
-use Rattle.tokenizer.specs.Text.{all}
-use Rattle.tokenizer.specs.Token.{is_digit, number_from}
-use Rattle.tokenizer.specs.declared.TokenKind.{TokenKind}
-use Rattle.tokenizer.specs.declared.TokenKind.TheVariants.{Integer, Refused}
+-- How the code knows a number; nothing here has to be believed.
+use Rattle.std.specs.Prelude.{Bool, false, ◌||◌, T, List, [], ◌∷◌, ℕ, eqb}
+use Rattle.tokenizer.specs.Token.{is_digit}
 
--- The largest magnitude.
-abbrev pub limit : Bool → ℕ
-limit negative = if negative then 2 ^ 63 else (2 ^ 63 - 1)
+-- A word begins as a number does: with a minus sign or a digit.
+abbrev pub begins_number : List ℕ → Bool
+begins_number [] = false
+begins_number (c ∷ s) = eqb c 45 || is_digit c
 
--- The token of a number of which v was spelled before the digits that are left.
-unfoldable pub kind_from : Bool → ℕ → List ℕ → TokenKind
-kind_from negative v digits =
-    if all is_digit digits && leb (number_from v digits) (limit negative) then Integer negative (number_from v digits) else Refused 8
+abbrev pub BeginsNumber : List ℕ → Type 0
+BeginsNumber s = T (begins_number s)

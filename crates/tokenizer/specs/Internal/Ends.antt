@@ -1,7 +1,9 @@
 -- Where a word and a quoted string end: how the code finds its way. Contracts of private functions cite these; nothing
 -- here has to be believed.
-use Rattle.std.specs.Prelude.{Bool, not, ◌&&◌, List, ℕ, ◌+◌, length, drop, eqb}
+use Rattle.std.specs.Prelude.{Bool, not, ◌&&◌, List, ℕ, ◌+◌, length, drop, ltb, eqb, if◌then◌else◌}
 use Rattle.std.proofs.Math.Option.{Option, none, some}
+use Rattle.std.specs.declared.option.Option as S
+use Rattle.std.specs.declared.option.Option.TheVariants.{Some, None}
 use Rattle.tokenizer.specs.Token.{word_of, until_quote}
 
 -- The place behind the word that starts at a place.
@@ -20,3 +22,7 @@ place_or end at (some n) = at + n
 -- The place of the mark that ends a string, from a place in it on; the text's length where none does.
 unfoldable pub quote_end : List ℕ → ℕ → Bool → ℕ → ℕ
 quote_end text quote escaped at = place_or (length text) at (until_quote quote escaped (drop at text))
+
+-- The same as a place, if a mark ends it.
+abbrev pub mark_place : List ℕ → ℕ → Bool → ℕ → S.Option ℕ
+mark_place text quote escaped at = let end = quote_end text quote escaped at in if ltb end (length text) then Some end else None

@@ -2,11 +2,11 @@ use mathlib.Core.Path.{refl}
 use Rattle.answer_line.proofs.Trees.{tree-room, tree-refused, tree-printed}
 use Rattle.answer_line.proofs.tree.print_tree.Goals as goal
 
-pub put_frame-requires : goal.put_frame-requires
-put_frame-requires c = (c.requires.1, c.requires.2, tree-room _ _ _ _ _ _ c.head_length-head.ensures c.requires.0 _ _ _ refl refl _ c.print_data_type.ensures.result_value c.print_data_type.ensures.out_after _ c.in-Length.is)
+pub frame-requires : goal.frame-requires
+frame-requires c = (tree-room _ _ _ _ _ _ c.length-at.ensures c.requires _ _ _ refl refl _ c.print_data_type.ensures.result_value c.print_data_type.ensures.out_after _ c.in-Ok.is)
 
-pub returns-in-Refused : goal.returns-in-Refused
-returns-in-Refused c = tree-refused _ _ _ _ _ _ c.head_length-head.ensures c.requires.0 _ _ _ refl refl _ c.print_data_type.ensures.result_value c.print_data_type.ensures.out_after _ c.in-Refused.is _ _ c.put_no.ensures
+pub returns-in-Err : goal.returns-in-Err
+returns-in-Err c = tree-refused _ _ _ _ _ _ c.length-at.ensures c.requires _ _ _ refl refl _ c.print_data_type.ensures.result_value c.print_data_type.ensures.out_after _ c.in-Err.is _ _ c.put_no.ensures
 
-pub returns-in-Length : goal.returns-in-Length
-returns-in-Length c = tree-printed _ _ _ _ _ _ c.head_length-head.ensures c.requires.0 _ _ _ refl refl _ c.print_data_type.ensures.result_value c.print_data_type.ensures.out_after _ c.in-Length.is _ _ c.put_frame.ensures
+pub returns-in-Ok : goal.returns-in-Ok
+returns-in-Ok c = tree-printed _ _ _ _ _ _ c.length-at.ensures c.requires _ _ _ refl refl _ c.print_data_type.ensures.result_value c.print_data_type.ensures.out_after _ c.in-Ok.is _ _ c.frame.ensures

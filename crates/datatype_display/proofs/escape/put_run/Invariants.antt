@@ -1,10 +1,5 @@
 use Rattle.datatype_display.specs.Internal.Steps.{Ran}
-use Prim.Native.Nat.{◌-◌}
-use lib.ListN.{length}
 use Rattle.datatype_display.proofs.escape.put_run.Given as goal
 
 abbrev pub invariant-loop-i : goal.invariant-loop-i
 invariant-loop-i l = Ran l.initial.out l.at l.s l.i l.out
-
-abbrev pub decreases-loop-i : goal.decreases-loop-i
-decreases-loop-i l = length l.s - l.i

@@ -1,11 +1,8 @@
-use Rattle.display_length.proofs.AsciiLaws.{Tops}
-use Rattle.display_length.specs.Internal.Steps.{is_clean}
-use Prim.Native.Nat.{◌-◌}
-use lib.ListN.{length}
+use mathlib.Core.Path.{◌≡◌}
+use lib.ListN.{drop}
+use Rattle.display_length.proofs.AsciiLaws.{greatest}
 use Rattle.display_length.proofs.strings.is_clean.Given as goal
 
-abbrev pub invariant-loop-i : goal.invariant-loop-i
-invariant-loop-i l = Tops is_clean 126 l.s l.top l.i
-
-abbrev pub decreases-loop-i : goal.decreases-loop-i
-decreases-loop-i l = length l.s - l.i
+-- The loop keeps the greatest weight of all, as seen from the greatest so far and the bytes that are left.
+abbrev pub invariant-loop-c : goal.invariant-loop-c
+invariant-loop-c l = greatest 0 l.s ≡ greatest l.top (drop l.c-index l.s)

@@ -1,11 +1,11 @@
-use Rattle.replay.proofs.Counting.{count-alike, count-later, count-first}
+use mathlib.Core.Path.{refl}
+use Rattle.replay.specs.Sample.{counted}
 use Rattle.replay.proofs.counts.counted.Goals as goal
 
 pub returns-then-alike : goal.returns-then-alike
-returns-then-alike c = count-alike c.args.t _ _ _ c.one_more-all.ensures _ c.if-alike.true c.one_more.ensures
-
-pub returns-then-t-gt0 : goal.returns-then-t-gt0
-returns-then-t-gt0 c = count-later c.args.t _ _ _ c.one_more-all.ensures c.if-alike.false c.if-t-gt0.true
+unfolding counted
+returns-then-alike c = rw (c.if-alike.true, c.saturating_add-all.ensures, c.saturating_add.ensures) refl
 
 pub returns : goal.returns
-returns c = count-first c.args.t _ _ _ c.one_more-all.ensures c.if-alike.false c.if-t-gt0.false
+unfolding counted
+returns c = rw (c.if-alike.false, c.or.ensures, c.saturating_add-all.ensures) refl

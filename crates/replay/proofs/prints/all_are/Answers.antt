@@ -1,15 +1,12 @@
-use mathlib.Core.Path.{refl}
-use Rattle.replay.proofs.PrintCases.{all_end, all-other, all_more}
+use mathlib.Core.Path.{◌∙◌}
+use lib.Dec.{eqb}
+use Rattle.std.proofs.Common.{rules, tests}
+use Rattle.std.proofs.lemmas.Iterator.{YieldsList-from_slice}
+use Rattle.std.proofs.lemmas.Iterator.Search.{all_from_yields_List}
+use Rattle.replay.proofs.PrintCases.{list_all_is}
 use Rattle.replay.proofs.prints.all_are.Goals as goal
 
-pub loop-i-init : goal.loop-i-init
-loop-i-init c = refl
-
-pub returns-then-value-bytes : goal.returns-then-value-bytes
-returns-then-value-bytes c = all-other c.args.bytes.now c.args.from c.args.value _ c.loop-i.invariant c.loop-i-test.true c.if-value-bytes.true
-
-pub loop-i-preserved : goal.loop-i-preserved
-loop-i-preserved c = all_more c.args.bytes.now c.args.from c.args.value _ c.loop-i.invariant c.loop-i-test.true c.if-value-bytes.false
-
 pub returns : goal.returns
-returns c = all_end c.args.bytes.now c.args.from c.args.value _ c.loop-i.invariant c.loop-i-test.false
+returns c =
+    all_from_yields_List (eqb c.args.value) _ _ c.all.result c.all.ensures.ran (YieldsList-from_slice c.args.bytes.now cc) (λ x b q k. search (rules, tests))
+    ∙ list_all_is (eqb c.args.value) c.args.bytes.now

@@ -1,9 +1,8 @@
-use Rattle.replay.proofs.TableCases.{CaseTurn}
-use Rattle.replay.specs.TableCase.{changes}
+use mathlib.Core.Path.{◌≡◌}
+use Rattle.replay.specs.Sample.{times}
+use Rattle.replay.specs.TableCase.{one_change}
 use Rattle.replay.proofs.tables.cases_of.Given as goal
 
-abbrev pub invariant-loop-left : goal.invariant-loop-left
-invariant-loop-left l = CaseTurn l.sample l.table l.initial.words l.other l.others l.words l.left l.t (changes l.sample l.table l.initial.words l.other l.others l.initial.left l.initial.t)
-
-abbrev pub decreases-loop-left : goal.decreases-loop-left
-decreases-loop-left l = l.left
+-- The table is what it was, and the cases so far are counted.
+abbrev pub invariant-loop : goal.invariant-loop
+invariant-loop l = (l.words ≡ l.initial.words) × (l.t ≡ times (one_change l.group.sample.now l.group.table l.initial.words l.group.other l.group.others.now) l.counter l.initial.t)

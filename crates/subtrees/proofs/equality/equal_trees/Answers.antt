@@ -1,5 +1,4 @@
 use mathlib.Core.Path.{sym, ◌∙◌}
-use borrow.Author.Tests.{not-true, not-false}
 use Rattle.subtrees.proofs.EqualLaws.{trees-long, trees-start, trees-differ, trees-go, trees-end}
 use Rattle.subtrees.proofs.equality.equal_trees.Goals as goal
 
@@ -10,10 +9,10 @@ pub loop-i-init : goal.loop-i-init
 loop-i-init c = trees-start c.args.text.now c.args.names.now c.args.text2.now c.args.names2.now c.args.rows.now c.args.rows2.now c.if-n-rows2.false
 
 pub returns-then-not-equal_row : goal.returns-then-not-equal_row
-returns-then-not-equal_row c = trees-differ c.args.text.now c.args.names.now c.args.text2.now c.args.names2.now c.args.rows.now c.args.rows2.now _ c.loop-i.invariant c.loop-i-test.true (sym c.equal_row.ensures ∙ not-true _ c.if-not-equal_row.true-raw)
+returns-then-not-equal_row c = trees-differ c.args.text.now c.args.names.now c.args.text2.now c.args.names2.now c.args.rows.now c.args.rows2.now _ c.loop-i.invariant c.loop-i-test.true (sym c.equal_row.ensures ∙ c.if-not-equal_row.true)
 
 pub loop-i-preserved : goal.loop-i-preserved
-loop-i-preserved c = trees-go c.args.text.now c.args.names.now c.args.text2.now c.args.names2.now c.args.rows.now c.args.rows2.now _ c.loop-i.invariant c.loop-i-test.true (sym c.equal_row.ensures ∙ not-false _ c.if-not-equal_row.false-raw)
+loop-i-preserved c = trees-go c.args.text.now c.args.names.now c.args.text2.now c.args.names2.now c.args.rows.now c.args.rows2.now _ c.loop-i.invariant c.loop-i-test.true (sym c.equal_row.ensures ∙ c.if-not-equal_row.false)
 
 pub returns : goal.returns
 returns c = trees-end c.args.text.now c.args.names.now c.args.text2.now c.args.names2.now c.args.rows.now c.args.rows2.now _ c.loop-i.invariant c.loop-i-test.false

@@ -7,6 +7,3 @@ use Rattle.subtrees.proofs.equality.equal_trees.Given as goal
 
 abbrev pub invariant-loop-i : goal.invariant-loop-i
 invariant-loop-i l = equal_trees l.text l.names l.text2 l.names2 l.rows l.rows2 ≡ equal_rows l.text l.names l.text2 l.names2 (first_rows (length l.rows / row_words - l.i) (drop (row_words * l.i) l.rows)) (first_rows (length l.rows / row_words - l.i) (drop (row_words * l.i) l.rows2))
-
-abbrev pub decreases-loop-i : goal.decreases-loop-i
-decreases-loop-i l = l.n - l.i

@@ -1,11 +1,8 @@
-use Rattle.subtrees.proofs.ParentClimb.{climb-root, climb-start, climb-end, climb-found, climb-less, climb-on}
+use Rattle.subtrees.proofs.ParentClimb.{climb-root, climb-end, climb-found, climb-less, climb-on}
 use Rattle.subtrees.proofs.parents.parent_of.Goals as goal
 
 pub returns-then-i-eq0 : goal.returns-then-i-eq0
 returns-then-i-eq0 c = climb-root _ _ c.if-i-eq0.true
-
-pub loop-p-init : goal.loop-p-init
-loop-p-init c = climb-start _ _ c.if-i-eq0.false
 
 pub returns-then-i-p : goal.returns-then-i-p
 returns-then-i-p c = climb-found _ _ _ c.loop-p.invariant _ c.subtree.ensures c.if-i-p.true

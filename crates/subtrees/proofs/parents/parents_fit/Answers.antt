@@ -4,9 +4,6 @@ use Rattle.subtrees.proofs.parents.parents_fit.Goals as goal
 pub loop-i-init : goal.loop-i-init
 loop-i-init c = fit-start _
 
-pub parent_of-requires : goal.parent_of-requires
-parent_of-requires c = c.loop-i.invariant.ready
-
 pub returns-then-parent-parent_of : goal.returns-then-parent-parent_of
 returns-then-parent-parent_of c = fit-not _ _ c.loop-i.invariant c.loop-i-test.true _ _ c.parent.ensures c.parent_of.ensures c.if-parent-parent_of.true
 

@@ -1,9 +1,6 @@
-use Prim.Native.Nat.{◌-◌}
-use Rattle.subtrees.proofs.ParentSet.{SetSo}
+use mathlib.Core.Path.{◌≡◌}
+use Rattle.subtrees.specs.Parents.{parents_set}
 use Rattle.subtrees.proofs.parents.set_first_parents.Given as goal
 
 abbrev pub invariant-loop-i : goal.invariant-loop-i
-invariant-loop-i l = SetSo l.initial.rows l.n l.rows l.i
-
-abbrev pub decreases-loop-i : goal.decreases-loop-i
-decreases-loop-i l = l.count - l.i
+invariant-loop-i l = l.rows ≡ parents_set l.initial.rows l.i

@@ -1,12 +1,17 @@
-use mathlib.Core.Path.{◌∙◌}
-use Rattle.tokenizer.proofs.Runs.{string-open, string-empty, string-whole}
+use mathlib.Core.Path.{ap, ◌∙◌}
+use Rattle.tokenizer.specs.Token.{token_or_refusal}
+use Rattle.tokenizer.proofs.Runs.{string-open, string-empty, string-whole, mark-at, no-mark-at}
 use Rattle.tokenizer.proofs.tokenizer.quoted_string.Goals as goal
 
-pub returns-then-end-text : goal.returns-then-end-text
-returns-then-end-text c = c.token_of.ensures ∙ string-open _ _ _ _ _ c.requires.0 (c.quote_end-end.ensures ∙ c.past_letters-letters.ensures.1) c.if-end-text.true
+pub returns-in_default : goal.returns-in_default
+returns-in_default c = ap token_or_refusal (string-open _ _ _ _ _ c.requires.0 c.past_letters-letters.ensures.1 (no-mark-at _ _ _ _ c.in_default.ensures))
 
 pub returns-then-end-start : goal.returns-then-end-start
-returns-then-end-start c = c.token_of-then-end-start.ensures ∙ string-empty _ _ _ _ _ c.requires.0 (c.quote_end-end.ensures ∙ c.past_letters-letters.ensures.1) c.if-end-text.false c.if-end-start.true
+returns-then-end-start c =
+    let m = mark-at _ _ _ _ _ c.in-Some.ensures in
+    ap token_or_refusal (string-empty _ _ _ _ _ c.requires.0 (m.1 ∙ c.past_letters-letters.ensures.1) m.0 c.if-end-start.true)
 
 pub returns : goal.returns
-returns c = string-whole _ _ _ _ _ c.requires.0 (c.quote_end-end.ensures ∙ c.past_letters-letters.ensures.1) c.if-end-text.false c.if-end-start.false
+returns c =
+    let m = mark-at _ _ _ _ _ c.in-Some.ensures in
+    ap token_or_refusal (string-whole _ _ _ _ _ c.requires.0 (m.1 ∙ c.past_letters-letters.ensures.1) m.0 c.if-end-start.false)

@@ -1,15 +1,13 @@
-use mathlib.Core.Path.{refl, sym, ◌∙◌}
-use Rattle.tokenizer.proofs.Runs.{word_out, word-stop, word-go}
+use mathlib.Core.Path.{sym, ◌∙◌}
+use Rattle.tokenizer.specs.Internal.Ends.{word_end}
+use Rattle.tokenizer.proofs.Runs.{word_out, word-stop, word-go, at_end}
 use Rattle.tokenizer.proofs.tokenizer.word_end.Goals as goal
 
-pub loop-i-init : goal.loop-i-init
-loop-i-init c = refl
-
 pub returns-then-is_separator : goal.returns-then-is_separator
-returns-then-is_separator c = sym (c.loop-i.invariant ∙ word-stop _ _ c.loop-i-test.true (sym c.is_separator.ensures ∙ c.if-is_separator.true))
+returns-then-is_separator c = sym (c.loop-at.invariant ∙ word-stop _ _ c.loop-at-test.true (sym c.is_separator.ensures ∙ c.if-is_separator.true))
 
-pub loop-i-preserved : goal.loop-i-preserved
-loop-i-preserved c = c.loop-i.invariant ∙ word-go _ _ c.loop-i-test.true (sym c.is_separator.ensures ∙ c.if-is_separator.false)
+pub loop-at-preserved : goal.loop-at-preserved
+loop-at-preserved c = c.loop-at.invariant ∙ word-go _ _ c.loop-at-test.true (sym c.is_separator.ensures ∙ c.if-is_separator.false)
 
 pub returns : goal.returns
-returns c = sym (c.loop-i.invariant ∙ word_out _ _ c.loop-i-test.false)
+returns c = c.max.ensures ∙ at_end (word_end c.args.text.now) _ _ _ (word_out c.args.text.now) c.loop-at.invariant c.loop-at-test.false c.loop-at.auto.at-end

@@ -4,7 +4,7 @@ use lib.ListN.{length}
 use Rattle.type_lines.proofs.lines.answer_whole.Given as goal
 
 abbrev pub invariant-loop-wrote : goal.invariant-loop-wrote
-invariant-loop-wrote l = Reached l.input l.start l.had l.from l.wrote l.initial.rows l.initial.out l.rows l.out
+invariant-loop-wrote l = Reached l.input l.start l.had l.from l.wrote l.initial.out l.out
 
 abbrev pub decreases-loop-wrote : goal.decreases-loop-wrote
 decreases-loop-wrote l = length l.input + 1 - l.from

@@ -1,0 +1,12 @@
+use Prim.Native.Nat.{◌-◌}
+use Rattle.display_length.proofs.AsciiLaws.{QuotedSo}
+use Rattle.display_length.proofs.names.Run.+quoted_ascii.Given as goal
+
+abbrev pub invariant-loop-at : goal.invariant-loop-at
+invariant-loop-at l = let tree = l.self.tree.now in QuotedSo tree.text.now tree.names.now tree.rows.now l.level l.self.start l.self.end l.at
+
+abbrev pub decreases-loop-at : goal.decreases-loop-at
+decreases-loop-at l = l.self.end - l.at
+
+abbrev pub decreases-quoted_ascii : goal.decreases-quoted_ascii
+decreases-quoted_ascii l = l.level

@@ -1,9 +1,0 @@
-use borrow.Enum.Refused.{opened}
-use Rattle.parser.proofs.TokenLaws.{but, quoted-here, quoted-lost, only_sort}
-use Rattle.parser.proofs.tokens.parse_single_quoted_string.Goals as goal
-
-pub returns-in_default : goal.returns-in_default
-returns-in_default c = quoted-lost _ _ _ _ c.next_token-token.ensures (but 6) tt (opened c.in_default.in_default-own.keys2) _ c.refusal_of.ensures
-
-pub returns : goal.returns
-returns c = quoted-here _ _ _ _ c.next_token-token.ensures (only_sort 6 c.next_token-token.result.kind c.in-SingleQuotedString.in-SingleQuotedString-own.keys1)

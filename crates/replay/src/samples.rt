@@ -1,0 +1,31 @@
+// A sample of any kind: how many cases, and then the cases.
+ghost use Rattle.std.specs.Prelude.{◌≡◌, ℕ, List};
+ghost use Rattle.replay.specs.declared.Tally.{Tally};
+ghost use Rattle.replay.specs.Sample.{replayed};
+
+use crate::Tally;
+use crate::counts::start;
+use crate::stored::number_at;
+
+// A kind of sample, with the buffers that its cases are lent.
+pub(crate) trait Sample {
+    // The tally of a sample with the case that stands behind it.
+    ghost one_of: { Self → List ℕ → Tally → Tally };
+
+    // What the buffers hold makes no difference.
+    fn one(&mut self, sample: &[u8], t: Tally) -> Tally
+        ensures tally { result ≡ one_of self.old sample.now t }
+        ensures kept { one_of self.new ≡ one_of self.old };
+}
+
+// The tally of a whole sample.
+pub(crate) fn replay<S: Sample>(kind: &mut S, sample: &[u8]) -> Tally
+    ensures { result ≡ replayed (S.one_of kind.old sample.now) sample.now }
+{
+    let cases = number_at(sample, 0);
+    let mut t = start(cases.next);
+    for _ in 0..cases.value {
+        t = kind.one(sample, t);
+    }
+    t
+}
