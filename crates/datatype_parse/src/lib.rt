@@ -37,12 +37,9 @@ const ROW_BYTES: usize = 5;
 
 // How many rows to lend for a text of so many bytes: with these it is accepted if it is accepted with more, and fills the
 // same rows.
+#[tactic(auto, unfolding(crate::specs::RowsToLend::rows_to_lend))]
 pub fn rows_to_lend(bytes: usize) -> usize
     ensures { result ≡ rows_to_lend bytes }
 {
-    // No `min`: one more than the bytes may not fit.
-    if bytes / ROW_BYTES < MAX_ROWS {
-        return (bytes + 1) / ROW_BYTES;
-    }
-    MAX_ROWS
+    (bytes.saturating_add(1) / ROW_BYTES).min(MAX_ROWS)
 }

@@ -16,8 +16,8 @@ use Rattle.type_lines.specs.Run.{output_from, printed_at, Inside, Behind, Goes, 
 use Rattle.type_lines.specs.Turns.{read_in, written_in, left_in, ahead, Running, Turned, GoesOn, Handed, Reads, ReadOn, LastLine, Turns, start, turn, History, Ended, Ran}
 use Rattle.type_lines.specs.declared.Progress.{Progress}
 use Rattle.type_lines.specs.declared.Turn.{Turn}
-use Rattle.type_lines.specs.declared.After.{After}
-use Rattle.type_lines.specs.declared.After.TheVariants.{More, End}
+use Rattle.std.specs.declared.ops.ControlFlow.{ControlFlow}
+use Rattle.std.specs.declared.ops.ControlFlow.TheVariants.{Continue, Break}
 use Rattle.type_lines.specs.declared.Failure.{Failure}
 
 -- bytes at the start of a buffer are so many
@@ -46,10 +46,10 @@ module _ (input : List ℕ) (left : ℕ) (skip : Bool) (wrote : ℕ) (input' : L
     reads_so : Reads input left skip wrote (read_turn left skip wrote n) input'
     reads_so = record { is = refl; fits = fits; kept = kept }
 
-    pub read_more : (n ≡ 0 → ⊥) → ReadOn (Ok (More (read_turn left skip wrote n))) input left skip wrote input'
+    pub read_more : (n ≡ 0 → ⊥) → ReadOn (Ok (Continue (read_turn left skip wrote n))) input left skip wrote input'
     read_more h = (reads_so, omega arith)
 
-    pub read-end : n ≡ 0 → ReadOn (Ok (End (read_turn left skip wrote n))) input left skip wrote input'
+    pub read-end : n ≡ 0 → ReadOn (Ok (Break (read_turn left skip wrote n))) input left skip wrote input'
     read-end h = (reads_so, h)
 
 -- ---- a turn
@@ -85,7 +85,7 @@ module _ (t : Turn) (input out : List ℕ) (r : Running input t) where
         let c = counted t.filled input r.fits in
         drop_of_length-le (take t.filled input) {i = t.filled - 0} (omega arith)
 
-    pub turn-wrote : (wrote : ℕ) → wrote ≡ q.wrote → 0 < wrote → GoesOn t input out (Ok (More (wrote_turn wrote))) input out'
+    pub turn-wrote : (wrote : ℕ) → wrote ≡ q.wrote → 0 < wrote → GoesOn t input out (Ok (Continue (wrote_turn wrote))) input out'
     unfolding ahead
     turn-wrote wrote e k = (
       record {
@@ -158,9 +158,9 @@ module _ (t : Turn) (input out : List ℕ) (r : Running input t) where
         unfolding now
         turned = let f = d.is in let k = d.fits in subst (λ (x : Turn). Turned t input out x input₂ out') (sym f) (turned-now t'.read (subst (λ (x : Turn). x.filled ≤ length input₂) f k) d.kept)
 
-      pub turn-read : (wrote : ℕ) → wrote ≡ q.wrote → (input₂ : List ℕ) (a : Result After Failure) → ReadOn a input₁ left q.skip wrote input₂ → GoesOn t input out a input₂ out'
-      turn-read wrote e input₂ (Ok (More t')) d = (turned wrote e input₂ t' d.0, let h = d.1 in omega arith)
-      turn-read wrote e input₂ (Ok (End t')) d =
+      pub turn-read : (wrote : ℕ) → wrote ≡ q.wrote → (input₂ : List ℕ) (a : Result (ControlFlow Turn Turn) Failure) → ReadOn a input₁ left q.skip wrote input₂ → GoesOn t input out a input₂ out'
+      turn-read wrote e input₂ (Ok (Continue t')) d = (turned wrote e input₂ t' d.0, let h = d.1 in omega arith)
+      turn-read wrote e input₂ (Ok (Break t')) d =
           let f = d.0.is in
           let z : t'.from ≡ 0 = ap (λ (x : Turn). x.from) f in
           let l : t'.filled ≡ left + t'.read = ap (λ (x : Turn). x.filled) f in
@@ -253,10 +253,10 @@ module _ (turns : ℕ) (t : Turn) (input : List ℕ) (r : Runs turns t input) wh
   unfolding history_of
   ran_out h out' = (history_of, h)
 
-  module _ (out input' out' : List ℕ) (t' : Turn) (a : Result After Failure) (g : GoesOn t input out a input' out') where
-    pub runs_on : a ≡ Ok (More t') → Runs (turns + 1) t' input'
+  module _ (out input' out' : List ℕ) (t' : Turn) (a : Result (ControlFlow Turn Turn) Failure) (g : GoesOn t input out a input' out') where
+    pub runs_on : a ≡ Ok (Continue t') → Runs (turns + 1) t' input'
     runs_on e =
-        let more : Turned t input out t' input' out' × (0 < t'.read + t'.written) = subst (λ (x : Result After Failure). GoesOn t input out x input' out') e g in
+        let more : Turned t input out t' input' out' × (0 < t'.read + t'.written) = subst (λ (x : Result (ControlFlow Turn Turn) Failure). GoesOn t input out x input' out') e g in
         let next : suc turns ≡ turns + 1 = omega arith in
         record {
           running = record { fits = more.0.fits; place = more.0.place };
@@ -266,9 +266,9 @@ module _ (turns : ℕ) (t : Turn) (input : List ℕ) (r : Runs turns t input) wh
         }
 
     -- the input has ended
-    module _ (e : a ≡ Ok (End t')) where
+    module _ (e : a ≡ Ok (Break t')) where
       ended_so : Turned t input out t' input' out' × (t'.read ≡ 0) × (t'.from ≡ 0) × Unfinished (take t'.filled input')
-      ended_so = subst (λ (x : Result After Failure). GoesOn t input out x input' out') e g
+      ended_so = subst (λ (x : Result (ControlFlow Turn Turn) Failure). GoesOn t input out x input' out') e g
 
       pub last_fits : t'.filled ≤ length input'
       last_fits = ended_so.0.fits

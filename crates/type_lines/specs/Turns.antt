@@ -3,8 +3,8 @@
 use Rattle.std.specs.Prelude.{◌≡◌, Bool, false, List, [], ◌++◌, ℕ, suc, ◌+◌, ◌-◌, ◌≤◌, ◌<◌, length, take, drop, Option, Some, None, Result, Ok, Err}
 use Rattle.type_lines.specs.Run.{output_from, Unfinished, Behind}
 use Rattle.type_lines.specs.declared.Turn.{Turn}
-use Rattle.type_lines.specs.declared.After.{After}
-use Rattle.type_lines.specs.declared.After.TheVariants.{More, End}
+use Rattle.std.specs.declared.ops.ControlFlow.{ControlFlow}
+use Rattle.std.specs.declared.ops.ControlFlow.TheVariants.{Continue, Break}
 use Rattle.type_lines.specs.declared.Failure.{Failure}
 
 -- ---- a turn
@@ -42,9 +42,9 @@ pub record Turned (t : Turn) (input out : List ℕ) (t' : Turn) (input' out' : L
   pub place : t'.from ≤ t'.filled
 
 -- After a turn there is another, if bytes were read or written; or the input has ended, and a last line is left.
-abbrev pub GoesOn : Turn → List ℕ → List ℕ → Result After Failure → List ℕ → List ℕ → Type 0
-GoesOn t input out (Ok (More t')) input' out' = Turned t input out t' input' out' × (0 < t'.read + t'.written)
-GoesOn t input out (Ok (End t')) input' out' = Turned t input out t' input' out' × (t'.read ≡ 0) × (t'.from ≡ 0) × Unfinished (take t'.filled input')
+abbrev pub GoesOn : Turn → List ℕ → List ℕ → Result (ControlFlow Turn Turn) Failure → List ℕ → List ℕ → Type 0
+GoesOn t input out (Ok (Continue t')) input' out' = Turned t input out t' input' out' × (0 < t'.read + t'.written)
+GoesOn t input out (Ok (Break t')) input' out' = Turned t input out t' input' out' × (t'.read ≡ 0) × (t'.from ≡ 0) × Unfinished (take t'.filled input')
 GoesOn t input out (Err e) input' out' = Unit
 
 -- ---- its parts
@@ -60,9 +60,9 @@ pub record Reads (input : List ℕ) (left : ℕ) (skip : Bool) (wrote : ℕ) (t 
   pub fits : t.filled ≤ length input'
   pub kept : take left input' ≡ take left input
 
-abbrev pub ReadOn : Result After Failure → List ℕ → ℕ → Bool → ℕ → List ℕ → Type 0
-ReadOn (Ok (More t)) input left skip wrote input' = Reads input left skip wrote t input' × (0 < t.read)
-ReadOn (Ok (End t)) input left skip wrote input' = Reads input left skip wrote t input' × (t.read ≡ 0)
+abbrev pub ReadOn : Result (ControlFlow Turn Turn) Failure → List ℕ → ℕ → Bool → ℕ → List ℕ → Type 0
+ReadOn (Ok (Continue t)) input left skip wrote input' = Reads input left skip wrote t input' × (0 < t.read)
+ReadOn (Ok (Break t)) input left skip wrote input' = Reads input left skip wrote t input' × (t.read ≡ 0)
 ReadOn (Err e) input left skip wrote input' = Unit
 
 -- The last line: what is written is all that is still to be printed.

@@ -11,6 +11,7 @@ ghost use Rattle.type_lines.specs.Turns.{Handed, ReadOn, Running, GoesOn, LastLi
 use answer_line::{ANSWER_BYTES, LINE_WORDS};
 use std::io;
 use std::io::{Cursor, Read, Write};
+use std::ops::ControlFlow;
 
 mod lines;
 
@@ -36,14 +37,6 @@ struct Turn {
     skip: bool,
     written: usize,
     read: usize,
-}
-
-// After a turn: the next one, or the input has ended.
-// No field of a turn says which: one that only wrote read 0 bytes too.
-#[derive(Drop)]
-enum After {
-    More(Turn),
-    End(Turn),
 }
 
 // Why the program stopped before its input ended.
@@ -98,7 +91,7 @@ fn read_on(
     left: usize,
     skip: bool,
     wrote: usize,
-) -> Result<After, Failure>
+) -> Result<ControlFlow<Turn, Turn>, Failure>
     requires { left < length input.old }
     ensures { ReadOn result input.old left skip wrote input.new }
 {
@@ -114,9 +107,9 @@ fn read_on(
         read: n,
     };
     if n == 0 {
-        return Ok(After::End(next));
+        return Ok(ControlFlow::Break(next));
     }
-    Ok(After::More(next))
+    Ok(ControlFlow::Continue(next))
 }
 
 // One turn: answers what can be answered and writes the answers; then reads more, unless the output was short of room.
@@ -126,7 +119,7 @@ fn take_turn(
     t: Turn,
     rows: &mut [u32; LINE_WORDS],
     out: &mut [u8; BUFFER_BYTES],
-) -> Result<After, Failure>
+) -> Result<ControlFlow<Turn, Turn>, Failure>
     requires { Running input.old t }
     ensures { GoesOn t input.old out.old result input.new out.new }
 {
@@ -142,7 +135,7 @@ fn take_turn(
         let left = lines::move_left(input, q.from, filled);
         return read_on(rt, input, left, q.skip, wrote);
     }
-    Ok(After::More(Turn {
+    Ok(ControlFlow::Continue(Turn {
         filled,
         from: q.from,
         skip: q.skip,
@@ -185,8 +178,8 @@ fn run(
     };
     for _ in 0..u64::MAX {
         match take_turn(rt, input, t, rows, out)? {
-            After::More(next) => t = next,
-            After::End(last) => {
+            ControlFlow::Continue(next) => t = next,
+            ControlFlow::Break(last) => {
                 let left = last.filled;
                 return Ok(Some(finish(rt, &input[..left], last.skip, rows, out)?));
             }
