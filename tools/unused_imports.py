@@ -8,7 +8,8 @@ Lists them, a line for each, and ends with 1 if there are any; --fix takes them 
 - `use M.{a, b as c}`, `ghost use M.{a}`, `use crate::x;` and `use crate::{x, y};` bring in names; `pub use` passes them on and counts as a use.
   A module brought in whole (`use M`, `use M as N`) is left alone, unless --modules is given.
 - A name is used where it stands as a word of its own outside comments, texts and import lines: in code, in a pattern, in a
-  contract, behind `unfolding`. Behind a dot it is a field, behind `::` another module's.
+  contract, behind `unfolding`. Behind a dot it is a field, behind `::` another module's; behind two
+  it is the end of a range, or what a struct takes its other fields from.
 - An operator is used where its parts stand as words: `◌≡◌` where `≡` does, `if◌then◌else◌` where its three do. A `do` block
   uses `◌>>=◌` and `◌>>◌`.
 - What a `ghost use` brings in can be used in contracts alone, between the braces of `requires` and `ensures` and of a struct's
@@ -120,7 +121,7 @@ def listed(pattern, text, present):
 
 def is_called(name, code):
     """Whether the code has a name of its imports, or calls a method of a trait that the name is."""
-    return re.search(METHODS.get(name, r"(?!)"), code) or re.search(rf"(?<![\w:.]){name}\b", code)
+    return re.search(METHODS.get(name, r"(?!)"), code) or re.search(rf"(?:(?<![\w:.])|(?<=\.\.)){name}\b", code)
 
 
 def single(text, code):

@@ -95,6 +95,7 @@ class Planted(unittest.TestCase):
         text = "use crate::a;\nuse crate::b;\nuse crate::c as d;\nuse crate::e;\n\nfn f() {\n    a(x.b, m::b, d); // e\n}\n"
         self.assert_cut(text, ["crate::b", "crate::e"], name="src/lib.rt")
         self.assert_cut("use crate::A;\n\nfn f(a: &[A; 3]) {}\n", [], name="src/lib.rt")
+        self.assert_cut("use crate::A;\n\nfn f() {\n    B { c: 1, ..A }\n}\n", [], name="src/lib.rt")
 
     def test_code_list(self):
         text = "use crate::{a, b};\nuse crate::m::{c as d, e, f};\nuse g::{h};\n\nfn k() {\n    a(d, f, x.e);\n}\n"

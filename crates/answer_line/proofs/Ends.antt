@@ -1,6 +1,6 @@
 -- Where a line ends.
 --   lines_from   the lines from a place on: the one that ends where `line_end` says, and those behind its newline
---   long-line    every line over 16,384 bytes has the same answer
+--   long_line    every line over 16,384 bytes has the same answer
 use Rattle.std.specs.Prelude.{if◌then◌else◌, Option, Some, None, cond, ltb}
 use Rattle.std.specs.Option.{unwrap_or}
 use mathlib.Core.Path.{◌≡◌, refl, ap, ◌∙◌}
@@ -44,10 +44,6 @@ before_position s = is_position_or_len before_newline (λ c. eqb c 10) refl (λ 
     step false n = omega arith
 
 module _ (input : List ℕ) (from : ℕ) where
-  pub past_end : length input < from → length input ≡ line_end input from
-  unfolding line_end
-  past_end h = omega arith
-
   -- The place found in the rest, or its end.
   pub found_at : (rest : List ℕ) (place : Option ℕ) → from ≤ length input → rest ≡ take (length input - from) (drop from input)
       → place ≡ cond (ltb (position_or_len (λ c. eqb c 10) rest) (length rest)) (Some (position_or_len (λ c. eqb c 10) rest)) None

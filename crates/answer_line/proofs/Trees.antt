@@ -16,6 +16,7 @@ use Rattle.datatype.specs.Tree.{depth, name_list}
 use Rattle.datatype.specs.Table.{row_words, tree_of}
 use Rattle.row_table.specs.Sound.{is_sound}
 use Rattle.subtrees.specs.Levels.{levels_of}
+use Rattle.subtrees.proofs.LevelLaws.{levels_few}
 use Rattle.row_table.proofs.DepthLaws.{sound-levels}
 use Rattle.display_length.specs.Display.{display}
 use Rattle.display_length.specs.PrintedLength.{quoted_ascii}
@@ -48,34 +49,34 @@ print_short text names table s e =
 -- ---- the output behind a head
 
 -- A part that begins behind a head of so many bytes is lent, and is put back with a text at its start.
-module _ (out : List ℕ) (h : ℕ) where
+module _ (out : List ℕ) (size h : ℕ) where
   -- the part lent
   abbrev pub lent_part : List ℕ
-  lent_part = take (length out - h) (drop h out)
+  lent_part = take (size - h) (drop h out)
 
   -- the output with the part back
   abbrev pub back_in : List ℕ → List ℕ
-  back_in part = take h out ++ (part ++ drop (length out - h) (drop h out))
+  back_in part = take h out ++ (part ++ drop (size - h) (drop h out))
 
-  module _ (fits : h ≤ length out) where
+  module _ (sized : length out ≡ size) (fits : h ≤ size) where
     lent-all : lent_part ≡ drop h out
-    lent-all = take_all (length out - h) (drop h out) (rw (length-drop h out) (omega arith))
+    lent-all = take_all (size - h) (drop h out) (rw (length-drop h out) (omega arith))
 
-    pub lent_length : length lent_part ≡ length out - h
-    lent_length = ap (λ (l : List ℕ). length l) lent-all ∙ length-drop h out
+    pub lent_length : length lent_part ≡ size - h
+    lent_length = ap (λ (l : List ℕ). length l) lent-all ∙ length-drop h out ∙ ap (λ (n : ℕ). n - h) sized
 
-    module _ (s : List ℕ) (room : h + length s < length out) where
+    module _ (s : List ℕ) (room : h + length s < size) where
       -- the text, and past it what the part held, in its place
       back-text : back_in (s ++ drop (length s) lent_part) ≡ take h out ++ (s ++ drop (h + length s) out)
       back-text =
-          let none : drop (length out - h) (drop h out) ≡ [] = drop_of_length-le (drop h out) {i = length out - h} (rw (length-drop h out) (omega arith)) in
+          let none : drop (size - h) (drop h out) ≡ [] = drop_of_length-le (drop h out) {i = size - h} (rw (length-drop h out) (omega arith)) in
           let rest : drop (length s) lent_part ≡ drop (h + length s) out = ap (λ (l : List ℕ). drop (length s) l) lent-all ∙ drop-drop (length s) h out in
           ap (λ (l : List ℕ). take h out ++ ((s ++ drop (length s) lent_part) ++ l)) none
           ∙ ap (λ (l : List ℕ). take h out ++ l) (append-nil (s ++ drop (length s) lent_part))
           ∙ ap (λ (l : List ℕ). take h out ++ (s ++ l)) rest
 
       back_start : drop h (back_in (s ++ drop (length s) lent_part)) ≡ s ++ drop (h + length s) out
-      back_start = ap (λ (l : List ℕ). drop h l) back-text ∙ drop_at (take h out) (s ++ drop (h + length s) out) h (length-take-le h out fits)
+      back_start = ap (λ (l : List ℕ). drop h l) back-text ∙ drop_at (take h out) (s ++ drop (h + length s) out) h (length-take-le h out (omega arith))
 
       -- where the text stands
       pub back_at : take (length s) (drop h (back_in (s ++ drop (length s) lent_part))) ≡ s
@@ -90,11 +91,6 @@ module _ (out : List ℕ) (h : ℕ) where
           ∙ ap (λ (l : List ℕ). drop (length s + 1) l) back_start
           ∙ drop-append-add s (drop (h + length s) out) 1
           ∙ drop-drop 1 (h + length s) out
-
-      pub back-length : length (back_in (s ++ drop (length s) lent_part)) ≡ length out
-      back-length =
-          ap (λ (l : List ℕ). length l) back-text
-          ∙ simp (length-append, length-drop, length-take-le h out fits) (omega arith)
 
 -- ---- a text printed behind its head
 
@@ -125,12 +121,12 @@ framed_answers head s back out r after f at past =
           ∙ sym (append_assoc head (s ++ (10 ∷ [])) (drop (length (head ++ (s ++ (10 ∷ [])))) out));
     }
 
-module _ (text table out : List ℕ) (rows levels h : ℕ) (head : HeadLength rows levels h) (room : answer_bytes ≤ length out)
-    (lent part back : List ℕ) (is_lent : lent ≡ lent_part out h) (is_back : back ≡ back_in out h part) where
+module _ (text table out : List ℕ) (size rows levels h : ℕ) (head : HeadLength rows levels h) (sized : length out ≡ size) (room : answer_bytes ≤ size)
+    (lent part back : List ℕ) (is_lent : lent ≡ lent_part out size h) (is_back : back ≡ back_in out size h part) where
   lent_room : 16384 ≤ length lent
   lent_room =
       let a = head.short in
-      let e : length lent ≡ length out - h = ap (λ (l : List ℕ). length l) is_lent ∙ lent_length out h (omega arith) in
+      let e : length lent ≡ size - h = ap (λ (l : List ℕ). length l) is_lent ∙ lent_length out size h sized (omega arith) in
       omega arith
 
   module _ (p : Result ℕ Refusal) (e : answer_of p ≡ print_answer text name_list table lent) (o : part ≡ print_bytes text name_list table lent) where
@@ -141,15 +137,15 @@ module _ (text table out : List ℕ) (rows levels h : ℕ) (head : HeadLength ro
     tree-refused d q r after a =
         let x : print text name_list table (length lent) ≡ refuse (number_of d) = no_text (print text name_list table (length lent)) (number_of d) (sym e ∙ ap answer_of q) in
         let same : part ≡ lent = o ∙ ap (written lent) x in
-        let whole : back ≡ out = is_back ∙ ap (back_in out h) (same ∙ is_lent) ∙ put_same h (length out - h) out in
+        let whole : back ≡ out = is_back ∙ ap (back_in out size h) (same ∙ is_lent) ∙ put_same h (size - h) out in
         rw (sym (print_room text name_list table (length lent) lent_room) ∙ x, sym whole) a
 
     -- a text that was printed, in the output
     record Text (n : ℕ) (s : List ℕ) : Type 0 where
       prints : print text name_list table 16384 ≡ done s
-      size : length s ≡ n
-      short : h + length s < length out
-      stands : back ≡ back_in out h (s ++ drop (length s) (lent_part out h))
+      counted : length s ≡ n
+      short : h + length s < size
+      stands : back ≡ back_in out size h (s ++ drop (length s) (lent_part out size h))
 
     text_in : (n : ℕ) → p ≡ Ok n → (s : List ℕ) × Text n s
     unfolding print_answer print_bytes
@@ -163,22 +159,20 @@ module _ (text table out : List ℕ) (rows levels h : ℕ) (head : HeadLength ro
               w.0,
               record {
                 prints = prints;
-                size = w.2;
+                counted = w.2;
                 short = omega arith;
-                stands = is_back ∙ ap (back_in out h) (o ∙ ap (written lent) w.1 ∙ ap (λ (l : List ℕ). w.0 ++ drop (length w.0) l) is_lent);
+                stands = is_back ∙ ap (back_in out size h) (o ∙ ap (written lent) w.1 ∙ ap (λ (l : List ℕ). w.0 ++ drop (length w.0) l) is_lent);
               },
             )
 
-    pub tree-room : (n : ℕ) → p ≡ Ok n → length (ok_head rows levels) + n < length back
+    -- no more is printed
+    pub tree-room : (n : ℕ) → p ≡ Ok n → n ≤ 16384
     tree-room n q = go (text_in n q)
       where
-        go : (s : List ℕ) × Text n s → length (ok_head rows levels) + n < length back
+        go : (s : List ℕ) × Text n s → n ≤ 16384
         go w =
-            let t = w.1 in
-            let a = head.is in
-            let b = t.size in
-            let c = t.short in
-            let l : length back ≡ length out = ap (λ (l : List ℕ). length l) t.stands ∙ back-length out h (omega arith) w.0 t.short in
+            let short = print_short text name_list table w.0 w.1.prints in
+            let b = w.1.counted in
             omega arith
 
     text-answers : (n : ℕ) (s : List ℕ) → Text n s → (r : ℕ) (after : List ℕ) → Framed (ok_head rows levels) n back r after
@@ -188,10 +182,10 @@ module _ (text table out : List ℕ) (rows levels h : ℕ) (head : HeadLength ro
         let a : h ≡ length (ok_head rows levels) = head.is in
         let b = t.short in
         let at : take (length s) (drop (length (ok_head rows levels)) back) ≡ s =
-        ap (λ (k : ℕ). take (length s) (drop k back)) (sym a) ∙ ap (λ (l : List ℕ). take (length s) (drop h l)) t.stands ∙ back_at out h (omega arith) s b in
+        ap (λ (k : ℕ). take (length s) (drop k back)) (sym a) ∙ ap (λ (l : List ℕ). take (length s) (drop h l)) t.stands ∙ back_at out size h sized (omega arith) s b in
         let past : drop (length (ok_head rows levels) + length s + 1) back ≡ drop (length (ok_head rows levels) + length s + 1) out =
-        subst (λ (k : ℕ). drop (k + length s + 1) back ≡ drop (k + length s + 1) out) a (ap (λ (l : List ℕ). drop (h + length s + 1) l) t.stands ∙ back-past out h (omega arith) s b) in
-        let g : Framed (ok_head rows levels) (length s) back r after = subst (λ (k : ℕ). Framed (ok_head rows levels) k back r after) (sym t.size) f in
+        subst (λ (k : ℕ). drop (k + length s + 1) back ≡ drop (k + length s + 1) out) a (ap (λ (l : List ℕ). drop (h + length s + 1) l) t.stands ∙ back-past out size h sized (omega arith) s b) in
+        let g : Framed (ok_head rows levels) (length s) back r after = subst (λ (k : ℕ). Framed (ok_head rows levels) k back r after) (sym t.counted) f in
         rw t.prints (framed_answers (ok_head rows levels) s back out r after g at past)
 
     pub tree-printed : (n : ℕ) → p ≡ Ok n → (r : ℕ) (after : List ℕ) → Framed (ok_head rows levels) n back r after
@@ -203,13 +197,15 @@ module _ (text table out : List ℕ) (rows levels h : ℕ) (head : HeadLength ro
 
 -- ---- the levels
 
-module _ (text table : List ℕ) (levels : ℕ) (is : levels ≡ levels_of table) where
-  -- the levels of rows that are printed are the tree's depth; where they are refused, no levels are written
-  levels-or : (sound : Bool) → is_sound text name_list table ≡ sound
-      → tree_line (length table / row_words) levels (print text name_list table 16384) ≡ tree_line (length table / row_words) (depth (tree_of text name_list table)) (print text name_list table 16384)
-  levels-or true s = ap (λ (k : ℕ). tree_line (length table / row_words) k (print text name_list table 16384)) (is ∙ sound-levels text name_list table (of_true _ s))
-  levels-or false s = unfold print tree_line in rw s
+-- the levels of rows that are printed are the tree's depth; where they are refused, no levels are written
+pub levels-line : (text table : List ℕ) → tree_line (length table / row_words) (levels_of table) (print text name_list table 16384) ≡ table_line text table
+unfolding table_line
+levels-line text table = go (is_sound text name_list table) refl
+  where
+    go : (sound : Bool) → is_sound text name_list table ≡ sound
+        → tree_line (length table / row_words) (levels_of table) (print text name_list table 16384) ≡ tree_line (length table / row_words) (depth (tree_of text name_list table)) (print text name_list table 16384)
+    go true s = ap (λ (k : ℕ). tree_line (length table / row_words) k (print text name_list table 16384)) (sound-levels text name_list table (of_true _ s))
+    go false s = unfold print tree_line in rw s
 
-  pub table-printed : (out : List ℕ) (r : ℕ) (after : List ℕ) → Answers (tree_line (length table / row_words) levels (print text name_list table 16384)) out r after → Answers (table_line text table) out r after
-  unfolding table_line
-  table-printed out r after a = subst (λ (l : List ℕ). Answers l out r after) (levels-or (is_sound text name_list table) refl) a
+-- what the answer to a table uses
+pub ruleset levels = (levels_few, levels-line)

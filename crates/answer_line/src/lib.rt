@@ -2,8 +2,10 @@
 
 #![tactic(auto)]
 
-ghost use Rattle.std.specs.Prelude.{◌≡◌};
-ghost use Rattle.answer_line.specs.Line.{line_end, line_answered, line_rows, line_out};
+ghost use Rattle.std.specs.Prelude.{◌≡◌, ◌≤◌, length};
+ghost use Rattle.datatype_parse.specs.Parse.{parse_rows};
+ghost use Rattle.answer_line.specs.Line.{line_end, line_words, answer_bytes, line_answer, line_answered, line_rows, line_out};
+ghost use Rattle.answer_line.specs.Internal.Steps.{Answers};
 
 mod tree;
 mod write;
@@ -17,6 +19,7 @@ pub const LINE_WORDS: usize = ROW_WORDS * MAX_ROWS;
 pub const ANSWER_BYTES: usize = 11 + MAX_TEXT + 1;
 
 // Where the line that begins at a place ends: at the first newline there or behind it, else at the end of the input.
+#[tactic(auto, unfolding(crate::specs::Line::line_end))]
 pub fn line_end(input: &[u8], from: usize) -> usize
     ensures { result ≡ line_end input.now from }
 {
@@ -26,22 +29,33 @@ pub fn line_end(input: &[u8], from: usize) -> usize
     from + rest.iter().position(|c| *c == b'\n').unwrap_or(rest.len())
 }
 
+// The answer to a line, where there is room for every line's.
+#[tactic(auto, using(crate::proofs::Whole::reads))]
+fn answer_in(line: &[u8], rows: &mut [u32], out: &mut [u8; ANSWER_BYTES]) -> usize
+    requires { line_words ≤ length rows.old }
+    ensures answer { Answers (line_answer line.now) out.old result out.new }
+    // The caller's proof has no other way to the array's length.
+    ensures room { length out.new ≡ answer_bytes }
+    ensures contents { rows.new ≡ parse_rows line.now rows.old }
+{
+    match datatype_parse::parse_data_type(line, rows) {
+        Err(refusal) => write::put_no(out, refusal),
+        Ok(n) => tree::answer_tree(line, &rows[..ROW_WORDS * n], out),
+    }
+}
+
 // Answers one line, whose newline is cut off: the answer stands at the start of the output, and past it what the output
 // held before. The rows hold what reading the line leaves in them. The bytes of the answer; or none, where the buffers
 // lent are too small for some line, and nothing was done.
+#[tactic(auto, unfolding(crate::specs::Line::line_answered, crate::specs::Line::line_rows, crate::specs::Line::line_out))]
 pub fn answer_line(line: &[u8], rows: &mut [u32], out: &mut [u8]) -> Option<usize>
     ensures answer { result ≡ line_answered line.now rows.old out.old }
     ensures contents { rows.new ≡ line_rows line.now rows.old out.old }
     ensures bytes { out.new ≡ line_out line.now rows.old out.old }
 {
-    if rows.len() < LINE_WORDS || out.len() < ANSWER_BYTES {
+    // The rows are lent whole, and not the first of them: a refusal sets each of their words to 0.
+    if rows.len() < LINE_WORDS {
         return None;
     }
-    Some(match datatype_parse::parse_data_type(line, rows) {
-        Err(refusal) => write::put_no(out, refusal),
-        Ok(n) => {
-            let words = ROW_WORDS * n;
-            tree::answer_tree(line, &rows[..words], out)
-        }
-    })
+    Some(answer_in(line, rows, out.first_chunk_mut()?))
 }

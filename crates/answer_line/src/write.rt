@@ -1,39 +1,24 @@
 // Writing an answer's own bytes.
-ghost use Rattle.std.specs.Prelude.{◌+◌, ◌≤◌, ◌<◌, length};
+ghost use Rattle.std.specs.Prelude.{◌≡◌, ◌≤◌, length};
+ghost use Rattle.std.proofs.lemmas.List.Edits.{sets};
 ghost use Rattle.tokenizer.specs.Answer.{number_of};
-ghost use Rattle.output.specs.Digits.{digits};
-ghost use Rattle.answer_line.specs.Line.{no_line, answer_bytes};
-ghost use Rattle.answer_line.specs.Internal.Steps.{Put, Answers, Framed, HeadLength, ok_head};
-ghost use Rattle.datatype.specs.Limits.{max_rows, max_levels};
+ghost use Rattle.answer_line.specs.Line.{no_line};
+ghost use Rattle.answer_line.specs.Internal.Steps.{Answers, Framed, HeadLength, ok_head};
+ghost use Rattle.datatype.specs.Limits.{max_text, max_rows, max_levels};
 
-use output::digits_length;
+use crate::ANSWER_BYTES;
+use output::{digits_length, put_bytes, put_digits};
 use tokenizer::Refusal;
 
-// Writes bytes at a place, and answers the place behind them.
-fn put_bytes(out: &mut [u8], at: usize, s: &[u8]) -> usize
-    requires { at + length s.now ≤ length out.old }
-    ensures { Put out.old at s.now result out.new }
-{
-    output::put_bytes(out, at, s);
-    at + s.len()
-}
-
-// Writes a number in decimal digits, and answers the place behind them.
-fn put_digits(out: &mut [u8], at: usize, n: u32) -> usize
-    requires { at + length (digits n) ≤ length out.old }
-    ensures { Put out.old at (digits n) result out.new }
-{
-    at + output::put_digits(out, at, n)
-}
-
-// `no` and the refusal's number. Room is asked for here and in tree.rt: a slice is lent, whose type says no length.
-pub(crate) fn put_no(out: &mut [u8], refusal: Refusal) -> usize
-    requires { answer_bytes ≤ length out.old }
+// `no` and the refusal's number.
+#[tactic(auto, using(crate::proofs::Writing::few_digits))]
+pub(crate) fn put_no(out: &mut [u8; ANSWER_BYTES], refusal: Refusal) -> usize
     ensures { Answers (no_line (record { number = number_of refusal })) out.old result out.new }
 {
-    let a = put_bytes(out, 0, b"no ");
-    let b = put_digits(out, a, refusal.number());
-    put_bytes(out, b, b"\n")
+    put_bytes(out, 0, b"no ");
+    let digits = put_digits(out, 3, refusal.number());
+    put_bytes(out, 3 + digits, b"\n");
+    4 + digits
 }
 
 // What stands before a printed text: `ok`, its rows and its levels.
@@ -47,30 +32,35 @@ pub(crate) struct Head {
 
 impl Head {
     // How many bytes it takes.
+    #[tactic(auto, using(crate::proofs::Writing::few_digits))]
     pub(crate) fn length(&self) -> usize
         ensures { HeadLength self.now.rows self.now.levels result }
     {
         5 + digits_length(self.rows as u32) + digits_length(self.levels as u32)
     }
 
-    // Writes it at the start: `ok`, rows, levels, each with a space behind it.
-    fn put(&self, out: &mut [u8]) -> usize
-        requires { length (ok_head self.now.rows self.now.levels) ≤ length out.old }
-        ensures { Put out.old 0 (ok_head self.now.rows self.now.levels) result out.new }
+    // Writes it at the start: `ok`, rows, levels, each with a space behind it. How many bytes that were.
+    #[tactic(auto, using(crate::proofs::Writing::few_digits))]
+    fn put(&self, out: &mut [u8; ANSWER_BYTES]) -> usize
+        ensures size { result ≡ length (ok_head self.now.rows self.now.levels) }
+        ensures bytes { out.new ≡ sets out.old 0 (ok_head self.now.rows self.now.levels) }
     {
-        let a = put_bytes(out, 0, b"ok ");
-        let b = put_digits(out, a, self.rows as u32);
-        let c = put_bytes(out, b, b" ");
-        let d = put_digits(out, c, self.levels as u32);
-        put_bytes(out, d, b" ")
+        put_bytes(out, 0, b"ok ");
+        let a = 3 + put_digits(out, 3, self.rows as u32);
+        put_bytes(out, a, b" ");
+        let b = a + 1 + put_digits(out, a + 1, self.levels as u32);
+        put_bytes(out, b, b" ");
+        b + 1
     }
 
     // Writes it before a printed text of so many bytes that stands in its place, and a newline behind that.
-    pub(crate) fn frame(&self, out: &mut [u8], size: usize) -> usize
-        requires { length (ok_head self.now.rows self.now.levels) + size < length out.old }
+    #[tactic(auto, using(crate::proofs::Writing::head_short))]
+    pub(crate) fn frame(&self, out: &mut [u8; ANSWER_BYTES], size: usize) -> usize
+        requires { size ≤ max_text }
         ensures { Framed (ok_head self.now.rows self.now.levels) size out.old result out.new }
     {
-        let at = self.put(out);
-        put_bytes(out, at + size, b"\n")
+        let end = self.put(out) + size;
+        put_bytes(out, end, b"\n");
+        end + 1
     }
 }

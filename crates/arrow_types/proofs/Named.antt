@@ -28,20 +28,6 @@ name_size text names (suc zero) start size z = part_size text start size z
 name_size text names (suc (suc zero)) start size z = part_size names start size z
 name_size text names (suc (suc (suc home))) start size z = absurd (z refl)
 
-none_named : (s : List ℕ) (n : ℕ) → length s ≡ 0 → 0 ≡ if_named s n
-unfolding if_named
-none_named [] n e = refl
-none_named (c ∷ s) n e = absurd (omega (arith, e))
-
-some_named : (s : List ℕ) (n : ℕ) → (length s ≡ 0 → ⊥) → n ≡ if_named s n
-unfolding if_named
-some_named [] n z = absurd (z refl)
-some_named (c ∷ s) n z = refl
-
-empty : (s : List ℕ) → length s ≡ 0 → [] ≡ s
-empty [] e = refl
-empty (c ∷ s) e = absurd (omega (arith, e))
-
 part_none : (s : List ℕ) → part s 0 0 ≡ []
 part_none s = by-fit (leb 0 (length s))
   where
@@ -49,46 +35,26 @@ part_none s = by-fit (leb 0 (length s))
     by-fit true = refl
     by-fit false = refl
 
--- a zone is a part of the text
-module _ (text : List ℕ) (start size : ℕ) (found : List ℕ) (e : found ≡ zone_of text start size) where
-  abbrev Zoned : ℕ → ℕ → ℕ → Type 0
-  Zoned r from count =
-      (r ≡ if_named (zone_of text start size) 1)
-      × ((from ≡ if_named (zone_of text start size) start) × ((count ≡ length (zone_of text start size)) × (zone_of text from count ≡ zone_of text start size)))
+-- by the three numbers the same bytes are found
 
-  pub not-zoned : length found ≡ 0 → Zoned 0 0 (length found)
-  unfolding zone_of
-  not-zoned z =
-      let s = zone_of text start size in
-      let n : length s ≡ 0 = ap length (sym e) ∙ z in
-      (none_named s 1 n, (none_named s start n, (ap length e, ap (λ k. zone_of text 0 k) z ∙ part_none text ∙ empty s n)))
+pub zone_back : (text : List ℕ) (start size : ℕ)
+    → zone_of text (if_named (zone_of text start size) start) (length (zone_of text start size)) ≡ zone_of text start size
+unfolding zone_of if_named
+zone_back text start size = go (part text start size) refl
+  where
+    go : (found : List ℕ) → part text start size ≡ found → part text (if_named found start) (length found) ≡ found
+    go [] e = part_none text
+    go (c ∷ s) e =
+        let n : length (part text start size) ≡ size = part_size text start size (λ z. absurd (let l = ap length e in omega arith)) in
+        ap (part text start) (ap length (sym e) ∙ n) ∙ e
 
-  pub is-zoned : (length found ≡ 0 → ⊥) → Zoned 1 start (length found)
-  unfolding zone_of
-  is-zoned z =
-      let s = zone_of text start size in
-      let n : length s ≡ 0 → ⊥ = λ q. z (ap length e ∙ q) in
-      let l : length found ≡ size = ap length e ∙ part_size text start size n in
-      (some_named s 1 n, (some_named s start n, (ap length e, ap (λ k. zone_of text start k) l)))
-
-module _ (text names : List ℕ) (home start size : ℕ) (found : List ℕ) (e : found ≡ name_of text names home start size) where
-  abbrev Named : ℕ → ℕ → ℕ → Type 0
-  Named r from count =
-      (r ≡ if_named (name_of text names home start size) home)
-      × ((from ≡ if_named (name_of text names home start size) start)
-      × ((count ≡ length (name_of text names home start size))
-      × (name_of text names r from count ≡ name_of text names home start size)))
-
-  pub not_named : length found ≡ 0 → Named 0 0 (length found)
-  unfolding name_of
-  not_named z =
-      let s = name_of text names home start size in
-      let n : length s ≡ 0 = ap length (sym e) ∙ z in
-      (none_named s home n, (none_named s start n, (ap length e, empty s n)))
-
-  pub is-named : (length found ≡ 0 → ⊥) → Named home start (length found)
-  is-named z =
-      let s = name_of text names home start size in
-      let n : length s ≡ 0 → ⊥ = λ q. z (ap length e ∙ q) in
-      let l : length found ≡ size = ap length e ∙ name_size text names home start size n in
-      (some_named s home n, (some_named s start n, (ap length e, ap (λ k. name_of text names home start k) l)))
+pub name_back : (text names : List ℕ) (home start size : ℕ)
+    → name_of text names (if_named (name_of text names home start size) home) (if_named (name_of text names home start size) start) (length (name_of text names home start size)) ≡ name_of text names home start size
+unfolding name_of if_named
+name_back text names home start size = go (name_of text names home start size) refl
+  where
+    go : (found : List ℕ) → name_of text names home start size ≡ found → name_of text names (if_named found home) (if_named found start) (length found) ≡ found
+    go [] e = refl
+    go (c ∷ s) e =
+        let n : length (name_of text names home start size) ≡ size = name_size text names home start size (λ z. absurd (let l = ap length e in omega arith)) in
+        ap (name_of text names home start) (ap length (sym e) ∙ n) ∙ e

@@ -15,7 +15,7 @@ ghost use Rattle.datatype_parse.specs.Parse.{parse_answer, parse_rows};
 ghost use Rattle.datatype_parse.specs.RowsToLend.{rows_to_lend};
 ghost use Rattle.datatype_display.specs.Print.{print_answer, print_bytes};
 
-use datatype::Field;
+use datatype::{Field, Tree};
 use tokenizer::Refusal;
 
 // An answer as two numbers: the status, and the value, 0 where it was refused.
@@ -64,8 +64,8 @@ pub fn arrow_types_print<'a>(
     ensures value { length.new ≡ value_of (print_answer text.now names.now rows.now out.old) }
     ensures contents { out.new ≡ print_bytes text.now names.now rows.now out.old }
 {
-    let printed = datatype_display::print_data_type(text, names, rows, out);
-    status(printed, length)
+    let tree = Tree { text, names, rows };
+    status(datatype_display::print_data_type(tree, out), length)
 }
 
 // Sets the parent, word 11, of each row that a table holds, up to 1,024: for rows that were built or stored without it.
@@ -75,8 +75,25 @@ pub fn arrow_types_set_parents(rows: &mut [u32])
     subtrees::set_parents(rows);
 }
 
+// Where the bytes that were found stand, by home and start: the three numbers, each 0 where none were found.
+#[tactic(auto, unfolding(crate::specs::Status::if_named))]
+fn place(found: &[u8], home: u32, start: u32, from: &mut usize, count: &mut usize) -> u32
+    ensures home { result ≡ if_named found.now home }
+    ensures start { from.new ≡ if_named found.now start }
+    ensures count { count.new ≡ length found.now }
+{
+    *count = found.len();
+    if found.is_empty() {
+        *from = 0;
+        return 0;
+    }
+    *from = start as usize;
+    home
+}
+
 // Where a field's name stands, by words 6, 7 and 8 of its row: the home, 1 the text or 2 the name list, with start and
 // count of its bytes there. The three are 0 where the name is empty, as it is where the words do not fit.
+#[tactic(auto, using(crate::proofs::Named::name_back))]
 pub fn arrow_types_name<'a>(
     text: &'a [u8],
     names: &'a [u8],
@@ -92,18 +109,12 @@ pub fn arrow_types_name<'a>(
     ensures bytes { name_of text.now names.now result from.new count.new ≡ name_of text.now names.now home start size }
 {
     let field = Field { home, start, size };
-    let found = field.name(text, names);
-    *count = found.len();
-    if found.len() == 0 {
-        *from = 0;
-        return 0;
-    }
-    *from = start as usize;
-    home
+    place(field.name(text, names), home, start, from, count)
 }
 
 // Where a zone stands, by words 9 and 10 of its row: 1, with start and count of its bytes in the text. The three are 0
 // where the zone is empty, as it is where the words do not fit.
+#[tactic(auto, using(crate::proofs::Named::zone_back))]
 pub fn arrow_types_zone(
     text: &[u8],
     start: u32,
@@ -116,21 +127,16 @@ pub fn arrow_types_zone(
     ensures count { count.new ≡ length (zone_of text.now start size) }
     ensures bytes { zone_of text.now at.new count.new ≡ zone_of text.now start size }
 {
-    let zone = datatype::zone(text, start, size);
-    *count = zone.len();
-    if zone.len() == 0 {
-        *at = 0;
-        return 0;
-    }
-    *at = start as usize;
-    1
+    place(datatype::zone(text, start, size), 1, start, at, count)
 }
 
 // Whether text, name list and row words are a sound tree: 1 or 0.
+#[tactic(auto, unfolding(crate::specs::Status::flag))]
 pub fn arrow_types_is_sound(text: &[u8], names: &[u8], rows: &[u32]) -> u32
     ensures { result ≡ flag (is_sound text.now names.now rows.now) }
 {
-    u32::from(row_table::is_sound(text, names, rows))
+    let tree = Tree { text, names, rows };
+    u32::from(row_table::is_sound(tree))
 }
 
 // The depth of a tree.
@@ -138,10 +144,12 @@ pub fn arrow_types_depth(text: &[u8], names: &[u8], rows: &[u32], depth: &mut us
     ensures status { result ≡ status_of (depth_of text.now names.now rows.now) }
     ensures value { depth.new ≡ value_of (depth_of text.now names.now rows.now) }
 {
-    status(row_table::depth_of(text, names, rows), depth)
+    let tree = Tree { text, names, rows };
+    status(row_table::depth_of(tree), depth)
 }
 
 // Whether two trees, each with its text, its name list and its row words, are equal: 1 or 0.
+#[tactic(auto, unfolding(crate::specs::Status::flag))]
 pub fn arrow_types_equal<'a, 'b>(
     text: &'a [u8],
     names: &'a [u8],
@@ -152,10 +160,17 @@ pub fn arrow_types_equal<'a, 'b>(
 ) -> u32
     ensures { result ≡ flag (equal_trees text.now names.now text2.now names2.now rows.now rows2.now) }
 {
-    u32::from(subtrees::equal_trees(text, names, rows, text2, names2, rows2))
+    let one = Tree { text, names, rows };
+    let other = Tree {
+        text: text2,
+        names: names2,
+        rows: rows2,
+    };
+    u32::from(subtrees::equal_trees(one, other))
 }
 
 // The layout verdict of a tree: whether it is yes, 1 or 0, and the first row that breaks a rule, where it is not.
+#[tactic(auto, unfolding(crate::specs::Status::status_of, crate::specs::Status::yes_of, crate::specs::Status::row_of))]
 pub fn arrow_types_verdict(
     text: &[u8],
     names: &[u8],
@@ -169,7 +184,7 @@ pub fn arrow_types_verdict(
 {
     *yes = 0;
     *row = 0;
-    match layout::verdict_of(text, names, rows) {
+    match layout::verdict_of(Tree { text, names, rows }) {
         Ok(None) => {
             *yes = 1;
             0

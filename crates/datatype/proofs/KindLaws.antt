@@ -1,12 +1,12 @@
 -- Kinds, units and decimals: what the functions of `kind.rt` look at.
 use mathlib.Core.Path.{◌≡◌, refl, sym}
-use mathlib.Core.Bool.{Bool, true, false, ◌&&◌, and-false}
+use mathlib.Core.Bool.{Bool, true, false, ◌&&◌}
 use mathlib.Core.List.{[], ◌∷◌}
-use Prim.Native.Nat.{ℕ, zero, suc, ◌+◌, ◌-◌, ◌≤◌, ◌<◌}
+use Prim.Native.Nat.{ℕ, ◌+◌, ◌-◌, ◌≤◌, ◌<◌}
 use native.Mathlib.Omega.{arith}
 use lib.ListN.{get_or, get_or-eq_default}
 use lib.Dec.{leb, ltb}
-use borrow.Author.Tests.{lt-leb, le-ltb, ne_eqb, ltb-false}
+use borrow.Author.Tests.{le-ltb, ne_eqb, ltb-false}
 use Rattle.datatype.specs.Kind.{leaf, kinds, shapes, shape_of, decimal32_kind, unit_fits, max_precision, decimal_fits}
 
 -- a number that is none of kind has the shape of a leaf
@@ -47,12 +47,6 @@ module _ (k : ℕ) where
       go false e =
           let h = ltb-false k 35 e in
           unfold max_precision in rw e (sym (get_or-eq_default (9 ∷ 18 ∷ 38 ∷ 76 ∷ []) 0 {n = k - 35} (omega arith)))
-
-  -- nothing fits a kind that is no decimal
-  pub no-decimal : (p s : ℕ) → (k ≡ 35 → ⊥) → (k ≡ 36 → ⊥) → (k ≡ 37 → ⊥) → (k ≡ 38 → ⊥) → decimal_fits k p s ≡ false
-  unfolding decimal_fits
-  no-decimal zero s a b c d = refl
-  no-decimal (suc p) s a b c d = rw (sym (max-5 a b c d), lt-leb (suc p) 0 (omega arith), and-false (leb 1 (suc p)))
 
   -- one rule for the four widths, 32, 64, 128 and 256 bits: the precision is 1 to the width's greatest, and the scale,
   -- less 128, at most the precision

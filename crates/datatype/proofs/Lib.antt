@@ -2,6 +2,5 @@ pub mod Tests
 pub mod Same
 pub mod Sets
 pub mod Table
-pub mod Names
 pub mod KindLaws
 pub mod ShapeLaws

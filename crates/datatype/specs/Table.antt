@@ -73,6 +73,10 @@ tree_of text names table = view_labels text names (view_of table)
 unfoldable pub rows_lent : ℕ → ℕ
 rows_lent words = min (words / row_words) max_rows
 
+-- Word k of row i of a table.
+abbrev pub word_at : List ℕ → ℕ → ℕ → ℕ
+word_at table i k = get_or table (row_words * i + k) 0
+
 -- Word 1 of row i of a table: the rows in its subtree.
 abbrev pub rows_at : List ℕ → ℕ → ℕ
 rows_at table i = get_or table (row_words * i + 1) 0

@@ -3,7 +3,8 @@ ghost use Rattle.std.specs.Prelude.{◌≡◌};
 ghost use Rattle.tokenizer.specs.Text.{same};
 ghost use Rattle.datatype.specs.Tree.{part, name_of, zone_of};
 
-// Where a field's name stands: its home, its start and its length there.
+// Where a field's name stands: its home, its start and its length there. The home is a number and no enum, as word 6 of a
+// row is, which C lends and may hold any.
 #[derive(Clone, Copy)]
 pub struct Field {
     pub home: u32,
@@ -68,7 +69,7 @@ pub fn zone(text: &[u8], start: u32, size: u32) -> &[u8]
     part_of(text, start, size)
 }
 
-// Whether two byte slices are the same.
+// Whether two byte slices are the same. By hand, since the contracts' word is `same`, of numbers.
 #[tactic(auto, using(crate::proofs::Same::pointwise_same))]
 pub fn equal_bytes(a: &[u8], b: &[u8]) -> bool
     ensures { result ≡ same a.now b.now }

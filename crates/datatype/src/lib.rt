@@ -4,9 +4,13 @@
 
 mod field;
 pub mod kind;
+mod row;
 pub mod rows;
+mod tree;
 mod words;
 
 pub use field::{Field, equal_bytes, zone};
 pub use kind::Decimal;
+pub use row::Row;
+pub use tree::Tree;
 pub use words::{clear_words, equal_words};

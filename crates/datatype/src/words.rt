@@ -11,7 +11,7 @@ pub fn equal_words(a: &[u32], b: &[u32]) -> bool
     a == b
 }
 
-// Sets every word to 0.
+// Sets every word to 0: `fill`, by which the crates here do it. It is public, and stays for callers from elsewhere.
 pub fn clear_words(words: &mut [u32])
     ensures { words.new ≡ replicate (length words.old) 0 }
 {

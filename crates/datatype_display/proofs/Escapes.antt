@@ -1,16 +1,17 @@
 -- Double-quoted strings: what a byte is written as, and what the loops of `escape.rt` hold.
 use mathlib.Core.Path.{◌≡◌, refl, sym, ap, ◌∙◌}
-use mathlib.Core.List.{List, [], ◌∷◌, ◌++◌, append_assoc}
+use mathlib.Core.List.{List, [], ◌∷◌, ◌++◌, append_assoc, append-nil}
 use Prim.Native.Nat.{ℕ, suc, ◌+◌, ◌-◌, ◌≤◌, ◌<◌}
 use native.Mathlib.Omega.{arith}
-use lib.ListN.{length, length-append, get_or, set, take, drop, length-drop, drop_of_length-le}
+use lib.ListN.{length, length-append, get_or, set, take, drop, length-drop, take-append-drop}
 use lib.Seq.{sets, length-sets, drop-cons, take-suc, take_all, length-take-le}
 use lib.Dec.{T}
 use Rattle.std.proofs.lemmas.Bool.Decides.{nat_tests}
 use Rattle.datatype.proofs.Sets.{sets_append}
 use Rattle.display_length.specs.Display.{escape, escaped}
-use Rattle.datatype_display.specs.Internal.Steps.{Fits, Wrote, Ran, is_itself}
-use Rattle.datatype_display.proofs.Writes.{joined, wrote_as, wrote_then, wrote_none, Rest, rest_step, rest_last, rest_as}
+use Rattle.datatype_display.specs.declared.write.Printer.{Printer}
+use Rattle.datatype_display.specs.Internal.Steps.{Ran, Wrote, is_itself, written}
+use Rattle.datatype_display.proofs.Writes.{written_then, written_none, wrote}
 
 -- ---- a run of bytes that are written as they are
 
@@ -19,11 +20,8 @@ unfolding is_itself escape
 escape_itself c t = grind (arith, nat_tests)
 
 module _ (before s : List ℕ) (at : ℕ) where
-  pub ran-start : Ran before at s 0 before
-  ran-start = record { few = omega arith; stored = refl; same = refl }
-
   module _ (i : ℕ) (out : List ℕ) (r : Ran before at s i out) where
-    pub ran-kept : length out ≡ length before
+    ran-kept : length out ≡ length before
     ran-kept = ap (λ (l : List ℕ). length l) r.stored ∙ length-sets before at (take i s)
 
     run-size : length (take i s) ≡ i
@@ -42,14 +40,13 @@ module _ (before s : List ℕ) (at : ℕ) where
           ∙ ap (λ (l : List ℕ). take i s ++ l) (sym here)
           ∙ r.same
 
-      pub ran-room : Fits before at (escaped s) → at + i < length out
+      pub ran-room : at + length (escaped s) ≤ length before → at + i < length out
       ran-room f =
           let e = ap (λ (l : List ℕ). length l) r.same in
           let g = length-append (take i s) (escaped (drop i s)) in
           let k = ap (λ (l : List ℕ). length l) here in
           let a = run-size in
           let b = ran-kept in
-          let m = f.room in
           omega arith
 
       pub ran-more : Ran before at s (i + 1) (set out (at + i) (get_or s i 0))
@@ -71,31 +68,55 @@ module _ (before s : List ℕ) (at : ℕ) where
     ran-end h = let e : i ≡ length s = let f = r.few in omega arith in rw (← e) r
 
     -- the rest follows
-    run-wrote : Wrote before at (take i s) (at + i) out
-    run-wrote = record { stored = r.stored; place = let a = run-size in omega arith }
-
     rest : take (length s - i) (drop i s) ≡ drop i s
     rest = take_all (length s - i) (drop i s) (let e = length-drop i s in omega arith)
 
-    pub ran_then : (last : ℕ) (after : List ℕ) → Wrote out (at + i) (escaped (take (length s - i) (drop i s))) last after → Wrote before at (escaped s) last after
-    ran_then last after w =
-        wrote_as r.same (wrote_then before (take i s) (escaped (drop i s)) at (at + i) last out after run-wrote (wrote_as (ap escaped rest) w))
+pub ran_then : (p : Printer) (s : List ℕ) (i : ℕ) (out : List ℕ) → Ran p.out.now p.at s i out → (q : Printer)
+    → Wrote (record p { out = record p.out { now = out }; at = p.at + i }) (escaped (take (length s - i) (drop i s))) q → Wrote p (escaped s) q
+unfolding written
+ran_then p s i out r q w =
+    let size : length (take i s) ≡ i = length-take-le i s r.few in
+    let here : record p { out = record p.out { now = out }; at = p.at + i } ≡ written p (take i s) = rw (r.stored, size) in
+    wrote
+    (
+    w.is ∙ ap (λ (o : Printer). written o (escaped (take (length s - i) (drop i s)))) here
+    ∙ ap (λ (t : List ℕ). written (written p (take i s)) (escaped t)) (rest p.out.now s p.at i out r)
+    ∙ written_then p (take i s) (escaped (drop i s))
+    ∙ ap (λ (t : List ℕ). written p t) r.same
+    )
 
 -- ---- strings, byte by byte
 
-module _ (before s out : List ℕ) (at next i : ℕ) (r : Rest before at (escaped s) next out (escaped (drop i s) ∷ [])) where
-  pub escaped-end : length s ≤ i → Wrote before at (escaped s) next out
-  unfolding escaped
-  escaped-end h = rest_last r (wrote_as (ap escaped (sym (drop_of_length-le s {i = i} h))) (wrote_none out next))
+pub escaped_none : escaped [] ≡ []
+unfolding escaped
+escaped_none = refl
 
-  module _ (h : i < length s) where
-    pub escape-here : Rest before at (escaped s) next out (escape (get_or s i 0) ∷ escaped (drop (suc i) s) ∷ [])
-    unfolding escaped joined
-    escape-here = rest_as (ap escaped (drop-cons s i 0 h)) r
+pub escaped_append : (s t : List ℕ) → escaped (s ++ t) ≡ escaped s ++ escaped t
+unfolding escaped
+escaped_append [] t = refl
+escaped_append (c ∷ s) t = ap (λ (u : List ℕ). escape c ++ u) (escaped_append s t) ∙ sym (append_assoc (escape c) (escaped s) (escaped t))
 
-    pub escaped-more : (last : ℕ) (after : List ℕ) → Wrote out next (escape (get_or s i 0)) last after → Rest before at (escaped s) last after (escaped (drop (i + 1) s) ∷ [])
-    escaped-more last after w = let n : suc i ≡ i + 1 = omega arith in rw (← n) (rest_step escape-here w)
+escaped_one : (c : ℕ) → escaped (c ∷ []) ≡ escape c
+unfolding escaped
+escaped_one c = append-nil (escape c)
 
-pub escaped_start : (s : List ℕ) → joined (escaped (drop 0 s) ∷ []) ≡ escaped s
-unfolding joined
-escaped_start s = refl
+pub escaped_take : (s : List ℕ) (i : ℕ) → i < length s → escaped (take (i + 1) s) ≡ escaped (take i s) ++ escape (get_or s i 0)
+escaped_take s i h =
+    let n : i + 1 ≡ suc i = omega arith in
+    rw (n, take-suc s i 0 h, escaped_append (take i s) (get_or s i 0 ∷ []), escaped_one (get_or s i 0))
+
+-- what is left has room for the next byte
+pub escaped_room : (s : List ℕ) (i : ℕ) → i < length s → length (escaped (take i s)) + length (escape (get_or s i 0)) ≤ length (escaped s)
+escaped_room s i h =
+    let n : i + 1 ≡ suc i = omega arith in
+    let e = ap (λ (l : List ℕ). length l) (escaped_take s i h) in
+    let f = length-append (escaped (take i s)) (escape (get_or s i 0)) in
+    let g = ap (λ (l : List ℕ). length (escaped l)) (take-append-drop (i + 1) s) in
+    let k = ap (λ (l : List ℕ). length l) (escaped_append (take (i + 1) s) (drop (i + 1) s)) in
+    let m = length-append (escaped (take (i + 1) s)) (escaped (drop (i + 1) s)) in
+    omega arith
+
+pub escaped_all : (s : List ℕ) (i : ℕ) → length s ≤ i → escaped (take i s) ≡ escaped s
+escaped_all s i h = ap escaped (take_all i s h)
+
+pub ruleset bytewise = (escaped_none, escaped_take, escaped_room, escaped_all, written_then, written_none, length-append)

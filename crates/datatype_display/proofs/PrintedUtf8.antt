@@ -1,6 +1,6 @@
 -- Every text that is printed is UTF-8: names and zones in double quotes are ASCII, since 18 refuses others, and list
 -- names are UTF-8 as they stand.
---   display-utf8   the printed text of trees whose rows fit, where what prints in double quotes is ASCII
+--   display_utf8   the printed text of trees whose rows fit, where what prints in double quotes is ASCII
 --   print-utf8     so, what the printer prints, whatever it is given
 --   output-utf8    and what then stands at the start of the output
 use Rattle.std.specs.Prelude.{if◌then◌else◌}

@@ -16,7 +16,8 @@ use Rattle.display_length.specs.Display.{display}
 use Rattle.display_length.specs.PrintedLength.{quoted_ascii, printed_length}
 use Rattle.display_length.proofs.PrintedLaws.{Prints as Measured, prints, refuses}
 use Rattle.datatype_display.specs.Print.{print, print_answer, print_bytes}
-use Rattle.datatype_display.specs.Internal.Steps.{Fits, Wrote, Child, text_at}
+use Rattle.datatype_display.specs.Internal.Steps.{Fits, Wrote, written, Child, text_at}
+use Rattle.datatype_display.specs.declared.write.Printer.{Printer}
 use Rattle.tokenizer.specs.Answer.{Out, done, refuse}
 use Rattle.datatype_display.proofs.Rows.{root-child, root-text}
 
@@ -48,19 +49,22 @@ module _ (text names table before : List ℕ) where
     pub prints-19 : min (length before) 16384 < n → Prints (refuse 19) before
     prints-19 l = let k = measured.is in too_long (lt-leb (length printed) (min (length before) 16384) (omega arith))
 
-    pub root-asks : n ≤ min (length before) 16384 → Child text names table 64 0 × Fits before 0 (text_at text names table 0)
-    root-asks l =
-        let k = measured.is in
-        let e = ap (λ (s : List ℕ). length s) (root-text text names table (of_true _ measured.sound)) in
-        (root-child text names table (of_true _ measured.sound), record { room = omega arith })
+    module _ (l : n ≤ min (length before) 16384) (p : Printer) (start : p.at ≡ 0) (lent : p.out.now ≡ before) where
+      pub root-asks : Child text names table 64 0 × Fits p (text_at text names table 0)
+      root-asks =
+          let k = measured.is in
+          let e = ap (λ (s : List ℕ). length s) (root-text text names table (of_true _ measured.sound)) in
+          let o = ap (λ (s : List ℕ). length s) lent in
+          (root-child text names table (of_true _ measured.sound), record { room = omega arith })
 
-    pub prints-text : n ≤ min (length before) 16384 → (next : ℕ) (after : List ℕ) → Wrote before 0 (text_at text names table 0) next after → Prints (done n) after
-    unfolding print print_answer print_bytes
-    prints-text l next after w =
-        let k = measured.is in
-        let f : leb (length printed) (min (length before) 16384) ≡ true = le-leb (length printed) (min (length before) 16384) (omega arith) in
-        let z : 0 + length printed ≡ length printed = omega arith in (
-          rw (measured.sound, measured.ascii, f, k),
-          rw (measured.sound, measured.ascii, f)
-              (w.stored ∙ ap (λ (s : List ℕ). sets before 0 s) (root-text text names table (of_true _ measured.sound)) ∙ sets-eq printed before 0 (omega arith) ∙ ap (λ (i : ℕ). printed ++ drop i before) z),
-        )
+      pub prints-text : (q : Printer) → Wrote p (text_at text names table 0) q → (after : List ℕ) → after ≡ q.out.now → Prints (done n) after
+      unfolding print print_answer print_bytes written
+      prints-text q w after ends =
+          let k = measured.is in
+          let f : leb (length printed) (min (length before) 16384) ≡ true = le-leb (length printed) (min (length before) 16384) (omega arith) in
+          let z : 0 + length printed ≡ length printed = omega arith in
+          let stored : after ≡ sets before 0 (text_at text names table 0) = ends ∙ ap (λ (r : Printer). r.out.now) w.is ∙ rw (start, lent) in (
+            rw (measured.sound, measured.ascii, f, k),
+            rw (measured.sound, measured.ascii, f)
+                (stored ∙ ap (λ (s : List ℕ). sets before 0 s) (root-text text names table (of_true _ measured.sound)) ∙ sets-eq printed before 0 (omega arith) ∙ ap (λ (i : ℕ). printed ++ drop i before) z),
+          )

@@ -1,4 +1,4 @@
--- The shapes of kinds that a `match` tells apart by their order, once those that stand alone are out.
+-- The shapes of the kinds that each arm of `put_leaf` and of `put_nested` is for.
 use mathlib.Core.Path.{◌≡◌, refl, ap, sym, ◌∙◌}
 use mathlib.Core.Bool.{Bool, true, false, not, ◌||◌}
 use mathlib.Core.List.{List, [], ◌∷◌}
@@ -7,6 +7,7 @@ use lib.ListN.{get_or}
 use lib.Dec.{T, leb, ltb, eqb, eqb→eq}
 use native.Mathlib.Omega.{arith}
 use borrow.Author.Tests.{le-ltb, lt-leb}
+use Rattle.std.proofs.lemmas.Bool.Decides.{nat_tests}
 use Rattle.tokenizer.proofs.Listed.{NoneOf}
 use Rattle.datatype.specs.Kind.{Shape, leaf, timestamp, time, interval, fixed, list, fixed_list, struct, union, dictionary, decimal, mapping, run_end_encoded, kinds, shape_of, has}
 use Rattle.datatype.proofs.Tests.{all_below, below_at}
@@ -57,30 +58,62 @@ shape_in some singles lo hi s t k h o n a b =
     let u = rw (o, (none_has k (Unit {0}) singles n).1, le-ltb k lo a, lt-leb hi k b) at (below_at kinds (outside some singles lo hi s) t k h) in
     sym (back (shape_of k)) ∙ ap shape (eqb→eq (number (shape_of k)) (number s) u) ∙ back s
 
--- ---- what the arms of `put_leaf` and of `put_nested` know
+-- ---- kinds that an arm names
 
-abbrev alone_singles : List ℕ
-alone_singles = 13 ∷ 19 ∷ 21 ∷ []
+pub timestamp_kind : (k : ℕ) → k ≡ 13 → shape_of k ≡ timestamp
+unfolding shape_of
+timestamp_kind k e = rw e
 
-abbrev nested_singles : List ℕ
-nested_singles = 29 ∷ 32 ∷ 33 ∷ 34 ∷ 39 ∷ 40 ∷ []
+pub interval_kind : (k : ℕ) → k ≡ 19 → shape_of k ≡ interval
+unfolding shape_of
+interval_kind k e = rw e
 
-module _ (k : ℕ) (h : k < kinds) where
-  module _ (o : is_alone k ≡ true) (n : NoneOf k (Unit {0}) alone_singles) where
-    pub time_kind : 16 ≤ k → k < 19 → shape_of k ≡ time
-    time_kind = shape_in is_alone alone_singles 16 19 time (unfold shape_of is_alone in tt) k h o n
+pub fixed_kind : (k : ℕ) → k ≡ 21 → shape_of k ≡ fixed
+unfolding shape_of
+fixed_kind k e = rw e
 
-    pub decimal_kind : 35 ≤ k → k < 39 → shape_of k ≡ decimal
-    decimal_kind = shape_in is_alone alone_singles 35 39 decimal (unfold shape_of is_alone in tt) k h o n
+pub fixed_list_kind : (k : ℕ) → k ≡ 29 → shape_of k ≡ fixed_list
+unfolding shape_of
+fixed_list_kind k e = rw e
 
-    pub leaf_low : 0 ≤ k → k < 16 → shape_of k ≡ leaf
-    leaf_low = shape_in is_alone alone_singles 0 16 leaf (unfold shape_of is_alone in tt) k h o n
+pub struct_kind : (k : ℕ) → k ≡ 32 → shape_of k ≡ struct
+unfolding shape_of
+struct_kind k e = rw e
 
-    pub leaf-middle : 19 ≤ k → k < 35 → shape_of k ≡ leaf
-    leaf-middle = shape_in is_alone alone_singles 19 35 leaf (unfold shape_of is_alone in tt) k h o n
+pub union_kind : (k : ℕ) → k ≡ 33 → shape_of k ≡ union
+unfolding shape_of
+union_kind k e = rw e
 
-    pub leaf_high : 39 ≤ k → k < 41 → shape_of k ≡ leaf
-    leaf_high = shape_in is_alone alone_singles 39 41 leaf (unfold shape_of is_alone in tt) k h o n
+pub dictionary_kind : (k : ℕ) → k ≡ 34 → shape_of k ≡ dictionary
+unfolding shape_of
+dictionary_kind k e = rw e
 
-  pub list_kind : is_alone k ≡ false → NoneOf k (Unit {0}) nested_singles → shape_of k ≡ list
-  list_kind o n = shape_in (λ i. not (is_alone i)) nested_singles 0 41 list (unfold shape_of is_alone in tt) k h (rw o) n (omega arith) h
+pub map_kind : (k : ℕ) → k ≡ 39 → shape_of k ≡ mapping
+unfolding shape_of
+map_kind k e = rw e
+
+pub run_end_kind : (k : ℕ) → k ≡ 40 → shape_of k ≡ run_end_encoded
+unfolding shape_of
+run_end_kind k e = rw e
+
+-- ---- kinds that an arm tells by their order
+
+pub time_kinds : (k : ℕ) → 16 ≤ k → k < 19 → shape_of k ≡ time
+time_kinds k a b = shape_in (λ _. true) [] 16 19 time (unfold shape_of in tt) k (omega arith) refl tt a b
+
+pub decimal_kinds : (k : ℕ) → 35 ≤ k → k < 39 → shape_of k ≡ decimal
+decimal_kinds k a b = shape_in (λ _. true) [] 35 39 decimal (unfold shape_of in tt) k (omega arith) refl tt a b
+
+pub alone_kinds : (k : ℕ) → is_alone k ≡ true → k < 39
+unfolding is_alone
+alone_kinds k a = grind (arith, nat_tests)
+
+pub leaf_low : (k : ℕ) → is_alone k ≡ true → (k ≡ 13 → ⊥) → k < 16 → shape_of k ≡ leaf
+leaf_low k o n b = shape_in is_alone (13 ∷ []) 0 16 leaf (unfold shape_of is_alone in tt) k (omega arith) o (tt, n) (omega arith) b
+
+pub leaf_middle : (k : ℕ) → is_alone k ≡ true → (k ≡ 19 → ⊥) → (k ≡ 21 → ⊥) → 19 ≤ k → k < 35 → shape_of k ≡ leaf
+leaf_middle k o n m a b = shape_in is_alone (19 ∷ 21 ∷ []) 19 35 leaf (unfold shape_of is_alone in tt) k (omega arith) o ((tt, n), m) a b
+
+pub list_kinds : (k : ℕ) → k < kinds → is_alone k ≡ false → (k ≡ 29 → ⊥) → (k ≡ 32 → ⊥) → (k ≡ 33 → ⊥) → (k ≡ 34 → ⊥) → (k ≡ 39 → ⊥) → (k ≡ 40 → ⊥) → shape_of k ≡ list
+list_kinds k h o a b c d e f =
+    shape_in (λ i. not (is_alone i)) (29 ∷ 32 ∷ 33 ∷ 34 ∷ 39 ∷ 40 ∷ []) 0 41 list (unfold shape_of is_alone in tt) k h (rw o) ((((((tt, a), b), c), d), e), f) (omega arith) h

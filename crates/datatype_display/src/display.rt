@@ -1,237 +1,246 @@
 // The printed text of a row's subtree, as `datatype_display.rs` writes it: a type's word, then by its kind what stands
 // behind it. The level falls from a type to those below it.
 ghost use Rattle.std.specs.Prelude.{◌≡◌, false};
-ghost use Rattle.datatype.specs.Kind.{list, fixed_list, struct, union, dictionary, mapping, run_end_encoded};
+ghost use Rattle.datatype.specs.Table.{word_at};
 ghost use Rattle.display_length.specs.Display.{field_text, list_field_text};
-ghost use Rattle.datatype_display.specs.Internal.Steps.{Fits, Wrote, ShapedIn, ChildIn, is_alone, label_in, text_in, shown_in, shape_in, list_in, fixed_list_in, dictionary_in, map_in, nullable_text, run_end_part, union_field_text};
+ghost use Rattle.datatype_display.specs.Internal.Steps.{Fits, Wrote, ChildIn, SubtreeIn, OneIn, TwoIn, is_alone, text_in, shown_in, list_in, fixed_list_in, struct_in, union_in, dictionary_in, map_in, run_end_in, nullable_text, union_field_text};
 
-use crate::leaves::{is_alone, put_comma, put_list_name, put_name, put_nullability};
-use crate::tree::Tree;
-use crate::words::{mode_word, put_kind, sorted_word};
-use crate::write::{put, put_mark, put_number};
-use datatype::kind;
+use crate::leaves::is_alone;
+use crate::write::Printer;
 use datatype::kind::is_word;
-use datatype::rows::{KIND, NUMBER, ROLE, UNION_ID};
+use datatype::{Row, Tree, kind};
+use display_length::{are_default_names, mode_word, sorted_word};
 
-impl<'a> Tree<'a> {
+impl<'a> Printer<'a> {
     // [non-null ]type
-    #[tactic(auto, unfolding(crate::specs::Internal::Steps::nullable_text, crate::specs::Internal::Steps::nullability, display_length::specs::Display::nullity_text, crate::specs::Internal::Steps::label_at, datatype::specs::Tree::label_of, subtrees::specs::Internal::Run::row_at))]
+    #[tactic(auto, using(crate::proofs::Texts::field_steps))]
     #[cycle(types)]
-    fn put_nullable(&self, level: usize, i: usize, out: &mut [u8], at: usize) -> usize
-        requires { ChildIn self.now level i × Fits out.old at (nullable_text (shown_in self.now i)) }
-        ensures { Wrote out.old at (nullable_text (shown_in self.now i)) result out.new }
+    fn put_nullable(&mut self, tree: &Tree<'_>, level: usize, row: &Row<'_>)
+        requires { ChildIn tree.now level row.now × Fits self.old (nullable_text (shown_in tree.now row.now)) }
+        ensures { Wrote self.old (nullable_text (shown_in tree.now row.now)) self.new }
     {
-        let role = self.word(i, ROLE);
-        let next = put_nullability(out, at, role);
-        self.put_type(level, i, out, next)
+        self.put_nullability(row.role());
+        self.put_type(tree, level, row);
     }
 
-    // "name": [non-null ]type
-    #[tactic(auto, unfolding(display_length::specs::Display::field_text, crate::specs::Internal::Steps::name_text, crate::specs::Internal::Steps::nullability, display_length::specs::Display::nullity_text, crate::specs::Internal::Steps::label_at, datatype::specs::Tree::label_of, subtrees::specs::Internal::Run::row_at))]
+    // "name": [non-null ]type. It and `put_type` are made part of their callers: with calls, the fields of a Struct take
+    // a tenth more to write.
+    #[inline(always)]
+    #[tactic(auto, using(crate::proofs::Texts::field_steps))]
     #[cycle(types)]
-    fn put_field(&self, level: usize, i: usize, out: &mut [u8], at: usize) -> usize
-        requires { ChildIn self.now level i × Fits out.old at (field_text (shown_in self.now i)) }
-        ensures { Wrote out.old at (field_text (shown_in self.now i)) result out.new }
+    fn put_field(&mut self, tree: &Tree<'_>, level: usize, row: &Row<'_>)
+        requires { ChildIn tree.now level row.now × Fits self.old (field_text (shown_in tree.now row.now)) }
+        ensures { Wrote self.old (field_text (shown_in tree.now row.now)) self.new }
     {
-        let name = self.name(i);
-        let role = self.word(i, ROLE);
-        let next = put_name(out, at, name, role);
-        self.put_type(level, i, out, next)
+        self.put_name(row.name(tree.text, tree.names), row.role());
+        self.put_type(tree, level, row);
     }
 
     // [non-null ]type[, field: 'name']
-    #[tactic(auto, unfolding(display_length::specs::Display::list_field_text, crate::specs::Internal::Steps::nullable_text))]
+    #[tactic(auto, using(crate::proofs::Texts::field_steps))]
     #[cycle(types)]
-    fn put_list_field(&self, level: usize, i: usize, out: &mut [u8], at: usize) -> usize
-        requires { ChildIn self.now level i × Fits out.old at (list_field_text (shown_in self.now i)) }
-        ensures { Wrote out.old at (list_field_text (shown_in self.now i)) result out.new }
+    fn put_list_field(&mut self, tree: &Tree<'_>, level: usize, row: &Row<'_>)
+        requires { ChildIn tree.now level row.now × Fits self.old (list_field_text (shown_in tree.now row.now)) }
+        ensures { Wrote self.old (list_field_text (shown_in tree.now row.now)) self.new }
     {
-        let name = self.name(i);
-        let next = self.put_nullable(level, i, out, at);
-        put_list_name(out, next, name)
+        self.put_nullable(tree, level, row);
+        self.put_list_name(row.name(tree.text, tree.names));
     }
 
     // List(field) and the other three lists of any length
+    #[tactic(auto, using(crate::proofs::Writes::writes))]
     #[cycle(types)]
-    fn put_list(&self, level: usize, i: usize, out: &mut [u8], at: usize) -> usize
-        requires { ShapedIn list self.now level i × Fits out.old at (list_in self.now i) }
-        ensures { Wrote out.old at (list_in self.now i) result out.new }
+    fn put_list(&mut self, tree: &Tree<'_>, level: usize, row: &Row<'_>)
+        requires { OneIn tree.now level row.now × Fits self.old (list_in tree.now row.now) }
+        ensures { Wrote self.old (list_in tree.now row.now) self.new }
     {
-        let opened = put_mark(out, at, b'(');
-        let last = self.put_list_field(level, i + 1, out, opened);
-        put_mark(out, last, b')')
+        let field = Row {
+            rows: row.rows,
+            at: row.at + 1,
+        };
+        self.put_mark(b'(');
+        self.put_list_field(tree, level, &field);
+        self.put_mark(b')');
     }
 
     // FixedSizeList(length x field)
-    #[tactic(auto, unfolding(crate::specs::Internal::Steps::label_at, datatype::specs::Tree::label_of, subtrees::specs::Internal::Run::row_at))]
+    #[tactic(auto, using(crate::proofs::Writes::writes))]
     #[cycle(types)]
-    fn put_fixed_size_list(&self, level: usize, i: usize, out: &mut [u8], at: usize) -> usize
-        requires { ShapedIn fixed_list self.now level i × Fits out.old at (fixed_list_in self.now i) }
-        ensures { Wrote out.old at (fixed_list_in self.now i) result out.new }
+    fn put_fixed_size_list(&mut self, tree: &Tree<'_>, level: usize, row: &Row<'_>)
+        requires { OneIn tree.now level row.now × Fits self.old (fixed_list_in tree.now row.now) }
+        ensures { Wrote self.old (fixed_list_in tree.now row.now) self.new }
     {
-        let size = self.word(i, NUMBER);
-        let opened = put_mark(out, at, b'(');
-        let next = put_number(out, opened, size);
-        let more = put(out, next, b" x ");
-        let last = self.put_list_field(level, i + 1, out, more);
-        put_mark(out, last, b')')
+        let field = Row {
+            rows: row.rows,
+            at: row.at + 1,
+        };
+        self.put_mark(b'(');
+        self.put_number(row.number());
+        self.put(b" x ");
+        self.put_list_field(tree, level, &field);
+        self.put_mark(b')');
     }
 
     // Struct(field, ..)
-    #[tactic(auto, unfolding(display_length::specs::Display::shape_text))]
+    #[tactic(auto, using(crate::proofs::Writes::writes))]
     #[cycle(types)]
-    fn put_struct(&self, level: usize, i: usize, out: &mut [u8], at: usize) -> usize
-        requires { ShapedIn struct self.now level i × Fits out.old at (shape_in struct self.now i) }
-        ensures { Wrote out.old at (shape_in struct self.now i) result out.new }
+    fn put_struct(&mut self, tree: &Tree<'_>, level: usize, row: &Row<'_>)
+        requires { SubtreeIn tree.now level row.now × Fits self.old (struct_in tree.now row.now) }
+        ensures { Wrote self.old (struct_in tree.now row.now) self.new }
     {
-        let end = i + self.subtree(i);
-        let mut next = put_mark(out, at, b'(');
+        let end = row.at + row.subtree();
+        self.put_mark(b'(');
         // The step is a subtree's rows, so no range goes over the fields.
-        let mut j = i + 1;
-        while j < end {
-            let name = self.name(j);
-            let role = self.word(j, ROLE);
-            let named = put_name(out, next, name, role);
-            // As `put_type` does, with no call of the walk where no types stand below: a tenth of what 700 fields cost.
-            let kind = self.word(j, KIND);
-            let last = if is_word(kind) {
-                put_kind(out, named, kind)
-            } else if is_alone(kind) {
-                self.put_leaf(kind, j, out, named)
-            } else {
-                self.put_nested(level, j, out, named)
-            };
-            j = j + self.subtree(j);
-            next = put_comma(out, last, j < end);
+        let mut at = row.at + 1;
+        while at < end {
+            let field = Row { rows: row.rows, at };
+            self.put_field(tree, level, &field);
+            at = at + field.subtree();
+            self.put_comma(at < end);
         }
-        put_mark(out, next, b')')
+        self.put_mark(b')');
     }
 
     // , id: (field)
-    #[tactic(auto, unfolding(crate::specs::Internal::Steps::union_field_text, crate::specs::Internal::Steps::label_at, datatype::specs::Tree::label_of, subtrees::specs::Internal::Run::row_at))]
+    #[tactic(auto, using(crate::proofs::Texts::field_steps))]
     #[cycle(types)]
-    fn put_union_field(&self, level: usize, i: usize, out: &mut [u8], at: usize) -> usize
-        requires { ChildIn self.now level i × Fits out.old at (union_field_text (shown_in self.now i)) }
-        ensures { Wrote out.old at (union_field_text (shown_in self.now i)) result out.new }
+    fn put_union_field(&mut self, tree: &Tree<'_>, level: usize, row: &Row<'_>)
+        requires { ChildIn tree.now level row.now × Fits self.old (union_field_text (shown_in tree.now row.now)) }
+        ensures { Wrote self.old (union_field_text (shown_in tree.now row.now)) self.new }
     {
-        let id = self.word(i, UNION_ID);
-        let parted = put(out, at, b", ");
-        let next = put_number(out, parted, id);
-        let opened = put(out, next, b": (");
-        let last = self.put_field(level, i, out, opened);
-        put_mark(out, last, b')')
+        self.put(b", ");
+        self.put_number(row.union_id());
+        self.put(b": (");
+        self.put_field(tree, level, row);
+        self.put_mark(b')');
     }
 
     // Union(mode, id: (field), ..)
-    #[tactic(auto, unfolding(display_length::specs::Display::shape_text, crate::specs::Internal::Steps::label_at, datatype::specs::Tree::label_of, subtrees::specs::Internal::Run::row_at))]
+    #[tactic(auto, using(crate::proofs::Writes::writes))]
     #[cycle(types)]
-    fn put_union(&self, level: usize, i: usize, out: &mut [u8], at: usize) -> usize
-        requires { ShapedIn union self.now level i × Fits out.old at (shape_in union self.now i) }
-        ensures { Wrote out.old at (shape_in union self.now i) result out.new }
+    fn put_union(&mut self, tree: &Tree<'_>, level: usize, row: &Row<'_>)
+        requires { SubtreeIn tree.now level row.now × Fits self.old (union_in tree.now row.now) }
+        ensures { Wrote self.old (union_in tree.now row.now) self.new }
     {
-        let mode = mode_word(self.word(i, NUMBER));
-        let end = i + self.subtree(i);
-        let opened = put_mark(out, at, b'(');
-        let mut next = put(out, opened, mode);
+        let end = row.at + row.subtree();
+        self.put_mark(b'(');
+        self.put(mode_word(row.number()));
         // As in a Struct, the step is a subtree's rows.
-        let mut j = i + 1;
-        while j < end {
-            next = self.put_union_field(level, j, out, next);
-            j = j + self.subtree(j);
+        let mut at = row.at + 1;
+        while at < end {
+            let field = Row { rows: row.rows, at };
+            self.put_union_field(tree, level, &field);
+            at = at + field.subtree();
         }
-        put_mark(out, next, b')')
+        self.put_mark(b')');
     }
 
     // Dictionary(key, value)
+    #[tactic(auto, using(crate::proofs::Writes::writes))]
     #[cycle(types)]
-    fn put_dictionary(&self, level: usize, i: usize, out: &mut [u8], at: usize) -> usize
-        requires { ShapedIn dictionary self.now level i × Fits out.old at (dictionary_in self.now i) }
-        ensures { Wrote out.old at (dictionary_in self.now i) result out.new }
+    fn put_dictionary(&mut self, tree: &Tree<'_>, level: usize, row: &Row<'_>)
+        requires { TwoIn tree.now level row.now × Fits self.old (dictionary_in tree.now row.now) }
+        ensures { Wrote self.old (dictionary_in tree.now row.now) self.new }
     {
-        let value = i + 1 + self.subtree(i + 1);
-        let opened = put_mark(out, at, b'(');
-        let next = self.put_type(level, i + 1, out, opened);
-        let more = put(out, next, b", ");
-        let last = self.put_type(level, value, out, more);
-        put_mark(out, last, b')')
+        let key = Row {
+            rows: row.rows,
+            at: row.at + 1,
+        };
+        let value = Row {
+            rows: row.rows,
+            at: key.at + key.subtree(),
+        };
+        self.put_mark(b'(');
+        self.put_type(tree, level, &key);
+        self.put(b", ");
+        self.put_type(tree, level, &value);
+        self.put_mark(b')');
     }
 
     // Map(field, sorted)
-    #[tactic(auto, unfolding(crate::specs::Internal::Steps::label_at, datatype::specs::Tree::label_of, subtrees::specs::Internal::Run::row_at))]
+    #[tactic(auto, using(crate::proofs::Writes::writes))]
     #[cycle(types)]
-    fn put_map(&self, level: usize, i: usize, out: &mut [u8], at: usize) -> usize
-        requires { ShapedIn mapping self.now level i × Fits out.old at (map_in self.now i) }
-        ensures { Wrote out.old at (map_in self.now i) result out.new }
+    fn put_map(&mut self, tree: &Tree<'_>, level: usize, row: &Row<'_>)
+        requires { OneIn tree.now level row.now × Fits self.old (map_in tree.now row.now) }
+        ensures { Wrote self.old (map_in tree.now row.now) self.new }
     {
-        let sorted = sorted_word(self.word(i, NUMBER));
-        let opened = put_mark(out, at, b'(');
-        let next = self.put_field(level, i + 1, out, opened);
-        let more = put(out, next, b", ");
-        let last = put(out, more, sorted);
-        put_mark(out, last, b')')
-    }
-
-    // One of RunEndEncoded's two fields, with its name or without
-    #[tactic(auto, unfolding(crate::specs::Internal::Steps::run_end_part))]
-    #[cycle(types)]
-    fn put_run_end(&self, short: bool, level: usize, i: usize, out: &mut [u8], at: usize) -> usize
-        requires { ChildIn self.now level i × Fits out.old at (run_end_part short (shown_in self.now i)) }
-        ensures { Wrote out.old at (run_end_part short (shown_in self.now i)) result out.new }
-    {
-        if short {
-            return self.put_nullable(level, i, out, at);
-        }
-        self.put_field(level, i, out, at)
+        let field = Row {
+            rows: row.rows,
+            at: row.at + 1,
+        };
+        self.put_mark(b'(');
+        self.put_field(tree, level, &field);
+        self.put(b", ");
+        self.put(sorted_word(row.number()));
+        self.put_mark(b')');
     }
 
     // RunEndEncoded(run ends, values), with their names unless both are the default ones
+    #[tactic(auto, using(crate::proofs::Texts::run_end_steps))]
     #[cycle(types)]
-    fn put_run_end_encoded(&self, level: usize, i: usize, out: &mut [u8], at: usize) -> usize
-        requires { ShapedIn run_end_encoded self.now level i × Fits out.old at (shape_in run_end_encoded self.now i) }
-        ensures { Wrote out.old at (shape_in run_end_encoded self.now i) result out.new }
+    fn put_run_end_encoded(&mut self, tree: &Tree<'_>, level: usize, row: &Row<'_>)
+        requires { TwoIn tree.now level row.now × Fits self.old (run_end_in tree.now row.now) }
+        ensures { Wrote self.old (run_end_in tree.now row.now) self.new }
     {
-        let values = i + 1 + self.subtree(i + 1);
-        let short = self.has_default_names(i + 1, values);
-        let opened = put_mark(out, at, b'(');
-        let next = self.put_run_end(short, level, i + 1, out, opened);
-        let more = put(out, next, b", ");
-        let last = self.put_run_end(short, level, values, out, more);
-        put_mark(out, last, b')')
+        let run_ends = Row {
+            rows: row.rows,
+            at: row.at + 1,
+        };
+        let values = Row {
+            rows: row.rows,
+            at: run_ends.at + run_ends.subtree(),
+        };
+        let first = run_ends.name(tree.text, tree.names);
+        let second = values.name(tree.text, tree.names);
+        self.put_mark(b'(');
+        if are_default_names(first, second) {
+            self.put_nullable(tree, level, &run_ends);
+            self.put(b", ");
+            self.put_nullable(tree, level, &values);
+        } else {
+            self.put_field(tree, level, &run_ends);
+            self.put(b", ");
+            self.put_field(tree, level, &values);
+        }
+        self.put_mark(b')');
     }
 
-    // Writes the type of row i with all that stands below it.
+    // Writes the type of a row with all that stands below it: where nothing does, with no call of the walk.
+    #[inline(always)]
+    #[tactic(auto, using(crate::proofs::Texts::type_steps))]
     #[cycle(types)]
-    pub(crate) fn put_type(&self, level: usize, i: usize, out: &mut [u8], at: usize) -> usize
-        requires { ChildIn self.now level i × Fits out.old at (text_in self.now i) }
-        ensures { Wrote out.old at (text_in self.now i) result out.new }
+    pub(crate) fn put_type(&mut self, tree: &Tree<'_>, level: usize, row: &Row<'_>)
+        requires { ChildIn tree.now level row.now × Fits self.old (text_in tree.now row.now) }
+        ensures { Wrote self.old (text_in tree.now row.now) self.new }
     {
-        let kind = self.word(i, KIND);
+        let kind = row.kind();
         if is_word(kind) {
-            return put_kind(out, at, kind);
+            self.put_kind(kind);
+        } else if is_alone(kind) {
+            self.put_leaf(tree, kind, row);
+        } else {
+            self.put_nested(tree, level, row);
         }
-        if is_alone(kind) {
-            return self.put_leaf(kind, i, out, at);
-        }
-        self.put_nested(level, i, out, at)
     }
 
-    // Writes the type of row i with the types below it.
+    // Writes the type of a row with the types below it.
+    #[tactic(auto, using(crate::proofs::Texts::nested_steps))]
     #[cycle(types)]
-    fn put_nested(&self, level: usize, i: usize, out: &mut [u8], at: usize) -> usize
-        requires { ChildIn self.now level i × (is_alone (label_in self.now i).kind ≡ false) × Fits out.old at (text_in self.now i) }
-        ensures { Wrote out.old at (text_in self.now i) result out.new }
+    fn put_nested(&mut self, tree: &Tree<'_>, level: usize, row: &Row<'_>)
+        requires { ChildIn tree.now level row.now × (is_alone (word_at row.now.rows.now row.now.at 0) ≡ false) × Fits self.old (text_in tree.now row.now) }
+        ensures { Wrote self.old (text_in tree.now row.now) self.new }
     {
-        let kind = self.word(i, KIND);
-        let next = put_kind(out, at, kind);
+        let kind = row.kind();
+        self.put_kind(kind);
         let below = level - 1;
         match kind {
-            kind::FIXED_SIZE_LIST => self.put_fixed_size_list(below, i, out, next),
-            kind::STRUCT => self.put_struct(below, i, out, next),
-            kind::UNION => self.put_union(below, i, out, next),
-            kind::DICTIONARY => self.put_dictionary(below, i, out, next),
-            kind::MAP => self.put_map(below, i, out, next),
-            kind::RUN_END_ENCODED => self.put_run_end_encoded(below, i, out, next),
-            _ => self.put_list(below, i, out, next),
+            kind::FIXED_SIZE_LIST => self.put_fixed_size_list(tree, below, row),
+            kind::STRUCT => self.put_struct(tree, below, row),
+            kind::UNION => self.put_union(tree, below, row),
+            kind::DICTIONARY => self.put_dictionary(tree, below, row),
+            kind::MAP => self.put_map(tree, below, row),
+            kind::RUN_END_ENCODED => self.put_run_end_encoded(tree, below, row),
+            _ => self.put_list(tree, below, row),
         }
     }
 }

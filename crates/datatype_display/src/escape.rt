@@ -1,9 +1,9 @@
 // Double-quoted strings, written as Rust's `{:?}` writes them.
-ghost use Rattle.std.specs.Prelude.{◌≡◌, ◌<◌};
+ghost use Rattle.std.specs.Prelude.{◌≡◌, ◌+◌, ◌≤◌, ◌<◌, length};
 ghost use Rattle.display_length.specs.Display.{hex_digit, hex, escape, escaped, quoted};
 ghost use Rattle.datatype_display.specs.Internal.Steps.{Fits, Wrote, Ran, unicode_text, is_itself};
 
-use crate::write::{put, put_mark};
+use crate::write::Printer;
 
 // A lowercase hex digit.
 fn hex_digit(n: u8) -> u8
@@ -14,47 +14,6 @@ fn hex_digit(n: u8) -> u8
         return b'0' + n;
     }
     b'a' - 10 + n
-}
-
-// Writes a byte's hex digits.
-fn put_hex(out: &mut [u8], at: usize, c: u8) -> usize
-    requires { Fits out.old at (hex c) }
-    ensures { Wrote out.old at (hex c) result out.new }
-{
-    if c < 16 {
-        return put_mark(out, at, hex_digit(c));
-    }
-    let next = put_mark(out, at, hex_digit(c / 16));
-    put_mark(out, next, hex_digit(c % 16))
-}
-
-// Writes a control character, by its number in hex digits.
-#[tactic(auto, unfolding(crate::specs::Internal::Steps::unicode_text))]
-fn put_unicode(out: &mut [u8], at: usize, c: u8) -> usize
-    requires { Fits out.old at (unicode_text c) }
-    ensures { Wrote out.old at (unicode_text c) result out.new }
-{
-    let next = put(out, at, b"\\u{");
-    let last = put_hex(out, next, c);
-    put_mark(out, last, b'}')
-}
-
-// Writes one byte between the marks.
-#[tactic(auto, unfolding(display_length::specs::Display::escape, crate::specs::Internal::Steps::unicode_text))]
-fn put_escape(out: &mut [u8], at: usize, c: u8) -> usize
-    requires { Fits out.old at (escape c) }
-    ensures { Wrote out.old at (escape c) result out.new }
-{
-    match c {
-        b'"' => put(out, at, b"\\\""),
-        b'\\' => put(out, at, b"\\\\"),
-        0 => put(out, at, b"\\0"),
-        b'\t' => put(out, at, b"\\t"),
-        b'\r' => put(out, at, b"\\r"),
-        b'\n' => put(out, at, b"\\n"),
-        1..32 | 127 => put_unicode(out, at, c),
-        _ => put_mark(out, at, c),
-    }
 }
 
 // Whether a byte is written as it is: letters, most of all bytes, are told by the fewest tests. With one `matches!` 700
@@ -72,22 +31,11 @@ fn is_itself(c: u8) -> bool
     b' ' <= c && c != b'"'
 }
 
-// Writes a string byte by byte.
-fn put_escaped(out: &mut [u8], at: usize, s: &[u8]) -> usize
-    requires { Fits out.old at (escaped s.now) }
-    ensures { Wrote out.old at (escaped s.now) result out.new }
-{
-    let mut next = at;
-    for c in s {
-        next = put_escape(out, next, *c);
-    }
-    next
-}
-
 // Writes the bytes up to the first that is escaped, and answers how many they are: of most names, all. One loop looks
-// at a byte and writes it, since most names are short.
+// at a byte and writes it, since most names are short. It is lent the output and not the printer, whose place would be
+// read again at each byte.
 fn put_run(out: &mut [u8], at: usize, s: &[u8]) -> usize
-    requires { Fits out.old at (escaped s.now) }
+    requires { at + length (escaped s.now) ≤ length out.old }
     ensures { Ran out.old at s.now result out.new }
 {
     for (i, c) in s.iter().enumerate() {
@@ -99,22 +47,77 @@ fn put_run(out: &mut [u8], at: usize, s: &[u8]) -> usize
     s.len()
 }
 
-// Writes what stands between the marks.
-fn put_between(out: &mut [u8], at: usize, s: &[u8]) -> usize
-    requires { Fits out.old at (escaped s.now) }
-    ensures { Wrote out.old at (escaped s.now) result out.new }
-{
-    let n = put_run(out, at, s);
-    put_escaped(out, at + n, &s[n..])
-}
+impl<'a> Printer<'a> {
+    // Writes a byte's hex digits.
+    #[tactic(auto, using(crate::proofs::Writes::writes))]
+    fn put_hex(&mut self, c: u8)
+        requires { Fits self.old (hex c) }
+        ensures { Wrote self.old (hex c) self.new }
+    {
+        if 16 <= c {
+            self.put_mark(hex_digit(c / 16));
+        }
+        self.put_mark(hex_digit(c % 16));
+    }
 
-// Writes a string in double quotes.
-#[tactic(auto, unfolding(display_length::specs::Display::quoted))]
-pub(crate) fn put_quoted(out: &mut [u8], at: usize, s: &[u8]) -> usize
-    requires { Fits out.old at (quoted s.now) }
-    ensures { Wrote out.old at (quoted s.now) result out.new }
-{
-    let opened = put_mark(out, at, b'"');
-    let last = put_between(out, opened, s);
-    put_mark(out, last, b'"')
+    // Writes a control character, by its number in hex digits.
+    #[tactic(auto, using(crate::proofs::Writes::writes), unfolding(crate::specs::Internal::Steps::unicode_text))]
+    fn put_unicode(&mut self, c: u8)
+        requires { Fits self.old (unicode_text c) }
+        ensures { Wrote self.old (unicode_text c) self.new }
+    {
+        self.put(b"\\u{");
+        self.put_hex(c);
+        self.put_mark(b'}');
+    }
+
+    // Writes one byte between the marks.
+    #[tactic(auto, unfolding(display_length::specs::Display::escape, crate::specs::Internal::Steps::unicode_text))]
+    fn put_escape(&mut self, c: u8)
+        requires { Fits self.old (escape c) }
+        ensures { Wrote self.old (escape c) self.new }
+    {
+        match c {
+            b'"' => self.put(b"\\\""),
+            b'\\' => self.put(b"\\\\"),
+            0 => self.put(b"\\0"),
+            b'\t' => self.put(b"\\t"),
+            b'\r' => self.put(b"\\r"),
+            b'\n' => self.put(b"\\n"),
+            1..32 | 127 => self.put_unicode(c),
+            _ => self.put_mark(c),
+        }
+    }
+
+    // Writes a string byte by byte.
+    #[tactic(auto, using(crate::proofs::Escapes::bytewise))]
+    fn put_escaped(&mut self, s: &[u8])
+        requires { Fits self.old (escaped s.now) }
+        ensures { Wrote self.old (escaped s.now) self.new }
+    {
+        for c in s {
+            self.put_escape(*c);
+        }
+    }
+
+    // Writes what stands between the marks.
+    fn put_between(&mut self, s: &[u8])
+        requires { Fits self.old (escaped s.now) }
+        ensures { Wrote self.old (escaped s.now) self.new }
+    {
+        let n = put_run(self.out, self.at, s);
+        self.at = self.at + n;
+        self.put_escaped(&s[n..]);
+    }
+
+    // Writes a string in double quotes.
+    #[tactic(auto, using(crate::proofs::Writes::writes), unfolding(display_length::specs::Display::quoted))]
+    pub(crate) fn put_quoted(&mut self, s: &[u8])
+        requires { Fits self.old (quoted s.now) }
+        ensures { Wrote self.old (quoted s.now) self.new }
+    {
+        self.put_mark(b'"');
+        self.put_between(s);
+        self.put_mark(b'"');
+    }
 }

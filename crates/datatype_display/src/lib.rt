@@ -7,33 +7,32 @@ ghost use Rattle.tokenizer.specs.Answer.{answer_of};
 ghost use Rattle.datatype_display.specs.Print.{print_answer, print_bytes};
 
 use datatype::rows::{MAX_LEVELS, MAX_TEXT};
+use datatype::{Row, Tree};
 use display_length::printed_length;
 use tokenizer::Refusal;
-use tree::Tree;
+use write::Printer;
 
 mod display;
 mod escape;
 mod leaves;
-mod tree;
 mod words;
 mod write;
 
 // Prints a tree into a lent buffer: its text, and past it what the buffer held before. A refused tree changes nothing.
-pub fn print_data_type<'a>(
-    text: &'a [u8],
-    names: &'a [u8],
-    rows: &[u32],
-    out: &mut [u8],
-) -> Result<usize, Refusal>
-    ensures result_value { answer_of result ≡ print_answer text.now names.now rows.now out.old }
-    ensures out_after { out.new ≡ print_bytes text.now names.now rows.now out.old }
+pub fn print_data_type(tree: Tree<'_>, out: &mut [u8]) -> Result<usize, Refusal>
+    ensures result_value { answer_of result ≡ print_answer tree.entry.text.now tree.entry.names.now tree.entry.rows.now out.old }
+    ensures out_after { out.new ≡ print_bytes tree.entry.text.now tree.entry.names.now tree.entry.rows.now out.old }
 {
-    let length = printed_length(text, names, rows)?;
+    let length = printed_length(tree)?;
     let room = out.len().min(MAX_TEXT);
     if room < length {
         return Err(Refusal::PrintTooLong);
     }
-    let tree = Tree { text, names, rows };
-    tree.put_type(MAX_LEVELS, 0, out, 0);
+    let root = Row {
+        rows: tree.rows,
+        at: 0,
+    };
+    let mut printer = Printer { out, at: 0 };
+    printer.put_type(&tree, MAX_LEVELS, &root);
     Ok(length)
 }

@@ -1,34 +1,45 @@
-// Writing at a place that is known to have room: each function answers the place behind what it wrote. A struct of
-// buffer and place is no plainer: each function would promise besides that its reference stays the same.
+// Writing at a place that is known to have room: nothing asks for it.
 ghost use Rattle.std.specs.Prelude.{[], ◌∷◌};
 ghost use Rattle.output.specs.Digits.{digits};
 ghost use Rattle.datatype_display.specs.Internal.Steps.{Fits, Wrote};
 
 use output::put_digits;
 
-// Writes bytes: those of a literal become a store or two, since nothing asks for room.
-pub(crate) fn put(out: &mut [u8], at: usize, s: &[u8]) -> usize
-    requires { Fits out.old at s.now }
-    ensures { Wrote out.old at s.now result out.new }
-{
-    let end = at + s.len();
-    out[at..end].copy_from_slice(s);
-    end
+// The output, and the place in it behind what was written.
+#[derive(Drop)]
+pub(crate) struct Printer<'a> {
+    pub(crate) at: usize,
+    pub(crate) out: &'a mut [u8],
 }
 
-// Writes one byte.
-pub(crate) fn put_mark(out: &mut [u8], at: usize, c: u8) -> usize
-    requires { Fits out.old at (c ∷ []) }
-    ensures { Wrote out.old at (c ∷ []) result out.new }
-{
-    out[at] = c;
-    at + 1
-}
+impl<'a> Printer<'a> {
+    // Writes bytes: those of a literal become a store or two.
+    #[tactic(auto, using(crate::proofs::Writes::copied), unfolding(crate::specs::Internal::Steps::written))]
+    pub(crate) fn put(&mut self, s: &[u8])
+        requires { Fits self.old s.now }
+        ensures { Wrote self.old s.now self.new }
+    {
+        let end = self.at + s.len();
+        self.out[self.at..end].copy_from_slice(s);
+        self.at = end;
+    }
 
-// Writes a number in decimal digits.
-pub(crate) fn put_number(out: &mut [u8], at: usize, n: u32) -> usize
-    requires { Fits out.old at (digits n) }
-    ensures { Wrote out.old at (digits n) result out.new }
-{
-    at + put_digits(out, at, n)
+    // Writes one byte.
+    #[tactic(auto, unfolding(crate::specs::Internal::Steps::written))]
+    pub(crate) fn put_mark(&mut self, c: u8)
+        requires { Fits self.old (c ∷ []) }
+        ensures { Wrote self.old (c ∷ []) self.new }
+    {
+        self.out[self.at] = c;
+        self.at = self.at + 1;
+    }
+
+    // Writes a number in decimal digits.
+    #[tactic(auto, unfolding(crate::specs::Internal::Steps::written))]
+    pub(crate) fn put_number(&mut self, n: u32)
+        requires { Fits self.old (digits n) }
+        ensures { Wrote self.old (digits n) self.new }
+    {
+        self.at = self.at + put_digits(self.out, self.at, n);
+    }
 }

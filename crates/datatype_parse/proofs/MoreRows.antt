@@ -49,15 +49,6 @@ module _ {A B : Type 0} where
   pub keeps_then : (o : Out A) (f g : A → Out B) → ((a : A) → Keeps (f a) (g a)) → Keeps (o >>= f) (o >>= g)
   keeps_then o f g k = keeps-bind o o f g (keeps_same o) k
 
-less : (r s k : ℕ) → r ≤ s → r - k ≤ s - k
-less r s k h = omega arith
-
-more_turns : (r s : ℕ) → r ≤ s → suc r ≤ suc s
-more_turns r s h = omega arith
-
-fewer : (r s : ℕ) → suc r ≤ suc s → r ≤ s
-fewer r s h = omega arith
-
 -- ---- fields turn by turn
 
 turn_up : (go go' : ℕ → ℕ → Out Fields) (r s : ℕ) → ((next k : ℕ) → Keeps (go next (r - k)) (go' next (s - k)))
@@ -111,14 +102,14 @@ module _ (text : List ℕ) (type : ℕ → ℕ → Out Tree) (up : (at r s : ℕ
   unfolding named_run_ends
   named-up at r s h =
       keeps-bind _ _ _ _ (field-up 0 at r s h) (λ t. keeps_then (if eqb t.row.role 2 then done t else refuse 13) _ _ (λ u. keeps_then (need text comma u.next) _ _ (λ c.
-      keeps-bind _ _ _ _ (field-up 0 c.next (r - rows_in t) (s - rows_in t) (less r s (rows_in t) h)) (λ v. keeps_same _))))
+      keeps-bind _ _ _ _ (field-up 0 c.next (r - rows_in t) (s - rows_in t) (omega arith)) (λ v. keeps_same _))))
 
   pub short-up : (at r s : ℕ) → r ≤ s → Keeps (default_run_ends text type at r) (default_run_ends text type at s)
   unfolding default_run_ends
   short-up at r s h =
       keeps-if (eqb (role_at text at) 2) _ _ _ _
       (keeps-bind _ _ _ _ (default-up run_ends at r s h) (λ t. keeps_then (need text comma t.next) _ _ (λ c.
-      keeps-bind _ _ _ _ (default-up values c.next (r - rows_in t) (s - rows_in t) (less r s (rows_in t) h)) (λ v. keeps_same _))))
+      keeps-bind _ _ _ _ (default-up values c.next (r - rows_in t) (s - rows_in t) (omega arith)) (λ v. keeps_same _))))
       (keeps_same _)
 
   pub run-end-fields-up : (at r s : ℕ) → r ≤ s → Keeps (run_end_fields text type at r) (run_end_fields text type at s)
@@ -150,19 +141,19 @@ module _ (text : List ℕ) (type : ℕ → ℕ → Out Tree) (up : (at r s : ℕ
   unfolding struct_at
   struct-up k at r s h =
       keeps_then (need text lparen at) _ _ (λ p.
-      keeps-bind _ _ _ _ (items-up (struct_item text type) struct-item-up (suc r) (suc s) p.next r s (more_turns r s h) h) (λ fs. keeps_same _))
+      keeps-bind _ _ _ _ (items-up (struct_item text type) struct-item-up (suc r) (suc s) p.next r s (omega arith) h) (λ fs. keeps_same _))
 
   pub union-up : (k at r s : ℕ) → r ≤ s → Keeps (union_at text type k at r) (union_at text type k at s)
   unfolding union_at
   union-up k at r s h =
       keeps_then (need text lparen at) _ _ (λ p. keeps_then (need text union_mode p.next) _ _ (λ m.
-      keeps-bind _ _ _ _ (items-up (union_item text type) union-item-up (suc r) (suc s) m.next r s (more_turns r s h) h) (λ fs. keeps_same _)))
+      keeps-bind _ _ _ _ (items-up (union_item text type) union-item-up (suc r) (suc s) m.next r s (omega arith) h) (λ fs. keeps_same _)))
 
   pub dictionary-up : (k at r s : ℕ) → r ≤ s → Keeps (dictionary_at text type k at r) (dictionary_at text type k at s)
   unfolding dictionary_at
   dictionary-up k at r s h =
       keeps_then (need text lparen at) _ _ (λ p. keeps-bind _ _ _ _ (up p.next r s h) (λ t. keeps_then (need text comma t.next) _ _ (λ c.
-      keeps-bind _ _ _ _ (up c.next (r - rows_in t) (s - rows_in t) (less r s (rows_in t) h)) (λ v. keeps_same _))))
+      keeps-bind _ _ _ _ (up c.next (r - rows_in t) (s - rows_in t) (omega arith)) (λ v. keeps_same _))))
 
   pub map-up : (k at r s : ℕ) → r ≤ s → Keeps (map_at text type k at r) (map_at text type k at s)
   unfolding map_at
@@ -192,7 +183,7 @@ module _ (text : List ℕ) (type : ℕ → ℕ → Out Tree) (up : (at r s : ℕ
   unfolding type_with
   with-up at zero s h = keeps-four _
   with-up at (suc r) zero h = absurd (omega arith)
-  with-up at (suc r) (suc s) h = keeps_then (need text type_word at) _ _ (λ t. shape-up (shape_of (value_of t.kind)) (value_of t.kind) t.next r s (fewer r s h))
+  with-up at (suc r) (suc s) h = keeps_then (need text type_word at) _ _ (λ t. shape-up (shape_of (value_of t.kind)) (value_of t.kind) t.next r s (omega arith))
 
 -- ---- a whole text
 

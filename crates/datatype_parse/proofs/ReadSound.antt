@@ -1,5 +1,5 @@
 -- A tree that was read is sound, so a caller need not check again what it has just read.
---   read-sound   the tree of an accepted text, with 1,024 rows or fewer lent
+--   read_sound   the tree of an accepted text, with 1,024 rows or fewer lent
 --   lent-sound   the rows that the public reader leaves in the lent words
 use mathlib.Core.Path.{◌≡◌, refl, ap, subst, ◌∙◌}
 use mathlib.Core.List.{List}

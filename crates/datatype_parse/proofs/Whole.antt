@@ -15,6 +15,7 @@ use Rattle.tokenizer.specs.Words.{words}
 use Rattle.tokenizer.specs.Token.{Standing, token_at, sort_of, value_of, word_of, word_kind, no_token, until_quote, string_token}
 use Rattle.tokenizer.specs.declared.TokenKind.{TokenKind}
 use Rattle.tokenizer.specs.declared.TokenKind.TheVariants.{DoubleQuotedString, SingleQuotedString}
+use Rattle.tokenizer.proofs.Answered.{handed_on}
 use Rattle.tokenizer.proofs.Basics.{is_false}
 use Rattle.tokenizer.proofs.Marks as Marks
 use Rattle.tokenizer.proofs.Tokens.{token_end}
@@ -160,3 +161,8 @@ module _ (text before after : List ℕ) where
     pub trailing : after ≡ replicate (length before) 0 → over ≡ false → Meant (refuse 16)
     unfolding parse parse_answer parse_rows
     trailing w b = more-ends x over l first e w b
+
+-- what the returns cite
+pub ruleset over_steps = (over-is)
+
+pub ruleset read_steps = (handed_on, read-refused)

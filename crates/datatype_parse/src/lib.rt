@@ -7,11 +7,11 @@ ghost use Rattle.tokenizer.specs.Answer.{answer_of};
 ghost use Rattle.datatype_parse.specs.Parse.{text_over, parse_answer, parse_rows};
 ghost use Rattle.datatype_parse.specs.RowsToLend.{rows_to_lend};
 
-use datatype::clear_words;
 use datatype::rows::MAX_ROWS;
 use tokenizer::Refusal;
 
 // Whether nothing but spaces is left of a text.
+#[tactic(auto, using(crate::proofs::Whole::over_steps))]
 fn text_over(text: &[u8], at: usize) -> bool
     ensures { result ≡ text_over text.now at }
 {
@@ -19,6 +19,7 @@ fn text_over(text: &[u8], at: usize) -> bool
 }
 
 // Reads a type text into lent rows: the row count, or the refusal. A refused text leaves the rows all zeros.
+#[tactic(auto, using(crate::proofs::Whole::read_steps))]
 pub fn parse_data_type(text: &[u8], rows: &mut [u32]) -> Result<usize, Refusal>
     ensures answer { answer_of result ≡ parse_answer text.now rows.old }
     ensures contents { rows.new ≡ parse_rows text.now rows.old }
@@ -28,7 +29,7 @@ pub fn parse_data_type(text: &[u8], rows: &mut [u32]) -> Result<usize, Refusal>
         subtrees::set_first_parents(rows, read.used);
         return Ok(read.used);
     }
-    clear_words(rows);
+    rows.fill(0);
     Err(Refusal::TrailingText)
 }
 

@@ -1,6 +1,6 @@
 -- The parts in which the code counts a row's own bytes are together what `own_length` says.
---   own-length      of one row over its children
---   type-length     of a tree whose rows fit
+--   own_length_lem     of one row over its children
+--   type_length_lem    of a tree whose rows fit
 use Rattle.std.specs.Prelude.{if◌then◌else◌}
 use mathlib.Core.Path.{ap, ◌≡◌, refl}
 use mathlib.Core.Bool.{Bool, true, false, not}
@@ -35,7 +35,7 @@ nullity_length_lem l = go (eqb l.role 2)
     go true = refl
     go false = refl
 
-field_length_lem : (l : Label) → length (field_text (untyped l)) ≡ field_length true l.name l.role
+field_length_lem : (l : Label) → length (field_text (untyped l)) ≡ field_length true l
 unfolding field_text field_length
 field_length_lem l = simp length-append (omega (arith, nullity_length_lem l))
 
@@ -46,7 +46,7 @@ list_field_length l = simp length-append (omega (arith, nullity_length_lem l))
 -- around the types of all children
 abbrev around : Shape → Bool → Bool → List Label → ℕ
 around s q f [] = 0
-around s q f (l ∷ ls) = around_length s q f l.role l.union_id l.name + around s q false ls
+around s q f (l ∷ ls) = around_length s q f l + around s q false ls
 
 struct_more : (l : Label) (ls : List Label) → around struct true false (l ∷ ls) ≡ 2 + length (struct_text (map untyped (l ∷ ls)))
 unfolding struct_text around_length
@@ -70,14 +70,14 @@ run_end_around r v = go (default_names r v)
   where
     go : (b : Bool)
         → length (if b then nullity_text r ++ (bytes ", " ++ (nullity_text v ++ [])) else (field_text (untyped r) ++ (bytes ", " ++ field_text (untyped v))))
-        ≡ comma_length true + field_length (not b) r.name r.role + (comma_length false + field_length (not b) v.name v.role + 0)
+        ≡ comma_length true + field_length (not b) r + (comma_length false + field_length (not b) v + 0)
     go true = unfold field_length in simp length-append (omega (arith, nullity_length_lem r, nullity_length_lem v))
     go false = simp length-append (omega (arith, field_length_lem r, field_length_lem v))
 
 -- ---- one row
 
 shape_around : (s : Shape) (l : Label) (ls : List Label) → T (arity_fits (rules_of s).children (length ls))
-    → length (shape_text s l (map untyped ls)) ≡ behind_length s l.number l.scale l.zone + around s (quotes_names s ls) true ls
+    → length (shape_text s l (map untyped ls)) ≡ behind_length s l + around s (quotes_names s ls) true ls
 unfolding arity_fits rules_of shape_text behind_length quotes_names around_length
 shape_around leaf l [] h = refl
 shape_around leaf l (k ∷ ls) h = absurd h
@@ -112,7 +112,7 @@ shape_around run_end_encoded l (r ∷ v ∷ []) h = simp length-append (omega (a
 shape_around run_end_encoded l (r ∷ v ∷ j ∷ ls) h = absurd h
 
 own_length_lem : (l : Label) (ls : List Label) → l.kind < kinds → T (arity_fits (rules_of (shape_of l.kind)).children (length ls))
-    → own_length l ls ≡ row_length l.kind l.number l.scale l.zone + around (shape_of l.kind) (quotes_names (shape_of l.kind) ls) true ls
+    → own_length l ls ≡ row_length l + around (shape_of l.kind) (quotes_names (shape_of l.kind) ls) true ls
 unfolding own_length type_text row_length
 own_length_lem l ls h a =
     simp length-append (omega (arith, word_length_lem l.kind h, shape_around (shape_of l.kind) l ls a))

@@ -3,7 +3,9 @@ pub mod AsciiLaws
 pub mod StringLaws
 pub mod WordLaws
 pub mod LengthLaws
-pub mod KindRanges
+pub mod KindShapes
+pub mod NodeLaws
 pub mod CleanLaws
 pub mod TreeLaws
 pub mod PrintedLaws
+pub mod Rules

@@ -8,7 +8,6 @@ use Prim.Native.Nat.{ℕ}
 use native.Mathlib.Omega.{arith}
 use lib.ListN.{length}
 use lib.Dec.{T}
-use Rattle.tokenizer.specs.Text.{all}
 use Rattle.tokenizer.specs.Answer.{Out, refused, done, refuse}
 use Rattle.tokenizer.proofs.Basics.{of_true}
 use Rattle.datatype.specs.Tree.{label_of, labels}
@@ -17,10 +16,7 @@ use Rattle.row_table.specs.Sound.{bare, is_sound}
 use Rattle.row_table.proofs.SoundTree.{SoundTree, sound_tree, sound-labels}
 use Rattle.display_length.specs.Display.{display, display_length}
 use Rattle.display_length.specs.PrintedLength.{quoted_ascii, printed_length}
-use Rattle.display_length.specs.Internal.Steps.{is_clean, Clean, length_at}
 use Rattle.display_length.proofs.Length.{display_length_lem}
-use Rattle.display_length.proofs.CleanLaws.{clean-text, clean-names}
-use Rattle.display_length.proofs.TreeLaws.{subtree-room, tree_call, tree-length}
 
 module _ (text names table : List ℕ) where
   pub printed-17 : is_sound text names table ≡ false → refuse 17 ≡ printed_length text names table
@@ -31,18 +27,10 @@ module _ (text names table : List ℕ) where
   unfolding printed_length
   printed-18 e r is f = rw (e, sym is ∙ f)
 
-  pub printed-length : is_sound text names table ≡ true → (r : Bool) → r ≡ quoted_ascii (tree_of text names table) → r ≡ true → (n : ℕ) → n ≡ length_at text names table 0
+  pub printed-length : is_sound text names table ≡ true → (r : Bool) → r ≡ quoted_ascii (tree_of text names table) → r ≡ true → (n : ℕ) → n ≡ display_length (tree_of text names table)
       → done n ≡ printed_length text names table
   unfolding printed_length
-  printed-length e r is f n so = rw (e, sym is ∙ f, so, tree-length text names table (of_true _ e))
-
-  -- what is_clean says of a sound tree's text and names
-  module _ (sound : is_sound text names table ≡ true) (clean : Bool) where
-    pub text-clean : clean ≡ all is_clean text → Clean clean text
-    text-clean c = clean-text clean text (sound_tree text names table (of_true _ sound)).short c
-
-    pub names-clean : Clean clean names
-    names-clean = clean-names clean names (sound_tree text names table (of_true _ sound)).listed
+  printed-length e r is f n so = rw (e, sym is ∙ f, so)
 
   -- ---- for the printer
 
@@ -103,6 +91,3 @@ module _ (text names table : List ℕ) where
       go false ascii e f =
           let d : ◌≡◌ {A = Out ℕ} (refuse n) (refuse 17) = h ∙ means false ascii e f in
           inl (ap number d, e)
-
--- what `printed_length` uses
-pub ruleset answers = (of_true, printed-17, printed-18, printed-length, text-clean, names-clean, tree_call, subtree-room)

@@ -1,27 +1,19 @@
 -- The lengths of double-quoted strings: what the functions of `strings.rt` count.
-use Rattle.std.specs.Prelude.{if◌then◌else◌}
-use mathlib.Core.Path.{◌≡◌, refl, sym, ap, ◌∙◌, subst}
+use Rattle.std.specs.Prelude.{if◌then◌else◌, sum_by}
+use mathlib.Core.Path.{◌≡◌, refl, sym, ◌∙◌, subst}
 use mathlib.Core.Bool.{Bool, true, false, not, ◌&&◌, ◌||◌}
 use mathlib.Core.List.{List, [], ◌∷◌, ◌++◌}
-use Prim.Native.Nat.{ℕ, suc, ◌+◌, ◌*◌, ◌/◌, ◌%◌, ◌≤◌, ◌<◌}
+use Prim.Native.Nat.{ℕ, ◌+◌, ◌*◌, ◌/◌, ◌%◌, ◌≤◌}
 use native.Mathlib.Omega.{arith}
-use lib.ListN.{length, get_or, drop, drop_of_length-le, length-append}
-use lib.Seq.{drop-cons}
+use lib.ListN.{length, length-append}
 use lib.Dec.{T, leb, ltb, eqb, leb→le}
 use borrow.Author.Tests.{le-ltb, eq-eqb, ne_eqb}
-use Rattle.std.specs.Cmp.Lexicographic.{pointwise}
 use Rattle.std.specs.List.{list_any}
+use Rattle.std.proofs.lemmas.List.Sums.{sum_by-cons}
 use Rattle.tokenizer.specs.Text.{bytes, all, same}
 use Rattle.tokenizer.proofs.Basics.{and_l, and_r, of_true}
 use Rattle.display_length.specs.Display.{hex_digit, escape, escaped, quoted, zone_text, list_name_text}
 use Rattle.display_length.specs.Internal.Steps.{is_clean, is_no_mark}
-
--- `==` of bytes
-pub equal_is : (a b : List ℕ) → pointwise eqb a b ≡ same a b
-equal_is [] [] = refl
-equal_is [] (y ∷ b) = refl
-equal_is (x ∷ a) [] = refl
-equal_is (x ∷ a) (y ∷ b) = ap (λ (t : Bool). eqb x y && t) (equal_is a b)
 
 -- ---- one byte between the marks
 
@@ -31,7 +23,7 @@ module _ (c : ℕ) where
   escape_rest h p q d =
       rw (ne_eqb c 34 p, ne_eqb c 92 q, ne_eqb c 0 (λ e. omega arith), ne_eqb c 9 (λ e. omega arith), ne_eqb c 13 (λ e. omega arith), ne_eqb c 10 (λ e. omega arith), le-ltb c 32 h, ne_eqb c 127 d)
 
-  pub escape_few : length (escape c) ≤ 6
+  escape_few : length (escape c) ≤ 6
   unfolding escape
   escape_few = go (eqb c 34) (eqb c 92) (eqb c 0) (eqb c 9) (eqb c 13) (eqb c 10) (ltb c 32 || eqb c 127) (ltb c 16)
     where
@@ -50,28 +42,23 @@ module _ (c : ℕ) where
 
 -- ---- a string
 
-escaped_cons : (c : ℕ) (t : List ℕ) → length (escaped (c ∷ t)) ≡ length (escape c) + length (escaped t)
+-- byte by byte
+escaped_sum : (s : List ℕ) → sum_by (λ c. length (escape c)) s ≡ length (escaped s)
 unfolding escaped
-escaped_cons c t = length-append (escape c) (escaped t)
+escaped_sum [] = refl
+escaped_sum (c ∷ s) =
+    let e = length-append (escape c) (escaped s) in
+    let f = escaped_sum s in
+    let g = sum_by-cons (λ c. length (escape c)) c s in
+    omega arith
 
--- what the loop holds
-pub record EscapedSo (s : List ℕ) (total i : ℕ) : Type 0 where
-  pub few : total ≤ 6 * i
-  pub so : total + length (escaped (drop i s)) ≡ length (escaped s)
-
-pub escaped_end : (s : List ℕ) (i : ℕ) → length s ≤ i → length (escaped (drop i s)) ≡ 0
-unfolding escaped
-escaped_end s i h = ap (λ (l : List ℕ). length (escaped l)) (drop_of_length-le s {i = i} h)
-
-pub escaped_turn : (s : List ℕ) (i : ℕ) → i < length s → length (escaped (drop i s)) ≡ length (escape (get_or s i 0)) + length (escaped (drop (i + 1) s))
-escaped_turn s i h =
-    let n : suc i ≡ i + 1 = omega arith in
-    ap (λ (l : List ℕ). length (escaped l)) (drop-cons s i 0 h) ∙ escaped_cons (get_or s i 0) (drop (suc i) s) ∙ rw n
-
-pub escaped_few : (s : List ℕ) → length (escaped s) ≤ 6 * length s
+escaped_few : (s : List ℕ) → length (escaped s) ≤ 6 * length s
 unfolding escaped
 escaped_few [] = omega arith
 escaped_few (c ∷ s) = let a = escape_few c in let b = escaped_few s in let e = length-append (escape c) (escaped s) in omega arith
+
+pub sum_few : (s : List ℕ) → sum_by (λ c. length (escape c)) s ≤ 6 * length s
+sum_few s = let e = escaped_sum s in let f = escaped_few s in omega arith
 
 differs : (x y : ℕ) → T (not (eqb x y)) → x ≡ y → ⊥
 differs x y t e = subst (λ (b : Bool). T (not b)) (eq-eqb x y e) t
@@ -110,8 +97,8 @@ no_mark (c ∷ s) = go (eqb c 34) (no_mark s)
     go false e = e
 
 module _ (s : List ℕ) where
-  pub quoted-counted : (r : ℕ) → r ≡ length (escaped s) → 2 + r ≡ length (quoted s)
-  quoted-counted r e = let f = quoted_length_lem s in omega arith
+  pub quoted-counted : 2 + sum_by (λ c. length (escape c)) s ≡ length (quoted s)
+  quoted-counted = let e = escaped_sum s in let f = quoted_length_lem s in omega arith
 
   pub quoted-clean : T (all is_clean s) → (p : Bool) → p ≡ list_any (λ c. eqb c 34) s → p ≡ false → 2 + length s ≡ length (quoted s)
   quoted-clean c p is f =
@@ -120,17 +107,13 @@ module _ (s : List ℕ) where
       let h = quoted_length_lem s in
       omega arith
 
-  module _ (item : List ℕ) (word : item ≡ bytes "item") (p : Bool) (is : p ≡ pointwise eqb s item) where
-    same-item : p ≡ same s (bytes "item")
-    same-item = is ∙ rw word (equal_is s (bytes "item"))
-
-    pub list-name-item : p ≡ true → 0 ≡ length (list_name_text s)
-    unfolding list_name_text
-    list-name-item e = rw (← same-item, e)
-
-    pub list-name-other : p ≡ false → 11 + length s ≡ length (list_name_text s)
-    unfolding list_name_text
-    list-name-other e = rw (← same-item, e) (let f = length-append s (bytes "'") in omega arith)
+pub list_name_is : (s : List ℕ) → length (list_name_text s) ≡ (if same s (bytes "item") then 0 else 11 + length s)
+unfolding list_name_text
+list_name_is s = go (same s (bytes "item"))
+  where
+    go : (b : Bool) → length (if b then [] else (bytes ", field: '" ++ (s ++ bytes "'"))) ≡ (if b then 0 else 11 + length s)
+    go true = refl
+    go false = let f = length-append s (bytes "'") in omega arith
 
 pub zone-none : (s : List ℕ) → length s ≡ 0 → 0 ≡ length (zone_text s)
 unfolding zone_text
@@ -148,18 +131,8 @@ zone_few [] = omega arith
 zone_few (c ∷ s) = let e = quoted_few (c ∷ s) in omega arith
 
 pub list_name_few : (s : List ℕ) → length (list_name_text s) ≤ 11 + length s
-unfolding list_name_text
-list_name_few s = go (same s (bytes "item"))
+list_name_few s = rw (list_name_is s) (go (same s (bytes "item")))
   where
-    go : (b : Bool) → length (if b then [] else (bytes ", field: '" ++ (s ++ bytes "'"))) ≤ 11 + length s
+    go : (b : Bool) → (if b then 0 else 11 + length s) ≤ 11 + length s
     go true = omega arith
-    go false = let f = length-append s (bytes "'") in omega arith
-
--- what the functions of `strings.rt` use
-pub ruleset escapes = (escape_few, escaped_end, escaped_turn)
-
-pub ruleset quotes = (quoted-counted, quoted-clean, escaped_few)
-
-pub ruleset zones = (zone-none, zone-some, quoted_few)
-
-pub ruleset list_names = (list-name-item, list-name-other)
+    go false = omega arith

@@ -1,155 +1,108 @@
 -- The walk of `tree.rt`: what is counted, and what is left to count.
 use mathlib.Core.Path.{◌≡◌, refl, sym, ap, ◌∙◌}
-use mathlib.Core.Bool.{Bool, true, false}
+use mathlib.Core.Bool.{Bool, false}
 use mathlib.Core.List.{List}
-use Prim.Native.Nat.{ℕ, suc, ◌+◌, ◌-◌, ◌*◌, ◌≤◌, ◌<◌, max}
+use Prim.Native.Nat.{ℕ, ◌+◌, ◌-◌, ◌*◌, ◌/◌, ◌≤◌, ◌<◌}
 use native.Mathlib.Omega.{arith}
-use lib.ListN.{length, get_or}
+use lib.ListN.{length}
 use lib.Dec.{T, eqb}
 use borrow.Author.Tests.{eq-eqb, ne_eqb}
 use Rattle.datatype.specs.Kind.{Shape, shape_of, is_word}
 use Rattle.datatype.proofs.ShapeLaws.{word_leaf}
-use Rattle.datatype.specs.Tree.{Forest, ∅, node, count, roots, depth, Label, label_of, labels}
+use Rattle.datatype.specs.Tree.{Forest, ∅, node, roots, depth, label_of, labels}
 use Rattle.datatype.specs.Table.{row_words, tree_of, rows_at}
-use Rattle.subtrees.specs.Internal.Run.{row_at, forest_at, Nests}
+use Rattle.subtrees.specs.Internal.Run.{row_at, forest_at}
 use Rattle.row_table.specs.Sound.{bare, is_sound}
-use Rattle.subtrees.proofs.Runs.{Turn, turn, forest_none}
-use Rattle.row_table.proofs.SoundTree.{SoundTree, sound_tree, sound-count, sound-nests, sound-forest, sound-labels}
-use Rattle.row_table.proofs.Walks.{labels-turn}
+use Rattle.subtrees.proofs.Runs.{forest_none}
+use Rattle.row_table.proofs.SoundTree.{SoundTree, sound_tree, sound-labels}
+use Rattle.display_length.specs.declared.nodes.Node.{Node}
+use Rattle.display_length.specs.declared.nodes.Nodes.{Nodes}
 use Rattle.display_length.specs.Display.{display_length}
 use Rattle.display_length.specs.PrintedLength.{quotes_names}
-use Rattle.display_length.specs.Internal.Steps.{Subtree, own_at, label_at, kids_at, word_length, behind_length, row_length, around_length, children_length, type_length, length_at}
+use Rattle.display_length.specs.Internal.Steps.{word_length, behind_length, row_length, around_length, children_length, type_length, length_at}
+use Rattle.display_length.specs.Internal.Nodes.{label_in, children_in, levels_below, length_in, rows_in, labels_in, IsFirst}
 use Rattle.display_length.proofs.LengthLaws.{type_length_lem}
-
--- ---- the rows of a subtree
-
-module _ (table : List ℕ) (level i : ℕ) (w : Subtree table level i) where
-  pub subtree-room : row_words * (i + 1) ≤ length table
-  subtree-room = let a = w.some-rows in let r = w.room in omega arith
+use Rattle.display_length.proofs.NodeLaws.{none-left, few_rows, all_forest, all_turn}
 
 -- ---- the children's lengths
 
-module _ (text names table : List ℕ) where
-  -- the trees of the rows from j to end
-  abbrev run : ℕ → ℕ → Forest Label
-  run j end = labels text names (forest_at table j (end - j))
+-- how many rows a node is
+abbrev size : Node → ℕ
+size n = rows_at n.whole.now.tree.rows.now n.at
 
-  -- around child j
-  abbrev around_at : Shape → Bool → Bool → ℕ → ℕ
-  around_at s q f j = around_length s q f (label_at text names table j).role (label_at text names table j).union_id (label_at text names table j).name
+-- what the loop holds: the bytes counted and the rest are the whole
+pub record Counting (s : Shape) (q : Bool) (level : ℕ) (n : Node) (total : ℕ) (left : Nodes) : Type 0 where
+  pub upto : left.end ≡ n.at + size n
+  pub few : left.end ≤ 1024
+  pub behind : n.at + 1 ≤ left.start
+  pub flat : depth (rows_in left) < level
+  pub most : total + 100000 ≤ 200000 * (left.start - n.at)
+  pub so : total + children_length s q (eqb left.start (n.at + 1)) (labels_in left) ≡ length_in n
 
-  pub around_counted : (s : Shape) (q f : Bool) (j role id : ℕ) (name : List ℕ) → role ≡ (label_at text names table j).role → id ≡ (label_at text names table j).union_id
-      → name ≡ (label_at text names table j).name → (r : ℕ) → r ≡ around_length s q f role id name → r ≡ around_at s q f j
-  around_counted s q f j role id name a b c r e = e ∙ rw (a, b, c)
+module _ (s : Shape) (q : Bool) (level : ℕ) (n : Node) (total : ℕ) where
+  pub counting-start : (kids : Nodes) → labels_in kids ≡ children_in n → depth (rows_in kids) ≡ levels_below n → kids.start ≡ n.at + 1 → kids.end ≡ n.at + size n
+      → levels_below n < level → s ≡ shape_of (label_in n).kind → q ≡ quotes_names s (roots (labels_in kids)) → total ≡ row_length (label_in n) → total ≤ 100000 → Counting s q level n total kids
+  counting-start kids ls ds st en flat sh quotes own l =
+      let f = few_rows n.whole.now.tree.text.now n.whole.now.tree.names.now n.whole.now.tree.rows.now n.whole.now.sound in
+      let r = n.nests.room in
+      let o = n.some_rows in
+      record {
+        upto = en;
+        few = omega arith;
+        behind = omega arith;
+        flat = omega arith;
+        most = omega arith;
+        so = rw (own, quotes, sh, ls, st, eq-eqb (n.at + 1) (n.at + 1) refl) (unfold length_at type_length in refl);
+      }
 
-  module _ (s : Shape) (q f : Bool) (j end : ℕ) where
-    -- the first tree of a run, and the rest
-    run-turn : Turn table j end → children_length s q f (run j end) ≡ around_at s q f j + length_at text names table j + children_length s q false (run (j + rows_at table j) end)
-    unfolding children_length length_at type_length label_at kids_at
-    run-turn t = ap (λ (x : Forest Label). children_length s q f x) (labels-turn text names table j end t)
+  module _ (left : Nodes) (v : Counting s q level n total left) where
+    -- all children are counted
+    pub counting-end : left.start ≡ left.end → total ≡ length_in n
+    unfolding children_length
+    counting-end e = let z : total + children_length s q (eqb left.start (n.at + 1)) ∅ ≡ length_in n = rw (none-left left e) at v.so in omega arith
 
-    run_none : end ≤ j → children_length s q f (run j end) ≡ 0
-    unfolding children_length labels
-    run_none h = let z : end - j ≡ 0 = omega arith in rw (z, forest_none table j)
+    -- a child and what stands around its type are counted
+    module _ (child : Node) (next : Nodes) (f : IsFirst left child next) (a : ℕ) (l : a ≤ 100000) (b : ℕ) (m : b + 100000 ≤ 200000 * size child) where
+      pub counting-next : (first : Bool) → first ≡ eqb child.at (n.at + 1) → a ≡ around_length s q first (label_in child) → b ≡ length_in child → Counting s q level n (total + a + b) next
+      unfolding children_length length_at type_length
+      counting-next first is x y =
+          let o = child.some_rows in
+          let u = v.upto in
+          let k = v.few in
+          let h = v.behind in
+          let c = v.most in
+          let d = f.levels in
+          let g = v.flat in
+          let t = f.at in
+          let r = f.rows in
+          let e = f.end in
+          record {
+            upto = omega arith;
+            few = omega arith;
+            behind = omega arith;
+            flat = omega arith;
+            most = omega arith;
+            so = rw (ne_eqb next.start (n.at + 1) (λ z. omega arith)) (omega (arith, whole));
+          }
+        where
+          here : children_length s q (eqb left.start (n.at + 1)) (labels_in left) ≡ a + b + children_length s q false (labels_in next)
+          here = rw (f.labels, x, y, is, f.at)
 
-  module _ (s : Shape) (q : Bool) (level i end : ℕ) where
-    -- what the loop holds at row j: the bytes counted and the rest are the whole
-    pub record Counting (j total : ℕ) : Type 0 where
-      pub upto : j ≤ end
-      pub few : end ≤ 1024
-      pub behind : i + 1 ≤ j
-      pub nests : Nests table j (end - j)
-      pub flat : depth (forest_at table j (end - j)) < level
-      pub most : total + 100000 ≤ 200000 * (j - i)
-      pub so : total + children_length s q (eqb j (i + 1)) (run j end) ≡ length_at text names table i
+          whole : total + (a + b + children_length s q false (labels_in next)) ≡ length_in n
+          whole = rw here at v.so
 
-    pub counting-start : (size kind : ℕ) → size ≡ rows_at table i → end ≡ i + size → Subtree table level i → kind ≡ get_or table (row_words * i + 0) 0 → s ≡ shape_of kind
-        → q ≡ quotes_names s (roots (run (i + 1) end)) → (total : ℕ)
-        → total ≡ own_at text table i
-        → total ≤ 100000 → Counting (i + 1) total
-    counting-start size kind is e w k sh quotes total own l =
-        let r = w.some-rows in
-        let f = w.few in
-        let e' : end ≡ i + rows_at table i = e ∙ ap (λ (n : ℕ). i + n) is in
-        record {
-          upto = omega arith;
-          few = omega arith;
-          behind = omega arith;
-          nests = rw e' w.nests;
-          flat = rw e' w.flat;
-          most = omega arith;
-          so = rw (eq-eqb (i + 1) (i + 1) refl) (whole e');
-        }
-      where
-        whole : end ≡ i + rows_at table i → total + children_length s q true (run (i + 1) end) ≡ length_at text names table i
-        whole e' = rw (own, quotes, sh, k, e') (unfold own_at length_at type_length label_at kids_at label_of row_at in refl)
+-- a node with nothing below it
+module _ (n : Node) (one : size n ≡ 1) (r : ℕ) where
+  pub single_length : r ≡ row_length (label_in n) → r ≡ length_in n
+  unfolding length_at type_length children_length labels
+  single_length e =
+      let z : n.at + size n - (n.at + 1) ≡ 0 = omega arith in
+      e ∙ rw (z, forest_none n.whole.now.tree.rows.now (n.at + 1)) (omega arith)
 
-    module _ (j total : ℕ) (v : Counting j total) where
-      -- all children are counted
-      pub counting-end : end ≤ j → total ≡ length_at text names table i
-      counting-end h = let z = run_none s q (eqb j (i + 1)) j end h in let e = v.so in omega arith
-
-      module _ (h : j < end) where
-        pub counting-turn : Turn table j end
-        counting-turn = turn table j end v.nests h
-
-        pub counting-size : (size : ℕ) → size ≡ rows_at table j → j + size ≤ 1024
-        counting-size size is = let w = counting-turn.within in let k = v.few in omega arith
-
-        levels-here : Turn table j end
-            → depth (forest_at table j (end - j)) ≡ max (suc (depth (forest_at table (j + 1) (j + rows_at table j - (j + 1))))) (depth (forest_at table (j + rows_at table j) (end - (j + rows_at table j))))
-        levels-here t = rw t.is
-
-        pub counting-call : (level - 1 < level) × Subtree table (level - 1) j
-        counting-call =
-            let t = counting-turn in
-            let d = levels-here t in
-            let f = v.flat in
-            let r = v.nests.room in
-            let w = t.within in
-            let k = v.few in
-            (omega arith, record { some-rows = t.some-rows; room = omega arith; nests = t.kids; few = omega arith; flat = omega arith })
-
-        module _ (f : Bool) (first : f ≡ eqb j (i + 1)) (a : ℕ) (l : a ≤ 100000) (b : ℕ) (n : b + 100000 ≤ 200000 * rows_at table j) where
-          pub counting-sum : total + a + b ≤ 410000000
-          counting-sum = let m = v.most in let k = v.few in let w = counting-turn.within in omega arith
-
-          pub counting-again : (size : ℕ) → size ≡ rows_at table j → a ≡ around_at s q f j → b ≡ length_at text names table j → Counting (j + size) (total + a + b)
-          counting-again size is x y = rw is (go counting-turn)
-            where
-              go : Turn table j end → Counting (j + rows_at table j) (total + a + b)
-              go t =
-                  let d = levels-here t in
-                  let fl = v.flat in
-                  let r = t.some-rows in
-                  let w = t.within in
-                  let c = v.behind in
-                  let m = v.most in
-                  let o = v.so in
-                  let later : eqb (j + rows_at table j) (i + 1) ≡ false = ne_eqb (j + rows_at table j) (i + 1) (λ z. omega arith) in
-                  let here : children_length s q (eqb j (i + 1)) (run j end) ≡ around_at s q f j + length_at text names table j + children_length s q false (run (j + rows_at table j) end) = rw (← first) (run-turn s q f j end t) in
-                  record {
-                    upto = w;
-                    few = v.few;
-                    behind = omega arith;
-                    nests = t.rest;
-                    flat = omega arith;
-                    most = omega arith;
-                    so = rw later (omega arith);
-                  }
-
--- a row with nothing below it
-module _ (table : List ℕ) (i : ℕ) (one : rows_at table i ≡ 1) (r : ℕ) where
-  pub single_length : (text names : List ℕ) → r ≡ own_at text table i → r ≡ length_at text names table i
-  unfolding own_at length_at type_length children_length kids_at label_at label_of row_at labels
-  single_length text names e =
-      let z : i + rows_at table i - (i + 1) ≡ 0 = omega arith in
-      e ∙ rw (z, forest_none table (i + 1)) (omega arith)
-
--- a row that is written by its word alone
-pub single_word : (text names table : List ℕ) (i kind : ℕ) → rows_at table i ≡ 1 → kind ≡ get_or table (row_words * i + 0) 0 → T (is_word kind) → (r : ℕ) → r ≡ word_length kind → r ≡ length_at text names table i
-unfolding row_length own_at behind_length
-single_word text names table i kind one so w r e = single_length table i one r text names (e ∙ rw (← so, word_leaf kind w) (omega arith))
+  -- one that is written by its word alone
+  pub single_word : (kind : ℕ) → kind ≡ (label_in n).kind → T (is_word kind) → r ≡ word_length kind → r ≡ length_in n
+  unfolding row_length behind_length
+  single_word kind so w e = single_length (e ∙ rw (← so, word_leaf kind w) (omega arith))
 
 -- ---- the whole tree
 
@@ -162,23 +115,11 @@ kids_of_lem ∅ = ∅
 kids_of_lem (node r kids next) = kids
 
 module _ (text names table : List ℕ) (sound : T (is_sound text names table)) where
-  tree : SoundTree text names table
+  abbrev tree : SoundTree text names table
   tree = sound_tree text names table sound
 
-  rows : ℕ
-  rows = suc (count tree.kids)
-
-  first-turn : Turn table 0 rows
-  unfolding rows
-  first-turn =
-      let e : rows - 0 ≡ rows = omega arith in
-      turn table 0 rows (rw e (sound-nests text names table tree)) (omega arith)
-
-  same-tree : node (row_at table 0) (forest_at table (0 + 1) (0 + rows_at table 0 - (0 + 1))) (forest_at table (0 + rows_at table 0) (rows - (0 + rows_at table 0))) ≡ node tree.root tree.kids ∅
-  unfolding rows
-  same-tree =
-      let e : rows - 0 ≡ rows = omega arith in
-      sym first-turn.is ∙ ap (λ (n : ℕ). forest_at table 0 n) e ∙ sound-forest text names table tree
+  same-tree : node (row_at table 0) (forest_at table (0 + 1) (0 + rows_at table 0 - (0 + 1))) (forest_at table (0 + rows_at table 0) (length table / row_words - (0 + rows_at table 0))) ≡ node tree.root tree.kids ∅
+  same-tree = sym (all_turn text names table sound).is ∙ all_forest text names table sound
 
   root_is : row_at table 0 ≡ tree.root
   root_is = ap (root_of (row_at table 0)) same-tree
@@ -186,19 +127,11 @@ module _ (text names table : List ℕ) (sound : T (is_sound text names table)) w
   kids-are : forest_at table (0 + 1) (0 + rows_at table 0 - (0 + 1)) ≡ tree.kids
   kids-are = ap kids_of_lem same-tree
 
-  pub tree_call : Subtree table 64 0
-  unfolding rows
-  tree_call =
-      let t = first-turn in
-      let c = sound-count text names table tree in
-      let w = t.within in
-      let d = ap depth kids-are in
-      let l = tree.levels in
-      let k = tree.rows in
-      record { some-rows = t.some-rows; room = omega arith; nests = t.kids; few = omega arith; flat = omega arith }
+  pub root_levels : depth (forest_at table (0 + 1) (0 + rows_at table 0 - (0 + 1))) < 64
+  root_levels = let l = tree.levels in rw kids-are (omega arith)
 
   pub tree-length : length_at text names table 0 ≡ display_length (tree_of text names table)
-  unfolding length_at label_at kids_at labels
+  unfolding length_at labels
   tree-length =
       rw (root_is, kids-are, sound-labels text names table tree)
       (type_length_lem bare (label_of text names tree.root) (labels text names tree.kids) tree.fits)

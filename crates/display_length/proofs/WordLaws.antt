@@ -1,6 +1,8 @@
--- The lengths of words that stand for numbers: what the arms of `words.rt` count.
+-- The words that numbers stand for: what `kind_word` answers for a number that is no kind, and how long the words of
+-- `words.rt` and the marks of `around.rt` can be.
 use mathlib.Core.Path.{◌≡◌, refl, sym}
-use mathlib.Core.Bool.{◌||◌}
+use Rattle.std.specs.Prelude.{if◌then◌else◌}
+use mathlib.Core.Bool.{Bool, true, false, ◌||◌}
 use mathlib.Core.List.{List, [], ◌∷◌}
 use Prim.Native.Nat.{ℕ, zero, suc, ◌+◌, ◌-◌, ◌≤◌, ◌<◌}
 use native.Mathlib.Decide.{dec_lt}
@@ -16,7 +18,7 @@ use Rattle.datatype.proofs.ShapeLaws.{else_value}
 use Rattle.output.specs.Digits.{digits}
 use Rattle.output.proofs.DigitLaws.{digits_at_most}
 use Rattle.display_length.specs.Display.{kind_word, kind_text, unit_text, interval_text, mode_text, sorted_text, scale_text}
-use Rattle.display_length.specs.Internal.Steps.{word_length}
+use Rattle.display_length.specs.Internal.Steps.{word_length, comma_length, nullity_length}
 
 -- ---- kinds
 
@@ -106,3 +108,17 @@ module _ (s : ℕ) where
         | yes l ↦ (let d = digits_few (128 - s) (omega arith) in let e = scale-negative l _ refl in omega arith)
         | no l ↦ (let d = digits_few (s - 128) (omega arith) in let e = scale-positive (omega arith) _ refl in omega arith)
       ]
+
+-- ---- marks around a child's type
+
+pub comma_few : (first : Bool) → comma_length first ≤ 2
+comma_few true = omega arith
+comma_few false = omega arith
+
+pub nullity_few : (role : ℕ) → nullity_length role ≤ 9
+unfolding nullity_length
+nullity_few role = go (eqb role 2)
+  where
+    go : (b : Bool) → (if b then 9 else 0) ≤ 9
+    go true = omega arith
+    go false = omega arith

@@ -6,8 +6,9 @@ ghost use Rattle.std.specs.Prelude.{◌≡◌};
 ghost use Rattle.tokenizer.specs.Answer.{answer_of};
 ghost use Rattle.display_length.specs.PrintedLength.{printed_length};
 
-use crate::rows::{Row, Tree};
+use crate::nodes::SoundTree;
 use crate::strings::is_clean;
+use datatype::Tree;
 use datatype::rows::MAX_LEVELS;
 use row_table::is_sound;
 use tokenizer::Refusal;
@@ -15,31 +16,29 @@ use tokenizer::Refusal;
 mod around;
 mod ascii;
 mod names;
+mod nodes;
 mod own;
-mod rows;
 mod strings;
 mod tree;
 mod words;
 
-pub use words::kind_word;
+pub use names::are_default_names;
+pub use words::{interval_word, kind_word, mode_word, sorted_word, unit_word};
 
 // How many bytes a tree prints.
-#[tactic(auto, using(crate::proofs::PrintedLaws::answers))]
-pub fn printed_length<'a>(text: &'a [u8], names: &'a [u8], rows: &[u32]) -> Result<usize, Refusal>
-    ensures { answer_of result ≡ printed_length text.now names.now rows.now }
+#[tactic(auto, using(crate::proofs::Rules::printed_steps))]
+pub fn printed_length(tree: Tree<'_>) -> Result<usize, Refusal>
+    ensures { answer_of result ≡ printed_length tree.entry.text.now tree.entry.names.now tree.entry.rows.now }
 {
-    if !is_sound(text, names, rows) {
+    if !is_sound(tree) {
         return Err(Refusal::NotSound);
     }
-    let tree = Tree {
-        text,
-        names,
-        rows,
-        clean: is_clean(text),
+    let whole = SoundTree {
+        tree,
+        clean: is_clean(tree.text),
     };
-    if !tree.is_ascii() {
+    if !whole.is_ascii() {
         return Err(Refusal::NotAscii);
     }
-    let root = Row { tree: &tree, at: 0 };
-    Ok(root.type_length(MAX_LEVELS))
+    Ok(whole.root().type_length(MAX_LEVELS))
 }

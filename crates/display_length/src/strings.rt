@@ -1,12 +1,11 @@
 // Strings: whether they are clean, and the lengths of those in double quotes, which are written as Rust's `{:?}` writes
 // them.
-ghost use Rattle.std.specs.Prelude.{◌≡◌, ◌≤◌, length};
+ghost use Rattle.std.specs.Prelude.{◌≡◌, ◌<◌, ◌^◌, length, sum_by};
 ghost use Rattle.tokenizer.specs.Text.{all};
-ghost use Rattle.datatype.specs.Limits.{max_text};
-ghost use Rattle.display_length.specs.Display.{escape, escaped, quoted, zone_text, list_name_text};
+ghost use Rattle.display_length.specs.Display.{escape, quoted, zone_text, list_name_text};
 ghost use Rattle.display_length.specs.Internal.Steps.{is_clean, clean_weight, Clean};
 
-use datatype::Field;
+use datatype::{Field, equal_bytes};
 
 // A byte's weight: at most 126 where it is clean.
 fn clean_weight(c: u8) -> u8
@@ -15,8 +14,10 @@ fn clean_weight(c: u8) -> u8
     if c < 32 || c == b'\\' { 255 } else { c }
 }
 
-// Whether all bytes are printable ASCII but for the backslash: every byte is looked at, with no early exit, so that
-// many are compared at once.
+// Whether all bytes are printable ASCII but for the backslash: every byte is looked at, with no early exit, so that many
+// are compared at once. By `fold` they are compared one by one, and the length of 700 fields takes a third more
+// instructions.
+#[tactic(auto, using(crate::proofs::Rules::is_clean_steps))]
 pub(crate) fn is_clean(s: &[u8]) -> bool
     ensures { result ≡ all is_clean s.now }
 {
@@ -41,16 +42,11 @@ fn escape_length(c: u8) -> usize
 }
 
 // How long a string is between the marks, byte by byte.
-#[tactic(auto, using(crate::proofs::StringLaws::escapes))]
 fn escaped_length(s: &[u8]) -> usize
-    requires { length s.now ≤ max_text }
-    ensures { result ≡ length (escaped s.now) }
+    requires { sum_by (λ c. length (escape c)) s.now < 2 ^ 64 }
+    ensures { result ≡ sum_by (λ c. length (escape c)) s.now }
 {
-    let mut total = 0;
-    for c in s {
-        total += escape_length(*c);
-    }
-    total
+    s.iter().map(|c| escape_length(*c)).sum()
 }
 
 // A part of the text or of the name list, and whether it is known to be clean.
@@ -63,7 +59,7 @@ pub(crate) struct Part<'a> {
 
 impl<'a> Part<'a> {
     // How long it is in double quotes. A clean one without a double quote is written as it is.
-    #[tactic(auto, using(crate::proofs::StringLaws::quotes))]
+    #[tactic(auto, using(crate::proofs::Rules::quoted_steps))]
     pub(crate) fn quoted_length(&self) -> usize
         ensures { result ≡ length (quoted self.now.bytes.now) }
     {
@@ -74,7 +70,7 @@ impl<'a> Part<'a> {
     }
 
     // How long it is as a zone behind a unit: an empty one is none.
-    #[tactic(auto, using(crate::proofs::StringLaws::zones))]
+    #[tactic(auto, using(crate::proofs::Rules::zone_steps))]
     pub(crate) fn zone_length(&self) -> usize
         ensures { result ≡ length (zone_text self.now.bytes.now) }
     {
@@ -85,11 +81,11 @@ impl<'a> Part<'a> {
     }
 
     // How long it is as a list's name, which prints raw and is left out if it is `item`.
-    #[tactic(auto, using(crate::proofs::StringLaws::list_names))]
+    #[tactic(auto, using(crate::proofs::StringLaws::list_name_is))]
     pub(crate) fn list_name_length(&self) -> usize
         ensures { result ≡ length (list_name_text self.now.bytes.now) }
     {
-        if self.bytes == Field::LIST_FIELD_DEFAULT_NAME.as_slice() {
+        if equal_bytes(self.bytes, &Field::LIST_FIELD_DEFAULT_NAME) {
             return 0;
         }
         b", field: ''".len() + self.bytes.len()

@@ -1,4 +1,5 @@
-// The lengths of words that stand for numbers: kinds, units, modes, scales.
+// The words that numbers stand for, of kinds, units and modes, and how long a scale is. They are numbers, since C lends
+// the rows that they stand in.
 ghost use Rattle.std.specs.Prelude.{◌≡◌, length};
 ghost use Rattle.display_length.specs.Display.{kind_text, unit_text, interval_text, mode_text, sorted_text, scale_text};
 ghost use Rattle.display_length.specs.Internal.Steps.{word_length};
@@ -7,7 +8,7 @@ use datatype::kind;
 use output::digits_length;
 
 // A kind's word; what is no kind has none.
-#[tactic(auto, unfolding(crate::specs::Display::kind_text, crate::specs::Display::kind_word, tokenizer::specs::Words::words))]
+#[tactic(auto, using(crate::proofs::WordLaws::word_rest_text), unfolding(crate::specs::Display::kind_text, crate::specs::Display::kind_word, tokenizer::specs::Words::words))]
 pub fn kind_word(kind: u32) -> &'static [u8]
     ensures { result.now ≡ kind_text kind }
 {
@@ -65,50 +66,50 @@ pub(crate) fn word_length(kind: u32) -> usize
     kind_word(kind).len()
 }
 
-// How long a time unit is: s, ms, µs or ns.
+// A time unit's word; a number above 2 is ns.
 #[tactic(auto, unfolding(crate::specs::Display::unit_text))]
-pub(crate) fn unit_length(unit: u32) -> usize
-    ensures { result ≡ length (unit_text unit) }
+pub fn unit_word(unit: u32) -> &'static [u8]
+    ensures { result.now ≡ unit_text unit }
 {
     match unit {
-        0 => b"s".len(),
-        1 => b"ms".len(),
-        2 => b"\xC2\xB5s".len(),
-        _ => b"ns".len(),
+        0 => b"s",
+        1 => b"ms",
+        2 => b"\xC2\xB5s",
+        _ => b"ns",
     }
 }
 
-// How long an interval's unit is: YearMonth, DayTime or MonthDayNano.
+// An interval unit's word; a number above 1 is MonthDayNano.
 #[tactic(auto, unfolding(crate::specs::Display::interval_text))]
-pub(crate) fn interval_length(unit: u32) -> usize
-    ensures { result ≡ length (interval_text unit) }
+pub fn interval_word(unit: u32) -> &'static [u8]
+    ensures { result.now ≡ interval_text unit }
 {
     match unit {
-        0 => b"YearMonth".len(),
-        1 => b"DayTime".len(),
-        _ => b"MonthDayNano".len(),
+        0 => b"YearMonth",
+        1 => b"DayTime",
+        _ => b"MonthDayNano",
     }
 }
 
-// How long a union's mode is: Sparse or Dense.
+// The word of a union's mode; a number above 0 is Dense.
 #[tactic(auto, unfolding(crate::specs::Display::mode_text))]
-pub(crate) fn mode_length(mode: u32) -> usize
-    ensures { result ≡ length (mode_text mode) }
+pub fn mode_word(mode: u32) -> &'static [u8]
+    ensures { result.now ≡ mode_text mode }
 {
     match mode {
-        0 => b"Sparse".len(),
-        _ => b"Dense".len(),
+        0 => b"Sparse",
+        _ => b"Dense",
     }
 }
 
-// How long unsorted or sorted is.
+// The word for whether a map's keys are sorted; a number above 0 is sorted.
 #[tactic(auto, unfolding(crate::specs::Display::sorted_text))]
-pub(crate) fn sorted_length(sorted: u32) -> usize
-    ensures { result ≡ length (sorted_text sorted) }
+pub fn sorted_word(sorted: u32) -> &'static [u8]
+    ensures { result.now ≡ sorted_text sorted }
 {
     match sorted {
-        0 => b"unsorted".len(),
-        _ => b"sorted".len(),
+        0 => b"unsorted",
+        _ => b"sorted",
     }
 }
 

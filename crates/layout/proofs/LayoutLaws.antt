@@ -1,7 +1,7 @@
 -- The layout verdict: the scan over the rows finds the first row of the tree that breaks a rule.
 use Rattle.std.specs.Prelude.{Option, Some, None, if◌then◌else◌}
 use mathlib.Core.Path.{◌≡◌, refl, sym, ap, ◌∙◌, subst}
-use mathlib.Core.Bool.{Bool, true, false}
+use mathlib.Core.Bool.{Bool, true, false, ◌&&◌}
 use mathlib.Core.List.{List, [], ◌∷◌, ◌++◌, append_assoc, append-nil}
 use Prim.Native.Nat.{ℕ, zero, suc, ◌+◌, ◌/◌, ◌≤◌, ◌<◌}
 use native.Mathlib.Omega.{arith}
@@ -9,11 +9,11 @@ use lib.ListN.{length, take, drop, get_or}
 use lib.Seq.{drop-cons}
 use Rattle.std.proofs.lemmas.List.{drop_all}
 use Rattle.std.specs.Simd.{first_chunks}
-use lib.Dec.{T, ltb, eqb}
-use borrow.Author.Tests.{ne_eqb, ltb-true, ltb-false}
+use lib.Dec.{T, leb, eqb}
+use Rattle.std.proofs.lemmas.Bool.Decides.{nat_tests}
 use Rattle.tokenizer.specs.Answer.{done, refuse}
 use Rattle.tokenizer.proofs.Basics.{of_true}
-use Rattle.datatype.specs.Kind.{Shape, leaf, timestamp, time, interval, fixed, list, fixed_list, struct, union, dictionary, decimal, mapping, run_end_encoded, kinds, shape_of}
+use Rattle.datatype.specs.Kind.{Shape, leaf, timestamp, time, interval, fixed, list, fixed_list, struct, union, dictionary, decimal, mapping, run_end_encoded, shape_of}
 use Rattle.datatype.specs.Tree.{Forest, ∅, node, count, roots, Row, label_of, labels}
 use Rattle.datatype.specs.Table.{row_words, words_of}
 use Rattle.row_table.specs.Sound.{Standing, bare, arity_fits, rules_of, rows_fit, is_sound}
@@ -21,21 +21,30 @@ use Rattle.subtrees.specs.Equal.{first_rows, whole_rows}
 use Rattle.layout.specs.Layout.{Asked, anything, key, run_end, kind_allowed, asked_of_first, first, broken_row, verdict_of}
 use Rattle.layout.specs.Internal.Scan.{scan}
 use Rattle.datatype.proofs.Table.{table_view}
-use Rattle.datatype.proofs.Tests.{all_below, below_at}
-use Rattle.datatype.proofs.KindLaws.{past_kinds}
+use Rattle.row_table.proofs.RuleLaws.{by_number}
 use Rattle.row_table.proofs.SoundTree.{rows_fit_lem, SoundTree, sound_tree, sound-labels}
 use Rattle.subtrees.proofs.RowList.{rows_of, whole_rows_lem, count_labels}
 
 -- ---- what a row is asked
 
+-- what each of them allows
+module _ (k : ℕ) where
+  pub allowed-1 : true ≡ kind_allowed anything k
+  unfolding kind_allowed
+  allowed-1 = refl
+
+  pub allowed-2 : (leb 2 k && leb k 9) ≡ kind_allowed key k
+  unfolding kind_allowed
+  allowed-2 = refl
+
+  pub allowed-3 : (leb 3 k && leb k 5) ≡ kind_allowed run_end k
+  unfolding kind_allowed
+  allowed-3 = refl
+
 asked_number : Asked → ℕ
 asked_number anything = 0
 asked_number key = 1
 asked_number run_end = 2
-
--- what is asked, by the kind's number
-abbrev asked_at : ℕ → Asked
-asked_at k = if eqb k 34 then key else (if eqb k 40 then run_end else anything)
 
 same_asked : (a b : Asked) → T (eqb (asked_number a) (asked_number b)) → a ≡ b
 unfolding asked_number
@@ -49,22 +58,13 @@ same_asked run_end anything t = absurd t
 same_asked run_end key t = absurd t
 same_asked run_end run_end t = refl
 
-all_asked : T (all_below kinds (λ k. eqb (asked_number (asked_of_first (shape_of k))) (asked_number (asked_at k))))
+-- what is asked, by the kind's number
+abbrev asked_at : ℕ → Asked
+asked_at k = if eqb k 34 then key else (if eqb k 40 then run_end else anything)
+
+pub asked_by : (k : ℕ) → asked_of_first (shape_of k) ≡ asked_at k
 unfolding asked_number asked_of_first shape_of
-all_asked = tt
-
-leaf_asks : asked_of_first leaf ≡ anything
-unfolding asked_of_first
-leaf_asks = refl
-
-pub asked_by : (k : ℕ) → asked_of_first (shape_of k) ≡ (if eqb k 34 then key else (if eqb k 40 then run_end else anything))
-asked_by k = go (ltb k kinds) refl
-  where
-    go : (t : Bool) → ltb k kinds ≡ t → asked_of_first (shape_of k) ≡ asked_at k
-    go true e = same_asked (asked_of_first (shape_of k)) (asked_at k) (below_at kinds (λ i. eqb (asked_number (asked_of_first (shape_of i))) (asked_number (asked_at i))) all_asked k (ltb-true k kinds e))
-    go false e =
-        let h = ltb-false k kinds e in
-        ap asked_of_first (past_kinds k h) ∙ leaf_asks ∙ sym (rw (ne_eqb k 34 (λ e. omega arith), ne_eqb k 40 (λ e. omega arith)))
+asked_by k = by_number (λ a b. eqb (asked_number a) (asked_number b)) same_asked asked_of_first asked_at tt (λ k h. grind (arith, nat_tests)) k
 
 -- ---- the loop over the rows
 

@@ -9,6 +9,7 @@ ghost use Rattle.subtrees.specs.Equal.{whole_rows};
 ghost use Rattle.layout.specs.Layout.{anything, kind_allowed, asked_of_first, verdict_of};
 ghost use Rattle.layout.specs.Internal.Scan.{asked_of, scan};
 
+use datatype::Tree;
 use datatype::kind::{DICTIONARY, INT8, INT16, INT64, RUN_END_ENCODED, UINT64};
 use datatype::rows::{KIND, ROW_WORDS};
 use row_table::is_sound;
@@ -67,11 +68,11 @@ fn broken_row(rows: &[u32]) -> Option<usize>
 // The layout verdict of a sound tree: the first row that breaks a rule, none where all is well; refusal 17 where the
 // tree is not sound.
 #[tactic(auto, using(crate::proofs::LayoutLaws::verdicts))]
-pub fn verdict_of(text: &[u8], names: &[u8], rows: &[u32]) -> Result<Option<usize>, Refusal>
-    ensures { answer_of result ≡ verdict_of text.now names.now rows.now }
+pub fn verdict_of(tree: Tree<'_>) -> Result<Option<usize>, Refusal>
+    ensures { answer_of result ≡ verdict_of tree.entry.text.now tree.entry.names.now tree.entry.rows.now }
 {
-    if is_sound(text, names, rows) {
-        return Ok(broken_row(rows));
+    if is_sound(tree) {
+        return Ok(broken_row(tree.rows));
     }
     Err(Refusal::NotSound)
 }

@@ -68,10 +68,6 @@ digits_at_most (suc k) n h =
 pub one_more_lem : (n m : ℕ) → 10 ≤ n → m ≡ length (digits (n / 10)) → m + 1 ≡ length (digits n)
 one_more_lem n m h e = let f = digits_length_lem n h in omega arith
 
--- Every number has a digit.
-pub digits_some : (n : ℕ) → 1 ≤ length (digits n)
-digits_some n = elim (dec_lt n 10) [ yes l ↦ let e = one_digit n l in omega arith | no l ↦ let e = digits_length_lem n (omega arith) in omega arith ]
-
 -- ---- writing them
 
 module _ (before : List ℕ) (at n : ℕ) where

@@ -14,10 +14,8 @@ use Rattle.tokenizer.specs.declared.refusal.Refusal as R
 use Rattle.tokenizer.proofs.Answered.{handed_on}
 use Rattle.datatype.specs.Tree.{Forest, ∅, node, count, Row}
 use Rattle.parser.specs.Parse.{Tree, Fields, Zone}
-use Rattle.parser.specs.Internal.Steps.{next_of, look_of, word_of, integer_of, signed_of, span_of, zone_of, Stored, Meets, MeetsFields}
-use Rattle.parser.specs.declared.Word.{Word}
-use Rattle.parser.specs.declared.Number.{Number}
-use Rattle.parser.specs.declared.Signed.{Signed}
+use Rattle.parser.specs.Internal.Steps.{next_of, look_of, word_of, integer_of, span_of, zone_of, Stored, Meets, MeetsFields}
+use Rattle.parser.specs.declared.ReadValue.{ReadValue}
 use Rattle.parser.specs.declared.Span.{Span}
 use Rattle.parser.specs.declared.Extent.{Extent}
 
@@ -89,12 +87,12 @@ pub record GotWord (o : Out Standing) (v n : ℕ) : Type 0 where
   pub is : o ≡ done (behind token n)
   pub value : value_of token.kind ≡ v
 
-pub got_word : (o : Out Standing) (w : Word) → done w ≡ word_of o → GotWord o w.value w.next
+pub got_word : (o : Out Standing) (w : ReadValue ℕ) → done w ≡ word_of o → GotWord o w.value w.next
 unfolding word_of
 got_word (refused r) w e = clash r w (sym e)
 got_word (done t) w e =
     let z : record { value = value_of t.kind; next = t.next } ≡ w = cc in
-    record { token = t; is = next_is t w.next (ap (λ (x : Word). x.next) z); value = ap (λ (x : Word). x.value) z }
+    record { token = t; is = next_is t w.next (ap (λ (x : ReadValue ℕ). x.next) z); value = ap (λ (x : ReadValue ℕ). x.value) z }
 
 pub lost_word : (o : Out Standing) (x : ℕ) → refuse x ≡ word_of o → o ≡ refuse x
 unfolding word_of
@@ -102,7 +100,7 @@ lost_word (refused r) x e = cc
 lost_word (done t) x e = clash _ _ e
 
 -- a number, with the place behind it
-abbrev pub number : ℤ → ℕ → Number
+abbrev pub number : ℤ → ℕ → ReadValue ℤ
 number z n = record { value = z; next = n }
 
 -- a number with its sign
@@ -114,29 +112,17 @@ pub record GotNumber (o : Out Standing) (z : ℤ) (n : ℕ) : Type 0 where
   pub is : o ≡ done (behind token n)
   pub value : integer_of_kind token.kind ≡ z
 
-pub got_integer : (o : Out Standing) (i : Number) → done i ≡ integer_of o → GotNumber o i.value i.next
+pub got_integer : (o : Out Standing) (i : ReadValue ℤ) → done i ≡ integer_of o → GotNumber o i.value i.next
 unfolding integer_of
 got_integer (refused r) i e = clash r i (sym e)
 got_integer (done t) i e =
     let z : record { value = integer_of_kind t.kind; next = t.next } ≡ i = cc in
-    record { token = t; is = next_is t i.next (ap (λ (x : Number). x.next) z); value = ap (λ (x : Number). x.value) z }
+    record { token = t; is = next_is t i.next (ap (λ (x : ReadValue ℤ). x.next) z); value = ap (λ (x : ReadValue ℤ). x.value) z }
 
 pub lost_integer : (o : Out Standing) (x : ℕ) → refuse x ≡ integer_of o → o ≡ refuse x
 unfolding integer_of
 lost_integer (refused r) x e = cc
 lost_integer (done t) x e = clash _ _ e
-
-pub got_number : (o : Out Standing) (i : Signed) → done i ≡ signed_of o → GotNumber o i.value i.next
-unfolding signed_of
-got_number (refused r) i e = clash r i (sym e)
-got_number (done t) i e =
-    let z : record { value = integer_of_kind t.kind; next = t.next } ≡ i = cc in
-    record { token = t; is = next_is t i.next (ap (λ (x : Signed). x.next) z); value = ap (λ (x : Signed). x.value) z }
-
-pub lost_number : (o : Out Standing) (x : ℕ) → refuse x ≡ signed_of o → o ≡ refuse x
-unfolding signed_of
-lost_number (refused r) x e = cc
-lost_number (done t) x e = clash _ _ e
 
 -- a string, with its start, its length and the place behind it
 abbrev pub string : Out TokenKind → ℕ → ℕ → ℕ → Standing
@@ -168,21 +154,21 @@ lost_zone (done v) x e = clash _ _ e
 
 -- ---- trees and fields
 
-pub record GotTree (o : Out Tree) (n k at left : ℕ) (before after : List ℕ) : Type 0 where
+pub record GotTree (o : Out Tree) (n k : ℕ) (before after : List ℕ) : Type 0 where
   pub row : Row
   pub kids : Forest Row
   pub is : o ≡ done (record { row = row; kids = kids; next = n })
   pub rows : k ≡ suc (count kids)
-  pub stored : Stored (node row kids ∅) at left before after
+  pub stored : Stored (node row kids ∅) before after
 
-pub record GotFields (o : Out Fields) (n k at left : ℕ) (before after : List ℕ) : Type 0 where
+pub record GotFields (o : Out Fields) (n k : ℕ) (before after : List ℕ) : Type 0 where
   pub trees : Forest Row
   pub is : o ≡ done (record { trees = trees; next = n })
   pub rows : k ≡ count trees
-  pub stored : Stored trees at left before after
+  pub stored : Stored trees before after
 
-module _ (at left : ℕ) (before after : List ℕ) where
-  pub got-tree : (o : Out Tree) (e : Extent) → Meets o at left before (Ok e) after → GotTree o e.next e.used at left before after
+module _ (before after : List ℕ) where
+  pub got-tree : (o : Out Tree) (e : Extent) → Meets o before (Ok e) after → GotTree o e.next e.used before after
   unfolding Meets
   got-tree (refused x) e h = clash x e (sym h)
   got-tree (done t) e h =
@@ -190,12 +176,12 @@ module _ (at left : ℕ) (before after : List ℕ) where
       let z : t.next ≡ e.next = cc in
       record { row = t.row; kids = t.kids; is = λ j. done (record { row = t.row; kids = t.kids; next = z j }); rows = cc; stored = h.1 }
 
-  pub lost-tree : (o : Out Tree) (e : R.Refusal) → Meets o at left before (Err e) after → o ≡ refuse (number_of e)
+  pub lost-tree : (o : Out Tree) (e : R.Refusal) → Meets o before (Err e) after → o ≡ refuse (number_of e)
   unfolding Meets
   lost-tree (refused y) e h = same_refusal y (number_of e) (let z : y.number ≡ number_of e = cc in z)
   lost-tree (done t) e h = absurd (let f = h.0 in let z : ◌≡◌ {A = ℕ} 0 1 = cc in omega arith)
 
-  pub got-fields : (o : Out Fields) (e : Extent) → MeetsFields o at left before (Ok e) after → GotFields o e.next e.used at left before after
+  pub got-fields : (o : Out Fields) (e : Extent) → MeetsFields o before (Ok e) after → GotFields o e.next e.used before after
   unfolding MeetsFields
   got-fields (refused x) e h = clash x e (sym h)
   got-fields (done fs) e h =
@@ -203,7 +189,7 @@ module _ (at left : ℕ) (before after : List ℕ) where
       let z : fs.next ≡ e.next = cc in
       record { trees = fs.trees; is = λ j. done (record { trees = fs.trees; next = z j }); rows = cc; stored = h.1 }
 
-  pub lost-fields : (o : Out Fields) (e : R.Refusal) → MeetsFields o at left before (Err e) after → o ≡ refuse (number_of e)
+  pub lost-fields : (o : Out Fields) (e : R.Refusal) → MeetsFields o before (Err e) after → o ≡ refuse (number_of e)
   unfolding MeetsFields
   lost-fields (refused y) e h = same_refusal y (number_of e) (let z : y.number ≡ number_of e = cc in z)
   lost-fields (done fs) e h = absurd (let f = h.0 in let z : ◌≡◌ {A = ℕ} 0 1 = cc in omega arith)

@@ -1,8 +1,12 @@
 -- Fields read side by side: run ends and values, and one turn of a Struct's or a Union's fields.
-use mathlib.Core.Path.{◌≡◌, refl, ap}
+use mathlib.Core.Path.{◌≡◌, refl, sym, ap, ◌∙◌}
+use lib.ListN.{get_or}
+use lib.IntN.{ℤ}
+use Rattle.parser.specs.declared.ReadValue.{ReadValue}
+use Rattle.tokenizer.specs.declared.TokenKind.TheVariants.{Integer}
 use mathlib.Core.Bool.{true, false}
 use mathlib.Core.List.{List}
-use Prim.Native.Nat.{ℕ, ◌+◌, ◌-◌}
+use Prim.Native.Nat.{ℕ, ◌+◌}
 use native.Mathlib.Omega.{arith}
 use borrow.Author.Tests.{eq-eqb, ne_eqb}
 use Rattle.std.specs.Prelude.{Ok, Err}
@@ -10,33 +14,41 @@ use Rattle.std.specs.Result.{IsErrAnd}
 use Rattle.tokenizer.specs.Answer.{Refusal, Out, refused, done, refuse, number_of, ◌>>=◌}
 use Rattle.tokenizer.specs.declared.refusal.Refusal as R
 use Rattle.tokenizer.proofs.Answered.{handed_on}
-use Rattle.tokenizer.specs.Token.{Standing, lparen, rparen, comma, colon, double_quoted, x_word}
+use Rattle.tokenizer.specs.Token.{Standing, lparen, rparen, comma, colon, double_quoted}
 use Rattle.datatype.specs.Tree.{Forest, ∅, node, count, Row}
-use Rattle.parser.specs.Parse.{Tree, Fields, end, last, more, item, run_ends, values, field_row, id_of, need, stands, role_at, signed_byte_at, close_at, field_at, default_field, list_field, fixed_list_field, named_run_ends, default_run_ends, run_end_fields, struct_item, union_field, union_item}
-use Rattle.parser.specs.Internal.Steps.{extent, Stored, Meets, MeetsFields, FieldWords}
-use Rattle.parser.proofs.Answers.{Read, behind, GotTree}
+use Rattle.parser.specs.Parse.{Tree, Fields, end, last, more, run_ends, values, id_of, need, stands, role_at, after_role, signed_byte_at, close_at, field_at, default_field, named_run_ends, default_run_ends, run_end_fields, struct_item, union_field, union_item}
+use Rattle.parser.specs.Internal.Steps.{integer_of, extent, rows_left, Stored, Meets, MeetsFields, FieldWords}
+use Rattle.parser.proofs.Answers.{Read, behind, GotTree, GotNumber, got_integer}
 use Rattle.parser.proofs.Looks.{needed-stands, refused-stands}
-use Rattle.parser.proofs.Readers.{meets-done, field_stored}
-use Rattle.parser.proofs.Parents.{pair_stored}
+use Rattle.parser.proofs.Values.{id-is}
+use Rattle.parser.proofs.Readers.{meets-done, rest_of, pair_stored, default-1, default-is, default-tree}
+use Rattle.parser.proofs.Stores.{rows_from, with_rows, role_said}
 
-module _ (row left : ℕ) (before after : List ℕ) where
-  pub fields-refused : (o : Out Fields) (e : R.Refusal) → o ≡ refuse (number_of e) → MeetsFields o row left before (Err e) after
+module _ (before after : List ℕ) where
+  pub fields-refused : (o : Out Fields) (e : R.Refusal) → o ≡ refuse (number_of e) → MeetsFields o before (Err e) after
   unfolding MeetsFields
   fields-refused o e w = rw w refl
 
-  pub fields-done : (o : Out Fields) (f : Forest Row) (n k : ℕ) → o ≡ done (record { trees = f; next = n }) → k ≡ count f
-      → Stored f row left before after → MeetsFields o row left before (Ok (extent n k)) after
+  fields-done : (o : Out Fields) (f : Forest Row) (n k : ℕ) → o ≡ done (record { trees = f; next = n }) → k ≡ count f → Stored f before after → MeetsFields o before (Ok (extent n k)) after
   unfolding MeetsFields
   fields-done o f n k e c s = rw e (ap (λ (i : ℕ). Ok (extent n i)) c, s)
 
   -- a refusal is handed on
-  pub fields-handed : (o : Out Fields) (a : Read) (e : R.Refusal) → IsErrAnd a (λ y. y ≡ e) → o ≡ refuse (number_of e) → MeetsFields o row left before a after
+  pub fields-handed : (o : Out Fields) (a : Read) (e : R.Refusal) → IsErrAnd a (λ y. y ≡ e) → o ≡ refuse (number_of e) → MeetsFields o before a after
   unfolding MeetsFields
   fields-handed o a e h w = rw w (handed_on a e h)
 
 -- a tree that was read
-abbrev pub tree_of : (o : Out Tree) (n k at left : ℕ) (before after : List ℕ) → GotTree o n k at left before after → Tree
-tree_of o n k at left before after g = record { row = g.row; kids = g.kids; next = n }
+abbrev pub tree_of : (o : Out Tree) (n k : ℕ) (before after : List ℕ) → GotTree o n k before after → Tree
+tree_of o n k before after g = record { row = g.row; kids = g.kids; next = n }
+
+-- two trees, one behind the other
+pair_done : (o : Out Fields) (o₁ o₂ : Out Tree) (n m used k : ℕ) (before mid sub : List ℕ) (g : GotTree o₁ n used before mid) (h : GotTree o₂ m k (rows_from used mid) sub)
+    → o ≡ done (record { trees = node g.row g.kids (node h.row h.kids ∅); next = m }) → MeetsFields o before (Ok (extent m (used + k))) (with_rows used mid sub)
+pair_done o o₁ o₂ n m used k before mid sub g h e =
+    let u = g.rows in
+    let v = h.rows in
+    fields-done before (with_rows used mid sub) o (node g.row g.kids (node h.row h.kids ∅)) m (used + k) e (omega arith) (pair_stored o₁ o₂ n m used k before mid sub g h)
 
 module _ (text : List ℕ) (type : ℕ → ℕ → Out Tree) where
   -- ---- run ends and values
@@ -47,92 +59,76 @@ module _ (text : List ℕ) (type : ℕ → ℕ → Out Tree) where
     unfolding named_run_ends
     long-1 x e = rw e refl
 
-    module _ (row n used : ℕ) (before mid : List ℕ) (g : GotTree (field_at text type 0 at left) n used row left before mid) where
-      pub long-2 : (g.row.role ≡ 2 → ⊥) → named_run_ends text type at left ≡ refuse 13
-      unfolding named_run_ends
-      long-2 z = rw (g.is, ne_eqb g.row.role 2 z) refl
+    module _ (n used : ℕ) (before mid : List ℕ) (g : GotTree (field_at text type 0 at left) n used before mid) where
+      -- its role was read back from its row
+      module _ (role : ℕ) (said : role ≡ get_or mid 2 0) where
+        role-is : role ≡ g.row.role
+        role-is = said ∙ role_said g.row g.kids before mid g.stored
 
-      module _ (z : g.row.role ≡ 2) where
+        pub long-2 : (role ≡ 2 → ⊥) → named_run_ends text type at left ≡ refuse 13
+        unfolding named_run_ends
+        long-2 z = rw (g.is, ← role-is, ne_eqb role 2 z) refl
+
+      module _ (role : ℕ) (said : role ≡ get_or mid 2 0) (two : role ≡ 2) where
+        z : g.row.role ≡ 2
+        z = sym (role-is role said) ∙ two
+
         pub long-3 : (x : ℕ) → need text comma n ≡ refuse x → named_run_ends text type at left ≡ refuse x
         unfolding named_run_ends
         long-3 x e = rw (g.is, eq-eqb g.row.role 2 z, e) refl
 
-        module _ (c : Standing) (d : ℕ) (f : need text comma n ≡ done (behind c d)) where
-          pub long-4 : (x : ℕ) → field_at text type 0 d (left - used) ≡ refuse x → named_run_ends text type at left ≡ refuse x
+        module _ (c : Standing) (d : ℕ) (f : need text comma n ≡ done (behind c d)) (i : left ≡ rows_left before) where
+          pub long-4 : (x : ℕ) → field_at text type 0 d (rows_left (rows_from used mid)) ≡ refuse x → named_run_ends text type at left ≡ refuse x
           unfolding named_run_ends
-          long-4 x e = rw (g.is, eq-eqb g.row.role 2 z, f, ← g.rows, e) refl
+          long-4 x e = rw (g.is, eq-eqb g.row.role 2 z, f, ← rest_of _ n used left before mid g i, e) refl
 
-          pub long-5 : (m k : ℕ) (after : List ℕ) → GotTree (field_at text type 0 d (left - used)) m k (row + used) (left - used) mid after
-              → MeetsFields (named_run_ends text type at left) row left before (Ok (extent m (used + k))) after
+          pub long-5 : (m k : ℕ) (sub : List ℕ) → GotTree (field_at text type 0 d (rows_left (rows_from used mid))) m k (rows_from used mid) sub
+              → MeetsFields (named_run_ends text type at left) before (Ok (extent m (used + k))) (with_rows used mid sub)
           unfolding named_run_ends
-          long-5 m k after h =
-              let u = g.rows in
-              let v = h.rows in
-              fields-done row left before after (named_run_ends text type at left) (node g.row g.kids (node h.row h.kids ∅)) m (used + k)
-              (rw (g.is, eq-eqb g.row.role 2 z, f, ← g.rows, h.is) refl) (omega arith)
-              (pair_stored row left used before mid after g.row h.row g.kids h.kids g.stored g.rows h.stored)
+          long-5 m k sub h = pair_done _ _ _ n m used k before mid sub g h (rw (g.is, eq-eqb g.row.role 2 z, f, ← rest_of _ n used left before mid g i, h.is) refl)
 
     -- the short form
     pub short-1 : (role : ℕ) → role ≡ role_at text at → (role ≡ 2 → ⊥) → default_run_ends text type at left ≡ refuse 13
     unfolding default_run_ends
     short-1 role e z = rw (← e, ne_eqb role 2 z) refl
 
-    module _ (role : ℕ) (ro : role ≡ role_at text at) (z : role ≡ 2) where
-      pub short-2 : (x : ℕ) → default_field text type run_ends at left ≡ refuse x → default_run_ends text type at left ≡ refuse x
+    module _ (role next : ℕ) (ro : role ≡ role_at text at) (z : role ≡ 2) (ne : next ≡ after_role text at) where
+      two : 2 ≡ role_at text at
+      two = sym z ∙ ro
+
+      pub short-2 : (x : ℕ) → type next left ≡ refuse x → default_run_ends text type at left ≡ refuse x
       unfolding default_run_ends
-      short-2 x e = rw (← ro, eq-eqb role 2 z, e) refl
+      short-2 x e = rw (← ro, eq-eqb role 2 z, default-1 text type run_ends at left role next ro ne x e) refl
 
-      module _ (row n used : ℕ) (before mid : List ℕ) (g : GotTree (default_field text type run_ends at left) n used row left before mid) where
-        pub short-3 : (x : ℕ) → need text comma n ≡ refuse x → default_run_ends text type at left ≡ refuse x
-        unfolding default_run_ends
-        short-3 x e = rw (← ro, eq-eqb role 2 z, g.is, e) refl
+      pub short-3 : (n used : ℕ) (before mid₀ : List ℕ) → GotTree (type next left) n used before mid₀ → (x : ℕ) → need text comma n ≡ refuse x → default_run_ends text type at left ≡ refuse x
+      unfolding default_run_ends
+      short-3 n used before mid₀ t x e = rw (← ro, eq-eqb role 2 z, default-is text type run_ends at left 2 next two ne n used before mid₀ t, e) refl
 
-        module _ (c : Standing) (d : ℕ) (f : need text comma n ≡ done (behind c d)) where
-          pub short-4 : (x : ℕ) → default_field text type values d (left - used) ≡ refuse x → default_run_ends text type at left ≡ refuse x
+      module _ (n used : ℕ) (before mid₀ mid : List ℕ) (t : GotTree (type next left) n used before mid₀) (w : FieldWords mid₀ 2 0 2 4 8 mid) where
+        g : GotTree (default_field text type run_ends at left) n used before mid
+        g = default-tree text type run_ends at left 2 next two ne n used before mid₀ t mid w
+
+        module _ (c : Standing) (d role₂ next₂ : ℕ) (f : need text comma n ≡ done (behind c d)) (i : left ≡ rows_left before) (ro₂ : role₂ ≡ role_at text d) (ne₂ : next₂ ≡ after_role text d) where
+          pub short-4 : (x : ℕ) → type next₂ (rows_left (rows_from used mid)) ≡ refuse x → default_run_ends text type at left ≡ refuse x
           unfolding default_run_ends
-          short-4 x e = rw (← ro, eq-eqb role 2 z, g.is, f, ← g.rows, e) refl
+          short-4 x e =
+              rw (← ro, eq-eqb role 2 z, g.is, f, ← rest_of _ n used left before mid g i, default-1 text type values d (rows_left (rows_from used mid)) role₂ next₂ ro₂ ne₂ x e) refl
 
-          pub short-5 : (m k : ℕ) (after : List ℕ) → GotTree (default_field text type values d (left - used)) m k (row + used) (left - used) mid after
-              → MeetsFields (default_run_ends text type at left) row left before (Ok (extent m (used + k))) after
+          pub short-5 : (m k : ℕ) (sub₀ sub : List ℕ) → GotTree (type next₂ (rows_left (rows_from used mid))) m k (rows_from used mid) sub₀ → FieldWords sub₀ role₂ 0 2 12 6 sub
+              → MeetsFields (default_run_ends text type at left) before (Ok (extent m (used + k))) (with_rows used mid sub)
           unfolding default_run_ends
-          short-5 m k after h =
-              let u = g.rows in
-              let v = h.rows in
-              fields-done row left before after (default_run_ends text type at left) (node g.row g.kids (node h.row h.kids ∅)) m (used + k)
-              (rw (← ro, eq-eqb role 2 z, g.is, f, ← g.rows, h.is) refl) (omega arith)
-              (pair_stored row left used before mid after g.row h.row g.kids h.kids g.stored g.rows h.stored)
+          short-5 m k sub₀ sub u v =
+              let h = default-tree text type values d (rows_left (rows_from used mid)) role₂ next₂ ro₂ ne₂ m k (rows_from used mid) sub₀ u sub v in
+              pair_done _ _ _ n m used k before mid sub g h (rw (← ro, eq-eqb role 2 z, g.is, f, ← rest_of _ n used left before mid g i, h.is) refl)
 
     -- which form it is
-    pub run-ends-long : (row : ℕ) (before after : List ℕ) (a : Read) → stands text double_quoted at ≡ true → MeetsFields (named_run_ends text type at left) row left before a after → MeetsFields (run_end_fields text type at left) row left before a after
+    pub run-ends-long : (before after : List ℕ) (a : Read) → stands text double_quoted at ≡ true → MeetsFields (named_run_ends text type at left) before a after → MeetsFields (run_end_fields text type at left) before a after
     unfolding run_end_fields
-    run-ends-long row before after a e h = rw e h
+    run-ends-long before after a e h = rw e h
 
-    pub run-ends-short : (row : ℕ) (before after : List ℕ) (a : Read) → stands text double_quoted at ≡ false → MeetsFields (default_run_ends text type at left) row left before a after → MeetsFields (run_end_fields text type at left) row left before a after
+    pub run-ends-short : (before after : List ℕ) (a : Read) → stands text double_quoted at ≡ false → MeetsFields (default_run_ends text type at left) before a after → MeetsFields (run_end_fields text type at left) before a after
     unfolding run_end_fields
-    run-ends-short row before after a e h = rw e h
-
-    -- ---- FixedSizeList's child
-
-    pub fixed-x : (t : Standing) (b row : ℕ) (before after : List ℕ) (a : Read) → need text x_word at ≡ done (behind t b) → Meets (list_field text type b left) row left before a after → Meets (fixed_list_field text type at left) row left before a after
-    unfolding fixed_list_field
-    fixed-x t b row before after a e h = rw (needed-stands text x_word at (behind t b) e, e) h
-
-    module _ (z : stands text x_word at ≡ false) where
-      pub fixed-other : (x : ℕ) → need text comma at ≡ refuse x → fixed_list_field text type at left ≡ refuse x
-      unfolding fixed_list_field
-      fixed-other x e = rw (z, e) refl
-
-      module _ (c : Standing) (b : ℕ) (e : need text comma at ≡ done (behind c b)) where
-        pub fixed-comma : (x : ℕ) → type b left ≡ refuse x → fixed_list_field text type at left ≡ refuse x
-        unfolding fixed_list_field
-        fixed-comma x f = rw (z, e, f) refl
-
-        pub fixed_plain : (n k row : ℕ) (before mid after : List ℕ) → GotTree (type b left) n k row left before mid → FieldWords mid row 1 0 2 0 4 after → Meets (fixed_list_field text type at left) row left before (Ok (extent n k)) after
-        unfolding fixed_list_field
-        fixed_plain n k row before mid after g w =
-            meets-done row left before after (fixed_list_field text type at left) (field_row 1 0 item g.row) g.kids n k
-            (rw (z, e, g.is) refl) g.rows
-            (field_stored row left 1 0 item g.row g.kids before mid after g.stored w)
+    run-ends-short before after a e h = rw e h
 
     -- ---- one turn of a Struct's fields
 
@@ -145,12 +141,12 @@ module _ (text : List ℕ) (type : ℕ → ℕ → Out Tree) where
       unfolding struct_item
       struct-field-1 x e = rw (refused-stands text rparen at s z, e) refl
 
-      module _ (row n k : ℕ) (before after : List ℕ) (g : GotTree (field_at text type 0 at left) n k row left before after) where
-        pub struct_more : (c : Standing) (d : ℕ) → need text comma n ≡ done (behind c d) → struct_item text type at left ≡ done (more (tree_of _ n k row left before after g) d)
+      module _ (n k : ℕ) (before after : List ℕ) (g : GotTree (field_at text type 0 at left) n k before after) where
+        pub struct_more : (c : Standing) (d : ℕ) → need text comma n ≡ done (behind c d) → struct_item text type at left ≡ done (more (tree_of _ n k before after g) d)
         unfolding struct_item
         struct_more c d e = rw (refused-stands text rparen at s z, g.is, needed-stands text comma n (behind c d) e, e) refl
 
-        pub struct-last : (t : Refusal) → need text comma n ≡ refused t → struct_item text type at left ≡ (need text rparen n >>= (λ c. done (last (tree_of _ n k row left before after g) c.next)))
+        pub struct-last : (t : Refusal) → need text comma n ≡ refused t → struct_item text type at left ≡ (need text rparen n >>= (λ c. done (last (tree_of _ n k before after g) c.next)))
         unfolding struct_item
         struct-last t y = rw (refused-stands text rparen at s z, g.is, refused-stands text comma n t y) refl
 
@@ -170,10 +166,10 @@ module _ (text : List ℕ) (type : ℕ → ℕ → Out Tree) where
         unfolding union_item
         union-lost x f = rw (refused-stands text rparen at s z, e, f) refl
 
-        pub union_more : (n k row : ℕ) (before after : List ℕ) (g : GotTree (union_field text type b left) n k row left before after)
-            → union_item text type at left ≡ done (more (tree_of _ n k row left before after g) n)
+        pub union_more : (n k : ℕ) (before after : List ℕ) (g : GotTree (union_field text type b left) n k before after)
+            → union_item text type at left ≡ done (more (tree_of _ n k before after g) n)
         unfolding union_item
-        union_more n k row before after g = rw (refused-stands text rparen at s z, e, g.is) refl
+        union_more n k before after g = rw (refused-stands text rparen at s z, e, g.is) refl
 
     -- ---- a Union's field
 
@@ -181,26 +177,32 @@ module _ (text : List ℕ) (type : ℕ → ℕ → Out Tree) where
     unfolding union_field
     union-1 x e = rw e refl
 
-    module _ (i : Standing) (d id : ℕ) (f : signed_byte_at text at ≡ done (behind i d)) (w : id ≡ id_of i.kind) where
-      pub union-2 : (x : ℕ) → need text colon d ≡ refuse x → union_field text type at left ≡ refuse x
-      unfolding union_field
-      union-2 x g = rw (f, g) refl
+    module _ (z : ReadValue ℤ) (r : done z ≡ integer_of (signed_byte_at text at)) where
+      f : GotNumber (signed_byte_at text at) z.value z.next
+      f = got_integer (signed_byte_at text at) z r
 
-      module _ (l : Standing) (m : ℕ) (g : need text colon d ≡ done (behind l m)) where
+      pub union-2 : (x : ℕ) → need text colon z.next ≡ refuse x → union_field text type at left ≡ refuse x
+      unfolding union_field
+      union-2 x g = rw (f.is, g) refl
+
+      module _ (l : Standing) (m : ℕ) (g : need text colon z.next ≡ done (behind l m)) where
         pub union-3 : (x : ℕ) → need text lparen m ≡ refuse x → union_field text type at left ≡ refuse x
         unfolding union_field
-        union-3 x h = rw (f, g, h) refl
+        union-3 x h = rw (f.is, g, h) refl
 
-        module _ (p : Standing) (q : ℕ) (h : need text lparen m ≡ done (behind p q)) where
+        module _ (p : Standing) (q id : ℕ) (h : need text lparen m ≡ done (behind p q)) (i : id ≡ id_of (done (Integer z.value))) where
+          w : id ≡ id_of f.token.kind
+          w = i ∙ id-is _ z.value z.next f
+
           pub union-4 : (x : ℕ) → field_at text type id q left ≡ refuse x → union_field text type at left ≡ refuse x
           unfolding union_field
-          union-4 x v = rw (f, g, h, ← w, v) refl
+          union-4 x v = rw (f.is, g, h, ← w, v) refl
 
-          module _ (row n k : ℕ) (before after : List ℕ) (v : GotTree (field_at text type id q left) n k row left before after) where
+          module _ (n k : ℕ) (before after : List ℕ) (v : GotTree (field_at text type id q left) n k before after) where
             pub union-5 : (x : ℕ) → need text rparen n ≡ refuse x → union_field text type at left ≡ refuse x
             unfolding union_field close_at
-            union-5 x y = rw (f, g, h, ← w, v.is, y) refl
+            union-5 x y = rw (f.is, g, h, ← w, v.is, y) refl
 
-            pub union-6 : (t : Standing) (y : ℕ) → need text rparen n ≡ done (behind t y) → Meets (union_field text type at left) row left before (Ok (extent y k)) after
+            pub union-6 : (t : Standing) (y : ℕ) → need text rparen n ≡ done (behind t y) → Meets (union_field text type at left) before (Ok (extent y k)) after
             unfolding union_field close_at
-            union-6 t y u = meets-done row left before after (union_field text type at left) v.row v.kids y k (rw (f, g, h, ← w, v.is, u) refl) v.rows v.stored
+            union-6 t y u = meets-done before after (union_field text type at left) v.row v.kids y k (rw (f.is, g, h, ← w, v.is, u) refl) v.rows v.stored

@@ -1,30 +1,25 @@
--- The type that a text begins with: the buffer, and each return of the public function as a law.
-use mathlib.Core.Path.{◌≡◌, ap, ◌∙◌}
+-- The type that a text begins with: the rows that are lent for it, and each return of the public function as a law.
+use mathlib.Core.Path.{◌≡◌, sym, ap, subst, ◌∙◌}
 use mathlib.Core.Bool.{true, false}
 use mathlib.Core.List.{List, ◌++◌}
-use Prim.Native.Nat.{ℕ, suc, ◌+◌, ◌≤◌, ◌<◌}
+use Prim.Native.Nat.{ℕ, ◌*◌, ◌≤◌, ◌<◌}
 use native.Mathlib.Omega.{arith}
-use lib.ListN.{length, drop, replicate}
-use lib.Seq.{sets-eq}
+use lib.ListN.{length, take, drop, replicate}
+use lib.Seq.{length-take-le}
 use borrow.Author.Tests.{le-leb, lt-leb}
+use Rattle.std.proofs.lemmas.List.{take-append-drop}
 use Rattle.std.specs.Prelude.{Ok, Err}
 use Rattle.tokenizer.specs.Answer.{done, refuse, number_of}
 use Rattle.tokenizer.specs.declared.refusal.Refusal as R
 use Rattle.tokenizer.specs.Utf8.{is_utf8}
-use Rattle.datatype.specs.Tree.{Forest, ∅, node, count, Row}
-use Rattle.datatype.specs.Table.{table_of, rows_lent}
+use Rattle.datatype.specs.Tree.{Forest, ∅, node, Row}
+use Rattle.datatype.specs.Table.{row_words, table_of, rows_lent}
 use Rattle.datatype.proofs.Table.{length_table}
 use Rattle.parser.specs.Parse.{type_at, first_type, read_of, rows_of}
-use Rattle.parser.specs.Internal.Steps.{extent, Room, Meets}
+use Rattle.parser.specs.Internal.Steps.{extent, Room, rows_left, Meets}
 use Rattle.parser.specs.declared.Extent.{Extent}
 use Rattle.parser.proofs.Answers.{Read, got-tree, lost-tree}
-use Rattle.parser.proofs.Readers.{meets-refused}
-
--- ---- the rows lent
-
-pub lent_room : (text rows : List ℕ) (left : ℕ) → left ≡ rows_lent (length rows) → length text ≤ 16384 → Room text rows 0 left
-unfolding rows_lent
-lent_room text rows left e h = record { short = h; small = omega arith; fits = omega arith }
+use Rattle.parser.proofs.Readers.{meets-refused, meets-further}
 
 -- ---- the text as a whole
 
@@ -48,28 +43,44 @@ module _ (text before : List ℕ) where
   abbrev rows : ℕ
   rows = rows_lent (length before)
 
+  pub text-refused : (e : R.Refusal) (after : List ℕ) → first_type text rows ≡ refuse (number_of e) → Meets (first_type text rows) before (Err e) after
+  text-refused e after w = meets-refused before after (first_type text rows) e w
+
+  module _ (lent : ℕ) (l : lent ≡ rows) where
+    -- whole rows of the buffer are lent
+    pub lent_fits : row_words * lent ≤ length before
+    unfolding rows_lent
+    lent_fits = omega arith
+
+    pub lent_words : row_words * lent ≡ length (take (row_words * lent) before)
+    lent_words = sym (length-take-le (row_words * lent) before lent_fits)
+
+    pub lent_room : Room (take (row_words * lent) before)
+    unfolding rows_lent
+    lent_room = omega (arith, lent_words)
+
+    lent_rows : rows_left (take (row_words * lent) before) ≡ rows
+    lent_rows = omega (arith, lent_words)
+
+    pub text-read : (a : Read) (sub : List ℕ) → length text ≤ 16384 → is_utf8 text ≡ true → Meets (type_at text 64 0 (rows_left (take (row_words * lent) before))) (take (row_words * lent) before) a sub
+        → Meets (first_type text rows) before a (sub ++ drop (row_words * lent) before)
+    text-read a sub short u h =
+        let t = first_type text rows in
+        let m : Meets t (take (row_words * lent) before) a sub = rw (first-type text rows short u, ← lent_rows) h in
+        subst (λ (b : List ℕ). Meets t b a (sub ++ drop (row_words * lent) before)) (take-append-drop (row_words * lent) before)
+        (meets-further (take (row_words * lent) before) sub t a (drop (row_words * lent) before) m)
+
   module _ (after : List ℕ) where
-    pub text-refused : (e : R.Refusal) → first_type text rows ≡ refuse (number_of e) → Meets (first_type text rows) 0 rows before (Err e) after
-    text-refused e w = meets-refused 0 rows before after (first_type text rows) e w
-
-    pub text-read : (left : ℕ) (a : Read) → length text ≤ 16384 → is_utf8 text ≡ true → left ≡ rows → Meets (type_at text 64 0 left) 0 left before a after
-        → Meets (first_type text rows) 0 rows before a after
-    text-read left a short u l h = rw (first-type text rows short u, ← l) h
-
     -- what the public function leaves
-    pub first-refused : (e : R.Refusal) (cleared : List ℕ) → Meets (first_type text rows) 0 rows before (Err e) after → cleared ≡ replicate (length before) 0
+    pub first-refused : (e : R.Refusal) (cleared : List ℕ) → Meets (first_type text rows) before (Err e) after → cleared ≡ replicate (length before) 0
         → (refuse (number_of e) ≡ read_of (first_type text rows)) × (cleared ≡ rows_of before (first_type text rows))
     unfolding read_of rows_of
-    first-refused e cleared h w = let f = lost-tree 0 rows before after (first_type text rows) e h in (rw f, rw f w)
+    first-refused e cleared h w = let f = lost-tree before after (first_type text rows) e h in (rw f, rw f w)
 
-    pub first_read : (e : Extent) → Meets (first_type text rows) 0 rows before (Ok e) after
+    pub first_read : (e : Extent) → Meets (first_type text rows) before (Ok e) after
         → (done e ≡ read_of (first_type text rows)) × (after ≡ rows_of before (first_type text rows))
-    unfolding read_of rows_of rows_lent
+    unfolding read_of rows_of
     first_read e h =
-        let g = got-tree 0 rows before after (first_type text rows) e h in
+        let g = got-tree before after (first_type text rows) e h in
         let f : Forest Row = node g.row g.kids ∅ in
-        let m = g.stored.room in
-        let fits : 0 + length (table_of f) ≤ length before = omega (arith, length_table f) in
-        let z : 0 + length (table_of f) ≡ length (table_of f) = omega arith in
-        let c : e.used ≡ suc (count g.kids) = let r = g.rows in omega arith in
-        (rw g.is (ap (λ (i : ℕ). done (extent e.next i)) c), rw g.is (g.stored.rows ∙ sets-eq (table_of f) before 0 fits ∙ ap (λ (i : ℕ). table_of f ++ drop i before) z))
+        (rw g.is (ap (λ (i : ℕ). done (extent e.next i)) g.rows), rw g.is (g.stored.rows ∙ ap (λ (i : ℕ). table_of f ++ drop i before) (sym (length_table f))))

@@ -6,9 +6,10 @@ pub mod TokenLaws
 pub mod ZoneLaws
 pub mod Values
 pub mod Readers
-pub mod Parents
+pub mod Entries
 pub mod FieldLaws
+pub mod Parents
 pub mod Loops
 pub mod Types
-pub mod Entries
 pub mod FirstType
+pub mod Rules

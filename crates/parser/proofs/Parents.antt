@@ -1,33 +1,25 @@
 -- Types with children: each return of their readers as a law.
 use mathlib.Core.Path.{◌≡◌, refl, ◌∙◌}
-use mathlib.Core.List.{List, map}
-use Prim.Native.Nat.{ℕ, suc, ◌+◌, ◌-◌, ◌^◌}
+use mathlib.Core.List.{List, ◌++◌}
+use Prim.Native.Nat.{ℕ, ◌+◌, ◌-◌, ◌^◌}
 use native.Mathlib.Omega.{arith}
-use borrow.Author.Tests.{eq-eqb, ne_eqb}
-use Rattle.tokenizer.specs.Answer.{Out, done, refuse, ◌>>=◌}
-use Rattle.tokenizer.specs.Token.{Standing, value_of, lparen, rparen, comma, map_sorted}
-use Rattle.datatype.specs.Kind.{entries_refusal}
-use Rattle.datatype.specs.Tree.{Forest, ∅, node, count, roots, Row}
-use Rattle.parser.specs.Parse.{Tree, bare_row, need, number_in, close_at, field_at, list_field, fixed_list_field, entries_at, run_end_fields, list_at, fixed_size_list_at, dictionary_at, map_at, run_end_encoded_at}
-use Rattle.parser.specs.Internal.Steps.{Stored, Meets, Closed}
-use Rattle.parser.proofs.Stores.{written_behind}
-use Rattle.parser.proofs.Answers.{Read, behind, GotWord, GotTree, GotFields}
-use Rattle.parser.proofs.Readers.{closes}
-
--- two trees, one behind the other
-pub pair_stored : (row left k : ℕ) (before mid after : List ℕ) (t u : Row) (tk uk : Forest Row)
-    → Stored (node t tk ∅) row left before mid → k ≡ suc (count tk) → Stored (node u uk ∅) (row + k) (left - k) mid after
-    → Stored (node t tk (node u uk ∅)) row left before after
-pair_stored row left k before mid after t u tk uk s e v =
-    let r = s.room in
-    let q = v.room in
-    record { room = omega arith; rows = written_behind before mid after row (row + k) (node t tk ∅) (node u uk ∅) s.rows v.rows (omega arith) }
-
--- the closing mark of a parent whose children stand behind its row
-module _ (text : List ℕ) (r : Row) (kids : Forest Row) (at row left used : ℕ) (before mid after : List ℕ) (a : Read) where
-  pub closes-over : Stored kids (row + 1) left before mid → used ≡ count kids → Closed (need text rparen at) row used r mid a after
-      → Meets (close_at text r kids at) row (left + 1) before a after
-  closes-over s e h = let m = s.room in closes text r kids at row left used before mid after a s.rows e (omega arith) h
+use borrow.Author.Tests.{ne_eqb}
+use Rattle.tokenizer.specs.Answer.{Refusal, Out, refused, done, refuse, number_of, ◌>>=◌}
+use Rattle.tokenizer.specs.declared.refusal.Refusal as R
+use Rattle.tokenizer.specs.Token.{Standing, value_of, lparen, rparen, comma, map_sorted, x_word}
+use Rattle.subtrees.specs.MapEntries.{entries_refusal_at}
+use lib.ListN.{length}
+use Rattle.datatype.specs.Tree.{∅, node}
+use Rattle.datatype.specs.Table.{row_words}
+use Rattle.parser.specs.Parse.{Tree, item, bare_row, field_row, need, number_in, close_at, field_at, list_field, fixed_list_field, entries_at, run_end_fields, list_at, fixed_size_list_at, dictionary_at, map_at, run_end_encoded_at}
+use Rattle.parser.specs.Internal.Steps.{word_of, Meets, Closed, FieldWords, rows_left}
+use Rattle.parser.proofs.Stores.{rows_from, with_rows, as_field}
+use Rattle.parser.proofs.Answers.{Read, behind, GotWord, GotTree, GotFields, got_word}
+use Rattle.parser.proofs.Readers.{closes-over, rest_of, pair_stored}
+use Rattle.parser.specs.declared.ReadValue.{ReadValue}
+use Rattle.parser.proofs.Looks.{needed-stands, refused-stands}
+use Rattle.parser.proofs.Entries.{entries-are}
+use Rattle.parser.proofs.Values.{number_some}
 
 module _ (text : List ℕ) (type : ℕ → ℕ → Out Tree) (k at left : ℕ) where
   -- the plain lists
@@ -56,67 +48,91 @@ module _ (text : List ℕ) (type : ℕ → ℕ → Out Tree) (k at left : ℕ) w
     unfolding list_at
     list-2 x f = rw (e, f) refl
 
-    pub list-3 : (row n used : ℕ) (before mid after : List ℕ) (a : Read) → GotTree (list_field text type b left) n used (row + 1) left before mid → Closed (need text rparen n) row used (bare_row k 0 0 0 0) mid a after
-        → Meets (list_at text type k at left) row (left + 1) before a after
+    pub list-3 : (n used : ℕ) (row row₂ before mid : List ℕ) (a : Read) → length row ≡ row_words → GotTree (list_field text type b left) n used before mid → Closed (need text rparen n) used (bare_row k 0 0 0 0) a row₂
+        → Meets (list_at text type k at left) (row ++ before) a (row₂ ++ mid)
     unfolding list_at
-    list-3 row n used before mid after a g h = rw (e, g.is) (closes-over text (bare_row k 0 0 0 0) (node g.row g.kids ∅) n row left used before mid after a g.stored (let u = g.rows in omega arith) h)
+    list-3 n used row row₂ before mid a l g h = rw (e, g.is) (closes-over text (bare_row k 0 0 0 0) (node g.row g.kids ∅) n used row row₂ before mid a l g.stored (let u = g.rows in omega arith) h)
 
     -- FixedSizeList
     pub fixed-list-2 : (x : ℕ) → number_in text 0 (2 ^ 31 - 1) b ≡ refuse x → fixed_size_list_at text type k at left ≡ refuse x
     unfolding fixed_size_list_at
     fixed-list-2 x f = rw (e, f) refl
 
-    module _ (v c : ℕ) (l : GotWord (number_in text 0 (2 ^ 31 - 1) b) v c) where
-      pub fixed-list-3 : (x : ℕ) → fixed_list_field text type c left ≡ refuse x → fixed_size_list_at text type k at left ≡ refuse x
-      unfolding fixed_size_list_at
-      fixed-list-3 x f = rw (e, l.is, f) refl
+    module _ (size : ReadValue ℕ) (r : done size ≡ word_of (number_in text 0 (2 ^ 31 - 1) b)) where
+      l : GotWord (number_in text 0 (2 ^ 31 - 1) b) size.value size.next
+      l = got_word (number_in text 0 (2 ^ 31 - 1) b) size r
 
-      pub fixed-list-4 : (row n used : ℕ) (before mid after : List ℕ) (a : Read) → GotTree (fixed_list_field text type c left) n used (row + 1) left before mid → Closed (need text rparen n) row used (bare_row k v 0 0 0) mid a after
-          → Meets (fixed_size_list_at text type k at left) row (left + 1) before a after
-      unfolding fixed_size_list_at
-      fixed-list-4 row n used before mid after a g h =
-          rw (e, l.is, g.is, l.value) (closes-over text (bare_row k v 0 0 0) (node g.row g.kids ∅) n row left used before mid after a g.stored (let u = g.rows in omega arith) h)
+      -- behind `x`: a full list field
+      module _ (t : Standing) (d : ℕ) (f : need text x_word size.next ≡ done (behind t d)) where
+        pub fixed-list-3 : (x : ℕ) → list_field text type d left ≡ refuse x → fixed_size_list_at text type k at left ≡ refuse x
+        unfolding fixed_size_list_at fixed_list_field
+        fixed-list-3 x g = rw (e, l.is, needed-stands text x_word size.next (behind t d) f, f, g) refl
+
+        pub fixed-list-4 : (n used : ℕ) (row row₂ before mid : List ℕ) (a : Read) → length row ≡ row_words → GotTree (list_field text type d left) n used before mid → Closed (need text rparen n) used (bare_row k size.value 0 0 0) a row₂
+            → Meets (fixed_size_list_at text type k at left) (row ++ before) a (row₂ ++ mid)
+        unfolding fixed_size_list_at fixed_list_field
+        fixed-list-4 n used row row₂ before mid a i g h =
+            rw (e, l.is, needed-stands text x_word size.next (behind t d) f, f, g.is, l.value)
+            (closes-over text (bare_row k size.value 0 0 0) (node g.row g.kids ∅) n used row row₂ before mid a i g.stored (let u = g.rows in omega arith) h)
+
+      -- behind a comma: a type
+      module _ (s : Refusal) (z : need text x_word size.next ≡ refused s) where
+        pub fixed-list-5 : (x : ℕ) → need text comma size.next ≡ refuse x → fixed_size_list_at text type k at left ≡ refuse x
+        unfolding fixed_size_list_at fixed_list_field
+        fixed-list-5 x g = rw (e, l.is, refused-stands text x_word size.next s z, g) refl
+
+        module _ (t : Standing) (d : ℕ) (f : need text comma size.next ≡ done (behind t d)) where
+          pub fixed-list-6 : (x : ℕ) → type d left ≡ refuse x → fixed_size_list_at text type k at left ≡ refuse x
+          unfolding fixed_size_list_at fixed_list_field
+          fixed-list-6 x g = rw (e, l.is, refused-stands text x_word size.next s z, f, g) refl
+
+          pub fixed-list-7 : (n used : ℕ) (row row₂ before mid after : List ℕ) (a : Read) → length row ≡ row_words → GotTree (type d left) n used before mid → FieldWords mid 1 0 2 0 4 after
+              → Closed (need text rparen n) used (bare_row k size.value 0 0 0) a row₂ → Meets (fixed_size_list_at text type k at left) (row ++ before) a (row₂ ++ after)
+          unfolding fixed_size_list_at fixed_list_field
+          fixed-list-7 n used row row₂ before mid after a i g w h =
+              rw (e, l.is, refused-stands text x_word size.next s z, f, g.is, l.value)
+              (closes-over text (bare_row k size.value 0 0 0) (node (field_row 1 0 item g.row) g.kids ∅) n used row row₂ before after a i
+              (as_field 1 0 item g.row g.kids before mid after g.stored w) (let u = g.rows in omega arith) h)
 
     -- Dictionary
     pub dictionary-2 : (x : ℕ) → type b left ≡ refuse x → dictionary_at text type k at left ≡ refuse x
     unfolding dictionary_at
     dictionary-2 x f = rw (e, f) refl
 
-    module _ (row n used : ℕ) (before mid₁ : List ℕ) (g : GotTree (type b left) n used (row + 1) left before mid₁) where
+    module _ (n used : ℕ) (before mid : List ℕ) (g : GotTree (type b left) n used before mid) where
       pub dictionary-3 : (x : ℕ) → need text comma n ≡ refuse x → dictionary_at text type k at left ≡ refuse x
       unfolding dictionary_at
       dictionary-3 x f = rw (e, g.is, f) refl
 
-      module _ (c : Standing) (d : ℕ) (f : need text comma n ≡ done (behind c d)) where
-        pub dictionary-4 : (x : ℕ) → type d (left - used) ≡ refuse x → dictionary_at text type k at left ≡ refuse x
+      module _ (c : Standing) (d : ℕ) (f : need text comma n ≡ done (behind c d)) (i : left ≡ rows_left before) where
+        pub dictionary-4 : (x : ℕ) → type d (rows_left (rows_from used mid)) ≡ refuse x → dictionary_at text type k at left ≡ refuse x
         unfolding dictionary_at
-        dictionary-4 x h = rw (e, g.is, f, ← g.rows, h) refl
+        dictionary-4 x h = rw (e, g.is, f, ← rest_of _ n used left before mid g i, h) refl
 
-        pub dictionary-5 : (m more : ℕ) (mid after : List ℕ) (a : Read) → GotTree (type d (left - used)) m more (row + 1 + used) (left - used) mid₁ mid → Closed (need text rparen m) row (used + more) (bare_row k 0 0 0 0) mid a after
-            → Meets (dictionary_at text type k at left) row (left + 1) before a after
+        pub dictionary-5 : (m more : ℕ) (row row₂ sub : List ℕ) (a : Read) → length row ≡ row_words → GotTree (type d (rows_left (rows_from used mid))) m more (rows_from used mid) sub
+            → Closed (need text rparen m) (used + more) (bare_row k 0 0 0 0) a row₂ → Meets (dictionary_at text type k at left) (row ++ before) a (row₂ ++ with_rows used mid sub)
         unfolding dictionary_at
-        dictionary-5 m more mid after a h w =
+        dictionary-5 m more row row₂ sub a l h w =
             let u = g.rows in
             let v = h.rows in
-            rw (e, g.is, f, ← g.rows, h.is)
-            (closes-over text (bare_row k 0 0 0 0) (node g.row g.kids (node h.row h.kids ∅)) m row left (used + more) before mid after a
-            (pair_stored (row + 1) left used before mid₁ mid g.row h.row g.kids h.kids g.stored g.rows h.stored) (omega arith) w)
+            rw (e, g.is, f, ← rest_of _ n used left before mid g i, h.is)
+            (closes-over text (bare_row k 0 0 0 0) (node g.row g.kids (node h.row h.kids ∅)) m (used + more) row row₂ before (with_rows used mid sub) a l
+            (pair_stored _ _ n m used more before mid sub g h) (omega arith) w)
 
     -- Map
     pub map-2 : (x : ℕ) → field_at text type 0 b left ≡ refuse x → map_at text type k at left ≡ refuse x
     unfolding map_at entries_at
     map-2 x f = rw (e, f) refl
 
-    module _ (row n used : ℕ) (before mid : List ℕ) (g : GotTree (field_at text type 0 b left) n used (row + 1) left before mid) (x : ℕ)
-        (q : x ≡ entries_refusal g.row.role g.row.kind (map (λ r. r.role) (roots g.kids))) where
-      pub map-3 : (x ≡ 0 → ⊥) → map_at text type k at left ≡ refuse x
+    module _ (n used : ℕ) (before mid : List ℕ) (g : GotTree (field_at text type 0 b left) n used before mid) where
+      pub map-3 : (x : R.Refusal) → number_of x ≡ entries_refusal_at mid 0 → map_at text type k at left ≡ refuse (number_of x)
       unfolding map_at entries_at
-      map-3 z = rw (e, g.is, ← q, ne_eqb x 0 z) refl
+      map-3 x q = rw (e, g.is, ← entries-are _ n used before mid g, ← q, ne_eqb (number_of x) 0 (number_some x)) refl
 
-      module _ (z : x ≡ 0) where
+      module _ (q : 0 ≡ entries_refusal_at mid 0) where
         map-entries : map_at text type k at left ≡ (need text comma n >>= (λ c. need text map_sorted c.next >>= (λ s. close_at text (bare_row k (value_of s.kind) 0 0 0) (node g.row g.kids ∅) s.next)))
         unfolding map_at entries_at
-        map-entries = rw (e, g.is, ← q, eq-eqb x 0 z) refl
+        map-entries = rw (e, g.is, ← entries-are _ n used before mid g, ← q) refl
 
         pub map-4 : (y : ℕ) → need text comma n ≡ refuse y → map_at text type k at left ≡ refuse y
         map-4 y f = map-entries ∙ rw f refl
@@ -125,18 +141,19 @@ module _ (text : List ℕ) (type : ℕ → ℕ → Out Tree) (k at left : ℕ) w
           pub map-5 : (y : ℕ) → need text map_sorted d ≡ refuse y → map_at text type k at left ≡ refuse y
           map-5 y h = map-entries ∙ rw (f, h) refl
 
-          pub map-6 : (v m : ℕ) (after : List ℕ) (a : Read) → GotWord (need text map_sorted d) v m → Closed (need text rparen m) row used (bare_row k v 0 0 0) mid a after
-              → Meets (map_at text type k at left) row (left + 1) before a after
-          map-6 v m after a h w =
+          pub map-6 : (v : ReadValue ℕ) (row row₂ : List ℕ) (a : Read) → length row ≡ row_words → done v ≡ word_of (need text map_sorted d) → Closed (need text rparen v.next) used (bare_row k v.value 0 0 0) a row₂
+              → Meets (map_at text type k at left) (row ++ before) a (row₂ ++ mid)
+          map-6 v row row₂ a l r w =
+              let h = got_word (need text map_sorted d) v r in
               rw (map-entries, f, h.is, h.value)
-              (closes-over text (bare_row k v 0 0 0) (node g.row g.kids ∅) m row left used before mid after a g.stored (let u = g.rows in omega arith) w)
+              (closes-over text (bare_row k v.value 0 0 0) (node g.row g.kids ∅) v.next used row row₂ before mid a l g.stored (let u = g.rows in omega arith) w)
 
     -- RunEndEncoded
     pub run-end-2 : (x : ℕ) → run_end_fields text type b left ≡ refuse x → run_end_encoded_at text type k at left ≡ refuse x
     unfolding run_end_encoded_at
     run-end-2 x f = rw (e, f) refl
 
-    pub run-end-3 : (row n used : ℕ) (before mid after : List ℕ) (a : Read) → GotFields (run_end_fields text type b left) n used (row + 1) left before mid → Closed (need text rparen n) row used (bare_row k 0 0 0 0) mid a after
-        → Meets (run_end_encoded_at text type k at left) row (left + 1) before a after
+    pub run-end-3 : (n used : ℕ) (row row₂ before mid : List ℕ) (a : Read) → length row ≡ row_words → GotFields (run_end_fields text type b left) n used before mid → Closed (need text rparen n) used (bare_row k 0 0 0 0) a row₂
+        → Meets (run_end_encoded_at text type k at left) (row ++ before) a (row₂ ++ mid)
     unfolding run_end_encoded_at
-    run-end-3 row n used before mid after a g h = rw (e, g.is) (closes-over text (bare_row k 0 0 0 0) g.trees n row left used before mid after a g.stored g.rows h)
+    run-end-3 n used row row₂ before mid a l g h = rw (e, g.is) (closes-over text (bare_row k 0 0 0 0) g.trees n used row row₂ before mid a l g.stored g.rows h)

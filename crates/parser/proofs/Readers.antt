@@ -1,117 +1,117 @@
 -- Each return of a reader as a law: what the calls before it gave, and what the return has to show.
-use Rattle.std.specs.Prelude.{if◌then◌else◌}
+use Rattle.std.specs.Prelude.{if◌then◌else◌, Ok, Err}
 use mathlib.Core.Path.{◌≡◌, refl, sym, ap, ◌∙◌, subst}
-use mathlib.Core.Bool.{true, false}
-use mathlib.Core.List.{List, [], ◌∷◌}
-use Prim.Native.Nat.{ℕ, suc, ◌+◌, ◌-◌, ◌*◌, ◌≤◌}
+use mathlib.Core.Bool.{Bool, true, false}
+use lib.IntN.{ℤ}
+use Rattle.tokenizer.specs.declared.TokenKind.TheVariants.{Integer}
+use Rattle.parser.proofs.Values.{scale-is}
+use mathlib.Core.List.{List, ◌++◌}
+use Prim.Native.Nat.{ℕ, suc, ◌+◌, ◌*◌, ◌-◌, ◌≤◌}
 use native.Mathlib.Omega.{arith}
-use lib.ListN.{length, get_or}
-use lib.Seq.{sets}
-use Rattle.std.specs.Prelude.{Ok, Err}
+use lib.ListN.{length}
 use Rattle.std.specs.Result.{IsErrAnd}
 use Rattle.tokenizer.specs.Answer.{Out, refused, done, refuse, number_of, answer_of, ◌>>=◌}
 use Rattle.tokenizer.specs.declared.refusal.Refusal as R
 use Rattle.tokenizer.specs.declared.refusal.Refusal.TheVariants.{WrongDecimal}
 use Rattle.tokenizer.proofs.Answered.{handed_on}
 use Rattle.parser.specs.declared.Extent.{Extent}
+use Rattle.parser.specs.declared.ReadValue.{ReadValue}
 use Rattle.tokenizer.specs.Token.{Standing, value_of, lparen, rparen, comma, colon, double_quoted, single_quoted, time_unit, field_word}
 use Rattle.tokenizer.specs.declared.TokenKind.{TokenKind}
 use Rattle.datatype.specs.Kind.{decimal_fits}
 use Rattle.datatype.specs.Tree.{Forest, ∅, node, count, Row}
-use Rattle.datatype.specs.Table.{row_words, words_of, table_of}
+use Rattle.datatype.specs.Table.{row_words, words_of}
 use Rattle.parser.specs.Parse.{Name, Tree, Fields, item, bare_row, field_row, scale_of, need, stands, role_at, after_role, number_in, close_at, zone_at, timestamp_at, scale_at, decimal_at, list_name_at, field_at, default_field, list_field}
-use Rattle.parser.specs.Internal.Steps.{extent, Room, Stored, Meets, Put, Closed, FieldWords}
-use Rattle.parser.proofs.Stores.{in_front, as_field, rows_said}
-use Rattle.parser.proofs.Answers.{Read, behind, string, GotWord, GotTree, GotFields, got-tree, lost-tree}
+use Rattle.parser.specs.Internal.Steps.{word_of, integer_of, extent, rows_left, Stored, Meets, Put, Closed, FieldWords, MeetsFields}
+use Rattle.parser.proofs.Stores.{further, rows_from, with_rows, left_behind, follows, in_front, alone, as_field}
+use Rattle.parser.proofs.Answers.{Read, behind, string, GotWord, GotTree, got_word, got_integer, got-tree, lost-tree, got-fields}
 
 -- ---- refusals, and rows
 
-module _ (row left : ℕ) (before after : List ℕ) where
-  pub meets-refused : (o : Out Tree) (e : R.Refusal) → o ≡ refuse (number_of e) → Meets o row left before (Err e) after
+module _ (before after : List ℕ) where
+  pub meets-refused : (o : Out Tree) (e : R.Refusal) → o ≡ refuse (number_of e) → Meets o before (Err e) after
   unfolding Meets
   meets-refused o e w = rw w refl
 
   -- a refusal is handed on
-  pub meets-lost : (o : Out Tree) (a : Read) (x : ℕ) → answer_of a ≡ refuse x → o ≡ refuse x → Meets o row left before a after
+  pub meets-lost : (o : Out Tree) (a : Read) (x : ℕ) → answer_of a ≡ refuse x → o ≡ refuse x → Meets o before a after
   unfolding Meets
   meets-lost o a x f e = rw e f
 
-  pub meets-handed : (o : Out Tree) (a : Read) (e : R.Refusal) → IsErrAnd a (λ y. y ≡ e) → o ≡ refuse (number_of e) → Meets o row left before a after
+  pub meets-handed : (o : Out Tree) (a : Read) (e : R.Refusal) → IsErrAnd a (λ y. y ≡ e) → o ≡ refuse (number_of e) → Meets o before a after
   meets-handed o a e h w = meets-lost o a (number_of e) (handed_on a e h) w
 
   pub meets-done : (o : Out Tree) (r : Row) (kids : Forest Row) (n k : ℕ) → o ≡ done (record { row = r; kids = kids; next = n }) → k ≡ suc (count kids)
-      → Stored (node r kids ∅) row left before after → Meets o row left before (Ok (extent n k)) after
+      → Stored (node r kids ∅) before after → Meets o before (Ok (extent n k)) after
   unfolding Meets
   meets-done o r kids n k e f s = rw e (ap (λ (i : ℕ). Ok (extent n i)) f, s)
 
-  -- a type without children, whose row was written
-  pub meets-leaf : (o : Out Tree) (r : Row) (n : ℕ) → o ≡ done (record { row = r; kids = ∅; next = n }) → 1 ≤ left
-      → after ≡ sets before (row_words * row) (words_of r 1) → Meets o row left before (Ok (extent n 1)) after
-  unfolding table_of words_of
-  meets-leaf o r n e h w = meets-done o r ∅ n 1 e refl (record { room = omega arith; rows = w })
+  -- a row that was written, with its children's or alone
+  pub meets-put : (o : Out Tree) (r : Row) (kids : Forest Row) (n used : ℕ) (a : Extent) (row : List ℕ) → o ≡ done (record { row = r; kids = kids; next = n }) → used ≡ count kids
+      → Put n used r a row → (row ≡ words_of r (used + 1) → Stored (node r kids ∅) before after) → Meets o before (Ok a) after
+  meets-put o r kids n used a row e u w s =
+      subst (λ (x : Extent). Meets o before (Ok x) after) (sym w.0) (meets-done o r kids n (used + 1) e (omega arith) (s w.1))
 
-  -- the rows left may be more
-  pub meets-more : (o : Out Tree) (a : Read) (more : ℕ) → left ≤ more → Meets o row left before a after → Meets o row more before a after
+  -- more rows behind stay as they were
+  pub meets-further : (o : Out Tree) (a : Read) (rest : List ℕ) → Meets o before a after → Meets o (before ++ rest) a (after ++ rest)
   unfolding Meets
-  meets-more (refused x) a more h m = m
-  meets-more (done t) a more h m = let r = m.1.room in (m.0, record { room = omega arith; rows = m.1.rows })
+  meets-further (refused x) a rest m = m
+  meets-further (done t) a rest m = (m.0, further (node t.row t.kids ∅) before after m.1 rest)
 
-module _ (row used : ℕ) (r : Row) (before after : List ℕ) (o : Out Standing) where
-  pub closed-lost : (a : Read) (e : R.Refusal) → IsErrAnd a (λ y. y ≡ e) → o ≡ refuse (number_of e) → Closed o row used r before a after
+module _ (used : ℕ) (r : Row) (row : List ℕ) (o : Out Standing) where
+  pub closed-lost : (a : Read) (e : R.Refusal) → IsErrAnd a (λ y. y ≡ e) → o ≡ refuse (number_of e) → Closed o used r a row
   unfolding Closed
   closed-lost a e h w = rw w (handed_on a e h)
 
-  pub closed-done : (a : Extent) (t : Standing) (n : ℕ) → o ≡ done (behind t n) → Put n row used r before a after → Closed o row used r before (Ok a) after
+  pub closed-done : (a : Extent) (t : Standing) (n : ℕ) → o ≡ done (behind t n) → Put n used r a row → Closed o used r (Ok a) row
   unfolding Closed
   closed-done a t n e w = rw e (ap (λ (x : Extent). Ok x) w.0, w.1)
 
 -- a type whose closing mark was read, or is missing
-pub closes : (text : List ℕ) (r : Row) (kids : Forest Row) (at row left used : ℕ) (before mid after : List ℕ) (a : Read)
-    → mid ≡ sets before (row_words * (row + 1)) (table_of kids) → used ≡ count kids → used ≤ left
-    → Closed (need text rparen at) row used r mid a after → Meets (close_at text r kids at) row (left + 1) before a after
+closes : (text : List ℕ) (r : Row) (kids : Forest Row) (at used : ℕ) (row before after : List ℕ) (a : Read) → used ≡ count kids
+    → (row ≡ words_of r (used + 1) → Stored (node r kids ∅) before after) → Closed (need text rparen at) used r a row → Meets (close_at text r kids at) before a after
 unfolding close_at
-closes text r kids at row left used before mid after a m u l = go (need text rparen at)
+closes text r kids at used row before after a u s = go (need text rparen at)
   where
-    go : (o : Out Standing) → Closed o row used r mid a after → Meets (o >>= (λ c. done (record { row = r; kids = kids; next = c.next }))) row (left + 1) before a after
+    go : (o : Out Standing) → Closed o used r a row → Meets (o >>= (λ c. done (record { row = r; kids = kids; next = c.next }))) before a after
     go (refused x) h = unfold Closed Meets in h
-    go (done t) h = unfold Closed Meets in (
-      h.0 ∙ ap (λ (i : ℕ). Ok (extent t.next i)) (omega arith),
-      record { room = omega arith; rows = in_front before mid after row (used + 1) r kids m h.1 (omega arith) },
-    )
+    go (done t) h = unfold Closed Meets in (h.0 ∙ ap (λ (i : ℕ). Ok (extent t.next i)) (omega arith), s h.1)
+
+-- where its children's rows stand behind its own, and where it has none
+pub closes-over : (text : List ℕ) (r : Row) (kids : Forest Row) (at used : ℕ) (row row₂ before mid : List ℕ) (a : Read) → length row ≡ row_words → Stored kids before mid → used ≡ count kids
+    → Closed (need text rparen at) used r a row₂ → Meets (close_at text r kids at) (row ++ before) a (row₂ ++ mid)
+closes-over text r kids at used row row₂ before mid a l s u =
+    closes text r kids at used row₂ (row ++ before) (row₂ ++ mid) a u (in_front r kids row row₂ before mid (used + 1) l s (omega arith))
+
+pub closes-alone : (text : List ℕ) (r : Row) (at : ℕ) (row row₂ : List ℕ) (a : Read) → length row ≡ row_words → Closed (need text rparen at) 0 r a row₂ → Meets (close_at text r ∅ at) row a row₂
+closes-alone text r at row row₂ a l = closes text r ∅ at 0 row₂ row row₂ a refl (alone r row row₂ l)
 
 -- ---- room
 
-module _ (o : Out Tree) (n k at left : ℕ) (before after : List ℕ) (g : GotTree o n k at left before after) where
-  pub tree-some : 1 ≤ k
-  tree-some = let e = g.rows in omega arith
+-- a type that was read fills one row or more, and no more than are left
+pub read_most : (o : Out Tree) (e : Extent) (before after : List ℕ) → Meets o before (Ok e) after → row_words * e.used ≤ length before
+read_most o e before after h = let g = got-tree before after o e h in let u = g.rows in let m = g.stored.room in omega arith
 
-  pub tree-most : k ≤ left
-  tree-most = let e = g.rows in let m = g.stored.room in omega arith
+pub read_some : (o : Out Tree) (e : Extent) (before after : List ℕ) → Meets o before (Ok e) after → 1 ≤ e.used
+read_some o e before after h = let g = got-tree before after o e h in let u = g.rows in omega arith
 
-pub fields_most : (o : Out Fields) (n k at left : ℕ) (before after : List ℕ) → GotFields o n k at left before after → k ≤ left
-fields_most o n k at left before after g = let e = g.rows in let m = g.stored.room in omega arith
+-- and so do some fields
+pub read_fields_most : (o : Out Fields) (e : Extent) (before after : List ℕ) → MeetsFields o before (Ok e) after → row_words * e.used ≤ length before
+read_fields_most o e before after h = let g = got-fields before after o e h in let u = g.rows in let m = g.stored.room in omega arith
 
-module _ (text before after : List ℕ) (row left : ℕ) (r : Room text before row (left + 1)) (l : length after ≡ length before) (used : ℕ) (u : used ≤ left) where
-  -- for a row in front of so many rows
-  pub room-front : Room text after row (used + 1)
-  room-front = let s = r.small in let f = r.fits in record { short = r.short; small = omega arith; fits = omega arith }
+-- ---- a tree behind another
 
-  -- for what follows so many rows of children
-  pub room-more : Room text after (row + 1 + used) (left - used)
-  room-more = let s = r.small in let f = r.fits in record { short = r.short; small = omega arith; fits = omega arith }
+-- how many rows are left for it
+pub rest_of : (o : Out Tree) (n used left : ℕ) (before mid : List ℕ) (g : GotTree o n used before mid) → left ≡ rows_left before → rows_left (rows_from used mid) ≡ left - suc (count g.kids)
+rest_of o n used left before mid g i =
+    let u = g.rows in
+    left_behind (node g.row g.kids ∅) before mid used (omega arith) g.stored ∙ ap (λ (l : ℕ). l - used) (sym i) ∙ ap (λ (n : ℕ). left - n) g.rows
 
--- for the children, behind the parent's row
-pub room_below : (text rows : List ℕ) (row left : ℕ) → Room text rows row (left + 1) → Room text rows (row + 1) left
-room_below text rows row left r = let s = r.small in let f = r.fits in record { short = r.short; small = omega arith; fits = omega arith }
-
-module _ (text before after : List ℕ) (row left : ℕ) (r : Room text before row left) (l : length after ≡ length before) where
-  -- for what follows so many rows
-  pub room-behind : (used : ℕ) → used ≤ left → Room text after (row + used) (left - used)
-  room-behind used u = let s = r.small in let f = r.fits in record { short = r.short; small = omega arith; fits = omega arith }
-
-  -- a row of a tree is there
-  pub row_inside : (k : ℕ) → 1 ≤ k → k ≤ left → row_words * row + row_words ≤ length after
-  row_inside k a b = let f = r.fits in omega arith
+pub pair_stored : (o₁ o₂ : Out Tree) (n m used k : ℕ) (before mid sub : List ℕ) (g : GotTree o₁ n used before mid) (h : GotTree o₂ m k (rows_from used mid) sub)
+    → Stored (node g.row g.kids (node h.row h.kids ∅)) before (with_rows used mid sub)
+pair_stored o₁ o₂ n m used k before mid sub g h =
+    let u = g.rows in
+    follows (node g.row g.kids ∅) before mid used (omega arith) g.stored (node h.row h.kids ∅) sub h.stored
 
 -- ---- types without children
 
@@ -130,30 +130,37 @@ module _ (text : List ℕ) (k at : ℕ) where
     unfolding timestamp_at
     timestamp-2 x f = rw (e, f) refl
 
-    module _ (v b : ℕ) (g : GotWord (need text time_unit a) v b) where
-      pub timestamp-3 : (x : ℕ) → zone_at text b ≡ refuse x → timestamp_at text k at ≡ refuse x
+    module _ (u : ReadValue ℕ) (h : done u ≡ word_of (need text time_unit a)) where
+      g : GotWord (need text time_unit a) u.value u.next
+      g = got_word (need text time_unit a) u h
+
+      pub timestamp-3 : (x : ℕ) → zone_at text u.next ≡ refuse x → timestamp_at text k at ≡ refuse x
       unfolding timestamp_at
       timestamp-3 x f = rw (e, g.is, f) refl
 
-      pub timestamp-4 : (s l n : ℕ) → zone_at text b ≡ done (record { start = s; size = l; next = n }) → timestamp_at text k at ≡ done (record { row = bare_row k v 0 s l; kids = ∅; next = n })
+      timestamp-4 : (s l n : ℕ) → zone_at text u.next ≡ done (record { start = s; size = l; next = n }) → timestamp_at text k at ≡ done (record { row = bare_row k u.value 0 s l; kids = ∅; next = n })
       unfolding timestamp_at
       timestamp-4 s l n f = rw (e, g.is, f) (ap (λ (i : ℕ). done (record { row = bare_row k i 0 s l; kids = ∅; next = n })) g.value)
+
+      pub timestamp-5 : (s l n : ℕ) (row row₂ : List ℕ) (r : Extent) → length row ≡ row_words → zone_at text u.next ≡ done (record { start = s; size = l; next = n }) → Put n 0 (bare_row k u.value 0 s l) r row₂
+          → Meets (timestamp_at text k at) row (Ok r) row₂
+      timestamp-5 s l n row row₂ r i f w = meets-put row row₂ (timestamp_at text k at) (bare_row k u.value 0 s l) ∅ n 0 r row₂ (timestamp-4 s l n f) refl w (alone (bare_row k u.value 0 s l) row row₂ i)
 
     pub decimal-2 : (x : ℕ) → number_in text 0 255 a ≡ refuse x → decimal_at text k at ≡ refuse x
     unfolding decimal_at
     decimal-2 x f = rw (e, f) refl
 
-    module _ (v b : ℕ) (g : GotWord (number_in text 0 255 a) v b) where
-      pub decimal-3 : (x : ℕ) → need text comma b ≡ refuse x → decimal_at text k at ≡ refuse x
-      unfolding decimal_at
-      decimal-3 x f = rw (e, g.is, f) refl
+    module _ (n : ReadValue ℕ) (i : done n ≡ word_of (number_in text 0 255 a)) where
+      precision : GotWord (number_in text 0 255 a) n.value n.next
+      precision = got_word (number_in text 0 255 a) n i
 
-    module _ (row : ℕ) (before after : List ℕ) (r : Read) where
-      -- the decimals
-      module _ (v b : ℕ) (g : GotWord (number_in text 0 255 a) v b) where
-        pub decimal-4 : (c : Standing) (d : ℕ) → need text comma b ≡ done (behind c d) → Meets (scale_at text k v d) row 1 before r after → Meets (decimal_at text k at) row 1 before r after
-        unfolding decimal_at
-        decimal-4 c d f h = rw (e, g.is, f, g.value) h
+      pub decimal-3 : (x : ℕ) → need text comma n.next ≡ refuse x → decimal_at text k at ≡ refuse x
+      unfolding decimal_at
+      decimal-3 x f = rw (e, precision.is, f) refl
+
+      pub decimal-4 : (c : Standing) (d : ℕ) (before after : List ℕ) (r : Read) → need text comma n.next ≡ done (behind c d) → Meets (scale_at text k n.value d) before r after → Meets (decimal_at text k at) before r after
+      unfolding decimal_at
+      decimal-4 c d before after r f h = rw (e, precision.is, f, precision.value) h
 
 -- a type of one value: Time32, Time64, Duration, Interval, FixedSizeBinary
 abbrev pub value_at : List ℕ → (ℕ → Out Standing) → ℕ → ℕ → Out Tree
@@ -167,9 +174,8 @@ module _ (text : List ℕ) (value : ℕ → Out Standing) (k at : ℕ) where
     pub value-2 : (x : ℕ) → value a ≡ refuse x → value_at text value k at ≡ refuse x
     value-2 x f = rw (e, f) refl
 
-    pub value-3 : (v b row : ℕ) (before after : List ℕ) (r : Read) → GotWord (value a) v b → Closed (need text rparen b) row 0 (bare_row k v 0 0 0) before r after → Meets (value_at text value k at) row 1 before r after
-    unfolding table_of
-    value-3 v b row before after r g h = rw (e, g.is, g.value) (closes text (bare_row k v 0 0 0) ∅ b row 0 0 before before after r refl refl (omega arith) h)
+    pub value-3 : (v : ReadValue ℕ) (row row₂ : List ℕ) (r : Read) → length row ≡ row_words → done v ≡ word_of (value a) → Closed (need text rparen v.next) 0 (bare_row k v.value 0 0 0) r row₂ → Meets (value_at text value k at) row r row₂
+    value-3 v row row₂ r l w h = let g = got_word (value a) v w in rw (e, g.is, g.value) (closes-alone text (bare_row k v.value 0 0 0) v.next row row₂ r l h)
 
 -- a decimal's scale
 module _ (text : List ℕ) (k v at : ℕ) where
@@ -177,50 +183,32 @@ module _ (text : List ℕ) (k v at : ℕ) where
   unfolding scale_at
   scale-1 x e = rw e refl
 
-  -- it is known, and the closing mark is to come
-  pub scale-2 : (s : Standing) (n scale : ℕ) → number_in text 128 127 at ≡ done (behind s n) → scale ≡ scale_of s.kind
-      → scale_at text k v at ≡ (close_at text (bare_row k v scale 0 0) ∅ n >>= (λ t. if decimal_fits k v scale then done t else refuse 12))
-  unfolding scale_at
-  scale-2 s n scale e w = rw (e, ← w) refl
+  -- it is known, and the closing mark was read or is missing
+  module _ (n : ReadValue ℤ) (i : done n ≡ integer_of (number_in text 128 127 at)) (scale : ℕ) (w : scale ≡ scale_of (done (Integer n.value))) (row row₂ : List ℕ) (l : length row ≡ row_words) where
+    abbrev closed : Out Tree
+    closed = close_at text (bare_row k v scale 0 0) ∅ n.next
 
--- a decimal whose closing mark was read, or is missing
-module _ (text : List ℕ) (o : Out Tree) (k v scale n row : ℕ) (before mid : List ℕ) (a : Read)
-    (e : o ≡ (close_at text (bare_row k v scale 0 0) ∅ n >>= (λ t. if decimal_fits k v scale then done t else refuse 12)))
-    (h : Closed (need text rparen n) row 0 (bare_row k v scale 0 0) before a mid) where
-  closed-decimal : Meets (close_at text (bare_row k v scale 0 0) ∅ n) row 1 before a mid
-  unfolding table_of
-  closed-decimal = closes text (bare_row k v scale 0 0) ∅ n row 0 0 before before mid a refl refl (omega arith) h
+    scaled : scale_at text k v at ≡ (closed >>= (λ t. if decimal_fits k v scale then done t else refuse 12))
+    unfolding scale_at
+    scaled =
+        let g = got_integer (number_in text 128 127 at) n i in
+        let s = w ∙ scale-is _ n.value n.next g in
+        rw (g.is, ← s) refl
 
-  pub decimal-lost : (b : Read) (x : R.Refusal) (after : List ℕ) → a ≡ Err x → IsErrAnd b (λ y. y ≡ x) → Meets o row 1 before b after
-  decimal-lost b x after f i =
-      let g = subst (λ (y : Read). Meets (close_at text (bare_row k v scale 0 0) ∅ n) row 1 before y mid) f closed-decimal in
-      meets-handed row 1 before after o b x i (e ∙ rw (lost-tree row 1 before mid (close_at text (bare_row k v scale 0 0) ∅ n) x g))
+    pub scale-2 : (x : R.Refusal) (b : Read) → Closed (need text rparen n.next) 0 (bare_row k v scale 0 0) (Err x) row₂ → IsErrAnd b (λ y. y ≡ x) → Meets (scale_at text k v at) row b row₂
+    scale-2 x b c h = meets-handed row row₂ (scale_at text k v at) b x h (scaled ∙ rw (lost-tree row row₂ closed x (closes-alone text (bare_row k v scale 0 0) n.next row row₂ (Err x) l c)))
 
-  module _ (m j : ℕ) (f : a ≡ Ok (extent m j)) where
-    decimal-tree : GotTree (close_at text (bare_row k v scale 0 0) ∅ n) m j row 1 before mid
-    decimal-tree =
-        let g = subst (λ (y : Read). Meets (close_at text (bare_row k v scale 0 0) ∅ n) row 1 before y mid) f closed-decimal in
-        got-tree row 1 before mid (close_at text (bare_row k v scale 0 0) ∅ n) (extent m j) g
+    module _ (e : Extent) (c : Closed (need text rparen n.next) 0 (bare_row k v scale 0 0) (Ok e) row₂) where
+      tree : GotTree closed e.next e.used row row₂
+      tree = got-tree row row₂ closed e (closes-alone text (bare_row k v scale 0 0) n.next row row₂ (Ok e) l c)
 
-    pub decimal-unfit : (after : List ℕ) → decimal_fits k v scale ≡ false → Meets o row 1 before (Err WrongDecimal) after
-    decimal-unfit after w = go decimal-tree
-      where
-        go : GotTree (close_at text (bare_row k v scale 0 0) ∅ n) m j row 1 before mid → Meets o row 1 before (Err WrongDecimal) after
-        go t = meets-refused row 1 before after o WrongDecimal (e ∙ rw (t.is, w))
+      pub scale-3 : (fit : Bool) → fit ≡ decimal_fits k v scale → fit ≡ true → Meets (scale_at text k v at) row (Ok e) row₂
+      scale-3 fit q z = meets-done row row₂ (scale_at text k v at) tree.row tree.kids e.next e.used (scaled ∙ rw (tree.is, ← q, z)) tree.rows tree.stored
 
-    pub decimal-fits : decimal_fits k v scale ≡ true → Meets o row 1 before (Ok (extent m j)) mid
-    decimal-fits w = go decimal-tree
-      where
-        go : GotTree (close_at text (bare_row k v scale 0 0) ∅ n) m j row 1 before mid → Meets o row 1 before (Ok (extent m j)) mid
-        go t = meets-done row 1 before mid o t.row t.kids m j (e ∙ rw (t.is, w)) t.rows t.stored
+      pub scale-4 : (fit : Bool) → fit ≡ decimal_fits k v scale → fit ≡ false → Meets (scale_at text k v at) row (Err WrongDecimal) row₂
+      scale-4 fit q z = meets-refused row row₂ (scale_at text k v at) WrongDecimal (scaled ∙ rw (tree.is, ← q, z))
 
 -- ---- fields
-
--- a tree whose row is made a field's
-pub field_stored : (row left role id : ℕ) (n : Name) (r : Row) (kids : Forest Row) (before mid after : List ℕ) → Stored (node r kids ∅) row left before mid
-    → after ≡ sets (sets mid (row_words * row + 2) (role ∷ id ∷ [])) (row_words * row + 6) (n.home ∷ n.start ∷ n.size ∷ [])
-    → Stored (node (field_row role id n r) kids ∅) row left before after
-field_stored row left role id n r kids before mid after s w = record { room = s.room; rows = as_field before mid after row role id n r kids s.rows w }
 
 module _ (text : List ℕ) (type : ℕ → ℕ → Out Tree) where
   -- "name": [nullability] type
@@ -239,26 +227,22 @@ module _ (text : List ℕ) (type : ℕ → ℕ → Out Tree) where
         unfolding field_at
         field-3 x g = rw (e, f, ← ne, g) refl
 
-        field-4 : (n k row : ℕ) (before mid after : List ℕ) → GotTree (type next left) n k row left before mid → FieldWords mid row role id 1 s l after
-            → Meets (field_at text type id at left) row left before (Ok (extent n k)) after
+        field-4 : (n k : ℕ) (before mid after : List ℕ) → GotTree (type next left) n k before mid → FieldWords mid role id 1 s l after → GotTree (field_at text type id at left) n k before after
         unfolding field_at
-        field-4 n k row before mid after g w =
+        field-4 n k before mid after g w =
             let name : Name = record { home = 1; start = s; size = l } in
-            meets-done row left before after (field_at text type id at left) (field_row role id name g.row) g.kids n k
-            (rw (e, f, ← ne, g.is, ← ro) refl) g.rows
-            (field_stored row left role id name g.row g.kids before mid after g.stored w)
+            record {
+              row = field_row role id name g.row;
+              kids = g.kids;
+              is = rw (e, f, ← ne, g.is, ← ro) refl;
+              rows = g.rows;
+              stored = as_field role id name g.row g.kids before mid after g.stored w;
+            }
 
-        -- so many rows as its row says
-        pub field-5 : (n k w row : ℕ) (before mid after : List ℕ) → Room text before row left → GotTree (type next left) n k row left before mid → FieldWords mid row role id 1 s l after
-            → w ≡ get_or after (row_words * row + 1) 0 → Meets (field_at text type id at left) row left before (Ok (extent n w)) after
-        field-5 n k w row before mid after room g words said =
-            let name : Name = record { home = 1; start = s; size = l } in
-            let some = tree-some (type next left) n k row left before mid g in
-            let most = tree-most (type next left) n k row left before mid g in
-            let inside = row_inside text before before row left room refl k some most in
-            let stored = field_stored row left role id name g.row g.kids before mid after g.stored words in
-            let rows = said ∙ rows_said before after row (field_row role id name g.row) g.kids (omega arith) stored.rows ∙ sym g.rows in
-            subst (λ (x : ℕ). Meets (field_at text type id at left) row left before (Ok (extent n x)) after) (sym rows) (field-4 n k row before mid after g words)
+        pub field-5 : (n k : ℕ) (before mid after : List ℕ) → GotTree (type next left) n k before mid → FieldWords mid role id 1 s l after → Meets (field_at text type id at left) before (Ok (extent n k)) after
+        field-5 n k before mid after g words =
+            let t = field-4 n k before mid after g words in
+            meets-done before after (field_at text type id at left) t.row t.kids n k t.is t.rows t.stored
 
   -- [nullability] type, as a field of a name of the name list
   module _ (name : Name) (at left role next : ℕ) (ro : role ≡ role_at text at) (ne : next ≡ after_role text at) where
@@ -266,19 +250,18 @@ module _ (text : List ℕ) (type : ℕ → ℕ → Out Tree) where
     unfolding default_field
     default-1 x g = rw (← ne, g) refl
 
-    module _ (n k row : ℕ) (before mid : List ℕ) (g : GotTree (type next left) n k row left before mid) where
-      default-is : default_field text type name at left ≡ done (record { row = field_row role 0 name g.row; kids = g.kids; next = n })
+    module _ (n k : ℕ) (before mid : List ℕ) (g : GotTree (type next left) n k before mid) where
+      pub default-is : default_field text type name at left ≡ done (record { row = field_row role 0 name g.row; kids = g.kids; next = n })
       unfolding default_field
       default-is = rw (← ne, g.is, ← ro) refl
 
-      pub default-tree : (after : List ℕ) → FieldWords mid row role 0 name.home name.start name.size after
-          → GotTree (default_field text type name at left) n k row left before after
+      pub default-tree : (after : List ℕ) → FieldWords mid role 0 name.home name.start name.size after → GotTree (default_field text type name at left) n k before after
       default-tree after w = record {
         row = field_row role 0 name g.row;
         kids = g.kids;
         is = default-is;
         rows = g.rows;
-        stored = field_stored row left role 0 name g.row g.kids before mid after g.stored w;
+        stored = as_field role 0 name g.row g.kids before mid after g.stored w;
       }
 
   -- [nullability] type [, field: 'name']
@@ -287,29 +270,28 @@ module _ (text : List ℕ) (type : ℕ → ℕ → Out Tree) where
     unfolding list_field
     list-field-1 x g = rw (default-1 item at left role next ro ne x g) refl
 
-    module _ (n k row : ℕ) (before mid : List ℕ) (g : GotTree (type next left) n k row left before mid) where
+    module _ (n k : ℕ) (before mid : List ℕ) (g : GotTree (type next left) n k before mid) where
       -- no comma: the name is `item`
-      pub list-field-2 : (after : List ℕ) → stands text comma n ≡ false → FieldWords mid row role 0 2 0 4 after
-          → Meets (list_field text type at left) row left before (Ok (extent n k)) after
+      pub list-field-2 : (after : List ℕ) → stands text comma n ≡ false → FieldWords mid role 0 2 0 4 after → Meets (list_field text type at left) before (Ok (extent n k)) after
       unfolding list_field
       list-field-2 after f w =
-          meets-done row left before after (list_field text type at left) (field_row role 0 item g.row) g.kids n k
-          (rw (default-is item at left role next ro ne n k row before mid g, f) refl) g.rows
-          (field_stored row left role 0 item g.row g.kids before mid after g.stored w)
+          meets-done before after (list_field text type at left) (field_row role 0 item g.row) g.kids n k
+          (rw (default-is item at left role next ro ne n k before mid g, f) refl) g.rows
+          (as_field role 0 item g.row g.kids before mid after g.stored w)
 
       module _ (c : Standing) (d : ℕ) (f : stands text comma n ≡ true) (h : need text comma n ≡ done (behind c d)) where
         pub list-field-3 : (x : ℕ) → list_name_at text d ≡ refuse x → list_field text type at left ≡ refuse x
         unfolding list_field
-        list-field-3 x y = rw (default-is item at left role next ro ne n k row before mid g, f, h, y) refl
+        list-field-3 x y = rw (default-is item at left role next ro ne n k before mid g, f, h, y) refl
 
-        pub list-field-4 : (q : Out TokenKind) (s l e : ℕ) (after : List ℕ) → list_name_at text d ≡ done (string q s l e) → FieldWords mid row role 0 1 s l after
-            → Meets (list_field text type at left) row left before (Ok (extent e k)) after
+        pub list-field-4 : (q : Out TokenKind) (s l e : ℕ) (after : List ℕ) → list_name_at text d ≡ done (string q s l e) → FieldWords mid role 0 1 s l after
+            → Meets (list_field text type at left) before (Ok (extent e k)) after
         unfolding list_field
         list-field-4 q s l e after y w =
             let name : Name = record { home = 1; start = s; size = l } in
-            meets-done row left before after (list_field text type at left) (field_row role 0 name g.row) g.kids e k
-            (rw (default-is item at left role next ro ne n k row before mid g, f, h, y) refl) g.rows
-            (field_stored row left role 0 name g.row g.kids before mid after g.stored w)
+            meets-done before after (list_field text type at left) (field_row role 0 name g.row) g.kids e k
+            (rw (default-is item at left role next ro ne n k before mid g, f, h, y) refl) g.rows
+            (as_field role 0 name g.row g.kids before mid after g.stored w)
 
 -- field: 'name'
 module _ (text : List ℕ) (at : ℕ) where

@@ -1,122 +1,19 @@
--- Runs of stores: one behind the other, one before another, inside another; and the words of rows.
+-- Runs of trees as they are stored: a row in front of its children's, one run behind another, and a row made a field's.
 use mathlib.Core.Path.{◌≡◌, refl, sym, ap, ◌∙◌}
-use Prim.Native.Nat.{ℕ, suc, ◌+◌, ◌*◌, ◌<◌}
+use Prim.Native.Nat.{ℕ, suc, ◌+◌, ◌*◌, ◌-◌}
 use native.Mathlib.Omega.{arith}
 use mathlib.Core.List.{List, [], ◌∷◌, ◌++◌, append-nil, append_assoc}
-use lib.ListN.{length, set, get_or, length-set}
-use lib.Seq.{sets, set_comm, set-set, get_or-set_same, get_or-set_other}
-use Rattle.datatype.proofs.Sets.{sets_append}
+use lib.ListN.{length, take, drop, set, get_or}
+use lib.Seq.{sets, sets-eq}
+use borrow.Rule.Slice.PartMut.{mid_of, put_mid}
+use Rattle.std.proofs.Common.{length-append}
+use Rattle.std.proofs.Math.Seq.{drop-append-add, drop-append_seam, take-append_seam}
+use Rattle.std.proofs.lemmas.List.{drop-append-le, drop-drop, drop_all, length-drop, take_all}
 use Rattle.datatype.specs.Tree.{Forest, ∅, node, count, Row}
 use Rattle.datatype.specs.Table.{row_words, words_of, table_of}
 use Rattle.datatype.proofs.Table.{length_table}
 use Rattle.parser.specs.Parse.{Name, bare_row, field_row}
-
--- twelve stores are a run of twelve
-pub sets_row : (xs : List ℕ) (i k n p s zs zl : ℕ)
-    → set (set (set (set (set (set (set (set (set (set (set (set xs i k) (i + 1) n) (i + 2) 0) (i + 3) 0) (i + 4) p) (i + 5) s) (i + 6) 0) (i + 7) 0) (i + 8) 0) (i + 9) zs) (i + 10) zl) (i + 11) 0
-    ≡ sets xs i (words_of (bare_row k p s zs zl) n)
-unfolding words_of
-sets_row xs i k n p s zs zl =
-    let e1 : i + 1 ≡ suc i = omega arith in
-    let e2 : i + 2 ≡ suc (suc i) = omega arith in
-    let e3 : i + 3 ≡ suc (suc (suc i)) = omega arith in
-    let e4 : i + 4 ≡ suc (suc (suc (suc i))) = omega arith in
-    let e5 : i + 5 ≡ suc (suc (suc (suc (suc i)))) = omega arith in
-    let e6 : i + 6 ≡ suc (suc (suc (suc (suc (suc i))))) = omega arith in
-    let e7 : i + 7 ≡ suc (suc (suc (suc (suc (suc (suc i)))))) = omega arith in
-    let e8 : i + 8 ≡ suc (suc (suc (suc (suc (suc (suc (suc i))))))) = omega arith in
-    let e9 : i + 9 ≡ suc (suc (suc (suc (suc (suc (suc (suc (suc i)))))))) = omega arith in
-    let e10 : i + 10 ≡ suc (suc (suc (suc (suc (suc (suc (suc (suc (suc i))))))))) = omega arith in
-    let e11 : i + 11 ≡ suc (suc (suc (suc (suc (suc (suc (suc (suc (suc (suc i)))))))))) = omega arith in
-    rw (e1, e2, e3, e4, e5, e6, e7, e8, e9, e10, e11)
-
--- a store below a run may come first or last
-pub sets_set : (xs : List ℕ) (j v i : ℕ) (vs : List ℕ) → j < i → sets (set xs j v) i vs ≡ set (sets xs i vs) j v
-sets_set xs j v i [] h = refl
-sets_set xs j v i (w ∷ vs) h =
-    ap (λ (l : List ℕ). sets l (suc i) vs) (set_comm xs j i v w (λ e. omega arith))
-    ∙ sets_set (set xs i w) j v (suc i) vs (omega arith)
-
--- stores behind stores, the first written last
-pub sets_before : (xs : List ℕ) (i : ℕ) (vs ws : List ℕ) → sets (sets xs (i + length vs) ws) i vs ≡ sets xs i (vs ++ ws)
-sets_before xs i [] ws = ap (λ (k : ℕ). sets xs k ws) (omega arith)
-sets_before xs i (v ∷ vs) ws =
-    ap (λ (l : List ℕ). sets l (suc i) vs) (sym (sets_set xs i v (i + suc (length vs)) ws (omega arith)))
-    ∙ ap (λ (k : ℕ). sets (sets (set xs i v) k ws) (suc i) vs) (omega arith)
-    ∙ sets_before (set xs i v) (suc i) vs ws
-
--- a run of as many words over the start of a run
-pub sets_over : (xs : List ℕ) (i : ℕ) (vs us ws : List ℕ) → length us ≡ length vs → sets (sets xs i (vs ++ ws)) i us ≡ sets xs i (us ++ ws)
-sets_over xs i [] [] ws h = refl
-sets_over xs i [] (u ∷ us) ws h = absurd (omega arith)
-sets_over xs i (v ∷ vs) [] ws h = absurd (omega arith)
-sets_over xs i (v ∷ vs) (u ∷ us) ws h =
-    ap (λ (l : List ℕ). sets l (suc i) us) (sym (sets_set (set xs i v) i u (suc i) (vs ++ ws) (omega arith)) ∙ ap (λ (l : List ℕ). sets l (suc i) (vs ++ ws)) (set-set xs i v u))
-    ∙ sets_over (set xs i u) (suc i) vs us ws (omega arith)
-
--- a run over a part of a run
-pub sets_inside : (xs : List ℕ) (i : ℕ) (hs vs us ws : List ℕ) → length us ≡ length vs
-    → sets (sets xs i (hs ++ (vs ++ ws))) (i + length hs) us ≡ sets xs i (hs ++ (us ++ ws))
-sets_inside xs i hs vs us ws h =
-    ap (λ (l : List ℕ). sets l (i + length hs) us) (sym (sets_append xs i hs (vs ++ ws)))
-    ∙ sets_over (sets xs i hs) (i + length hs) vs us ws h
-    ∙ sets_append xs i hs (us ++ ws)
-
--- ---- rows
-
--- the table of one tree
-pub table_one : (r : Row) (kids : Forest Row) → table_of (node r kids ∅) ≡ words_of r (suc (count kids)) ++ table_of kids
-unfolding table_of
-table_one r kids = ap (λ (l : List ℕ). words_of r (suc (count kids)) ++ l) (append-nil (table_of kids))
-
--- a row that is written in front of its children
-pub in_front : (before mid after : List ℕ) (row n : ℕ) (r : Row) (kids : Forest Row)
-    → mid ≡ sets before (row_words * (row + 1)) (table_of kids) → after ≡ sets mid (row_words * row) (words_of r n) → n ≡ suc (count kids)
-    → after ≡ sets before (row_words * row) (table_of (node r kids ∅))
-unfolding words_of
-in_front before mid after row n r kids m a e =
-    a
-    ∙ ap (λ (l : List ℕ). sets l (row_words * row) (words_of r n)) (m ∙ ap (λ (i : ℕ). sets before i (table_of kids)) (omega arith))
-    ∙ sets_before before (row_words * row) (words_of r n) (table_of kids)
-    ∙ ap (λ (i : ℕ). sets before (row_words * row) (words_of r i ++ table_of kids)) e
-    ∙ ap (λ (l : List ℕ). sets before (row_words * row) l) (sym (table_one r kids))
-
--- a row that is made a field's
-pub as_field : (before mid after : List ℕ) (row role id : ℕ) (n : Name) (r : Row) (kids : Forest Row)
-    → mid ≡ sets before (row_words * row) (table_of (node r kids ∅))
-    → after ≡ sets (sets mid (row_words * row + 2) (role ∷ id ∷ [])) (row_words * row + 6) (n.home ∷ n.start ∷ n.size ∷ [])
-    → after ≡ sets before (row_words * row) (table_of (node (field_row role id n r) kids ∅))
-unfolding words_of
-as_field before mid after row role id n r kids m a =
-    let i = row_words * row in
-    let c = suc (count kids) in
-    let ws = table_of kids in
-    a
-    ∙ ap (λ (l : List ℕ). sets (sets l (i + 2) (role ∷ id ∷ [])) (i + 6) (n.home ∷ n.start ∷ n.size ∷ [])) (m ∙ ap (λ (l : List ℕ). sets before i l) (table_one r kids))
-    ∙ ap (λ (l : List ℕ). sets l (i + 6) (n.home ∷ n.start ∷ n.size ∷ []))
-    (sets_inside before i (r.kind ∷ c ∷ []) (r.role ∷ r.union_id ∷ []) (role ∷ id ∷ []) (r.number ∷ r.scale ∷ r.home ∷ r.name_start ∷ r.name_length ∷ r.zone_start ∷ r.zone_length ∷ r.parent ∷ ws) refl)
-    ∙ sets_inside before i (r.kind ∷ c ∷ role ∷ id ∷ r.number ∷ r.scale ∷ []) (r.home ∷ r.name_start ∷ r.name_length ∷ []) (n.home ∷ n.start ∷ n.size ∷ []) (r.zone_start ∷ r.zone_length ∷ r.parent ∷ ws) refl
-    ∙ ap (λ (l : List ℕ). sets before i l) (sym (table_one (field_row role id n r) kids))
-
--- a word before a run of stores is as it was
-before_run : (xs : List ℕ) (i j : ℕ) (vs : List ℕ) → j < i → get_or (sets xs i vs) j 0 ≡ get_or xs j 0
-before_run xs i j [] h = refl
-before_run xs i j (v ∷ vs) h = before_run (set xs i v) (suc i) j vs (omega arith) ∙ get_or-set_other xs i j v 0 (λ e. omega arith)
-
--- a row says how many rows its tree has
-pub rows_said : (before after : List ℕ) (row : ℕ) (r : Row) (kids : Forest Row) → row_words * row + 1 < length before
-    → after ≡ sets before (row_words * row) (table_of (node r kids ∅)) → get_or after (row_words * row + 1) 0 ≡ suc (count kids)
-unfolding words_of
-rows_said before after row r kids h e =
-    let i = row_words * row in
-    let c = suc (count kids) in
-    let ws : List ℕ = r.role ∷ r.union_id ∷ r.number ∷ r.scale ∷ r.home ∷ r.name_start ∷ r.name_length ∷ r.zone_start ∷ r.zone_length ∷ r.parent ∷ table_of kids in
-    let next : i + 1 ≡ suc i = omega arith in
-    let there : suc i < length (set before i r.kind) = omega (arith, length-set before i r.kind) in
-    ap (λ (l : List ℕ). get_or l (i + 1) 0) (e ∙ ap (λ (l : List ℕ). sets before i l) (table_one r kids))
-    ∙ ap (λ (j : ℕ). get_or (sets before i (r.kind ∷ c ∷ ws)) j 0) next
-    ∙ before_run (set (set before i r.kind) (suc i) c) (suc (suc i)) (suc i) ws (omega arith)
-    ∙ get_or-set_same (set before i r.kind) (suc i) c 0 there
+use Rattle.parser.specs.Internal.Steps.{Stored, rows_left}
 
 -- ---- runs of trees, one behind the other
 
@@ -128,7 +25,7 @@ pub count_append : (f g : Forest Row) → count (append f g) ≡ count f + count
 count_append ∅ g = omega arith
 count_append (node r kids next) g = omega (arith, count_append next g)
 
-pub table_append : (f g : Forest Row) → table_of (append f g) ≡ table_of f ++ table_of g
+table_append : (f g : Forest Row) → table_of (append f g) ≡ table_of f ++ table_of g
 unfolding table_of
 table_append ∅ g = refl
 table_append (node r kids next) g =
@@ -144,13 +41,139 @@ pub append_append : (f g h : Forest Row) → append (append f g) h ≡ append f 
 append_append ∅ g h = refl
 append_append (node r kids next) g h = ap (λ (f : Forest Row). node r kids f) (append_append next g h)
 
--- a run that is written where another ends
-pub written_behind : (before mid after : List ℕ) (row next : ℕ) (f g : Forest Row)
-    → mid ≡ sets before (row_words * row) (table_of f) → after ≡ sets mid (row_words * next) (table_of g) → next ≡ row + count f
-    → after ≡ sets before (row_words * row) (table_of (append f g))
-written_behind before mid after row next f g m a e =
-    a
-    ∙ ap (λ (l : List ℕ). sets l (row_words * next) (table_of g)) m
-    ∙ ap (λ (i : ℕ). sets (sets before (row_words * row) (table_of f)) i (table_of g)) (omega (arith, length_table f))
-    ∙ sets_append before (row_words * row) (table_of f) (table_of g)
-    ∙ ap (λ (l : List ℕ). sets before (row_words * row) l) (sym (table_append f g))
+-- ---- a run that was stored
+
+module _ (f : Forest Row) (before after : List ℕ) (s : Stored f before after) where
+  -- its table stands first, and behind it what stood there
+  pub first_words : take (row_words * count f) after ≡ table_of f
+  first_words = rw (s.rows, ← length_table f) (take-append_seam (table_of f) (drop (length (table_of f)) before))
+
+  words_behind : drop (row_words * count f) after ≡ drop (row_words * count f) before
+  words_behind = rw (s.rows, ← length_table f) (drop-append_seam (table_of f) (drop (length (table_of f)) before))
+
+  pub same_length : length after ≡ length before
+  same_length =
+      let r = s.room in
+      ap length s.rows ∙ omega (arith, length-append (table_of f) (drop (row_words * count f) before), length_table f, length-drop (row_words * count f) before)
+
+  -- more words behind stay as they were
+  pub further : (rest : List ℕ) → Stored f (before ++ rest) (after ++ rest)
+  further rest = record {
+    room = let r = s.room in omega (arith, length-append before rest);
+    rows =
+        ap (λ (l : List ℕ). l ++ rest) s.rows
+        ∙ append_assoc (table_of f) (drop (row_words * count f) before) rest
+        ∙ ap (λ (l : List ℕ). table_of f ++ l) (sym (drop-append-le (row_words * count f) before rest s.room));
+  }
+
+-- the words from a row on, and the same words with others in their place
+abbrev pub rows_from : ℕ → List ℕ → List ℕ
+rows_from k xs = mid_of (row_words * k) (length xs - row_words * k) xs
+
+abbrev pub with_rows : ℕ → List ℕ → List ℕ → List ℕ
+with_rows k xs ys = put_mid (row_words * k) (length xs - row_words * k) xs ys
+
+from_is : (k : ℕ) (xs : List ℕ) → rows_from k xs ≡ drop (row_words * k) xs
+from_is k xs = take_all (length xs - row_words * k) (drop (row_words * k) xs) (omega (arith, length-drop (row_words * k) xs))
+
+with_is : (k : ℕ) (xs ys : List ℕ) → with_rows k xs ys ≡ take (row_words * k) xs ++ ys
+with_is k xs ys =
+    ap (λ (l : List ℕ). take (row_words * k) xs ++ (ys ++ l)) (drop_all (length xs - row_words * k) (drop (row_words * k) xs) (omega (arith, length-drop (row_words * k) xs)))
+    ∙ ap (λ (l : List ℕ). take (row_words * k) xs ++ l) (append-nil ys)
+
+pub from_length : (k : ℕ) (xs : List ℕ) → length (rows_from k xs) ≡ length xs - row_words * k
+from_length k xs = ap length (from_is k xs) ∙ length-drop (row_words * k) xs
+
+-- a run behind a run of so many rows
+module _ (f : Forest Row) (before mid : List ℕ) (used : ℕ) (e : used ≡ count f) (s : Stored f before mid) where
+  pub left_behind : rows_left (rows_from used mid) ≡ rows_left before - used
+  left_behind =
+      let l = same_length f before mid s in
+      ap rows_left (from_is used mid) ∙ omega (arith, length-drop (row_words * used) mid)
+
+  module _ (g : Forest Row) (sub : List ℕ) (t : Stored g (rows_from used mid) sub) where
+    rest : drop (row_words * count g) (rows_from used mid) ≡ drop (row_words * count (append f g)) before
+    rest =
+        ap (λ (l : List ℕ). drop (row_words * count g) l) (from_is used mid ∙ ap (λ (i : ℕ). drop (row_words * i) mid) e ∙ words_behind f before mid s)
+        ∙ drop-drop (row_words * count g) (row_words * count f) before
+        ∙ ap (λ (i : ℕ). drop i before) (omega (arith, count_append f g))
+
+    pub follows : Stored (append f g) before (with_rows used mid sub)
+    follows =
+        let a = s.room in
+        let b = t.room in
+        let l = same_length f before mid s in
+        let n = from_length used mid in
+        record {
+          room = omega (arith, count_append f g);
+          rows =
+              with_is used mid sub
+              ∙ ap (λ (i : ℕ). take (row_words * i) mid ++ sub) e
+              ∙ ap (λ (l : List ℕ). l ++ sub) (first_words f before mid s)
+              ∙ ap (λ (l : List ℕ). table_of f ++ l) (t.rows ∙ ap (λ (l : List ℕ). table_of g ++ l) rest)
+              ∙ sym (append_assoc (table_of f) (table_of g) (drop (row_words * count (append f g)) before))
+              ∙ ap (λ (l : List ℕ). l ++ drop (row_words * count (append f g)) before) (sym (table_append f g));
+        }
+
+-- ---- rows
+
+-- twelve stores are the words of a row
+pub row_set : (xs : List ℕ) (k n p s zs zl : ℕ) → length xs ≡ row_words
+    → set (set (set (set (set (set (set (set (set (set (set (set xs 0 k) 1 n) 2 0) 3 0) 4 p) 5 s) 6 0) 7 0) 8 0) 9 zs) 10 zl) 11 0 ≡ words_of (bare_row k p s zs zl) n
+unfolding words_of
+row_set xs k n p s zs zl e =
+    let ws : List ℕ = k ∷ n ∷ 0 ∷ 0 ∷ p ∷ s ∷ 0 ∷ 0 ∷ 0 ∷ zs ∷ zl ∷ 0 ∷ [] in
+    sets-eq ws xs 0 (omega arith) ∙ ap (λ (l : List ℕ). ws ++ l) (drop_all row_words xs (omega arith))
+
+-- the table of one tree
+table_one : (r : Row) (kids : Forest Row) → table_of (node r kids ∅) ≡ words_of r (suc (count kids)) ++ table_of kids
+unfolding table_of
+table_one r kids = ap (λ (l : List ℕ). words_of r (suc (count kids)) ++ l) (append-nil (table_of kids))
+
+-- a row in front of its children's
+pub in_front : (r : Row) (kids : Forest Row) (row row₂ before after : List ℕ) (n : ℕ) → length row ≡ row_words → Stored kids before after → n ≡ suc (count kids) → row₂ ≡ words_of r n
+    → Stored (node r kids ∅) (row ++ before) (row₂ ++ after)
+in_front r kids row row₂ before after n e s u w =
+    let c = suc (count kids) in
+    let d : row_words * count (node r kids ∅) ≡ length row + row_words * count kids = omega arith in
+    let m = s.room in
+    record {
+      room = omega (arith, length-append row before);
+      rows =
+          ap (λ (l : List ℕ). l ++ after) (w ∙ ap (words_of r) u)
+          ∙ ap (λ (l : List ℕ). words_of r c ++ l) s.rows
+          ∙ sym (append_assoc (words_of r c) (table_of kids) (drop (row_words * count kids) before))
+          ∙ ap (λ (l : List ℕ). l ++ drop (row_words * count kids) before) (sym (table_one r kids))
+          ∙ ap (λ (l : List ℕ). table_of (node r kids ∅) ++ l) (sym (ap (λ (i : ℕ). drop i (row ++ before)) d ∙ drop-append-add row before (row_words * count kids)));
+    }
+
+-- a row without children
+pub alone : (r : Row) (row row₂ : List ℕ) → length row ≡ row_words → row₂ ≡ words_of r 1 → Stored (node r ∅ ∅) row row₂
+unfolding table_of words_of
+alone r row row₂ e w = record { room = omega arith; rows = w ∙ sym (ap (λ (l : List ℕ). words_of r 1 ++ l) (drop_all row_words row (omega arith))) }
+
+-- a row that is made a field's
+module _ (role id : ℕ) (n : Name) (r : Row) (kids : Forest Row) (before mid after : List ℕ) (s : Stored (node r kids ∅) before mid)
+    (w : after ≡ sets (sets mid 2 (role ∷ id ∷ [])) 6 (n.home ∷ n.start ∷ n.size ∷ [])) where
+  pub as_field : Stored (node (field_row role id n r) kids ∅) before after
+  unfolding words_of
+  as_field =
+      let rest = drop (row_words * count (node r kids ∅)) before in
+      record {
+        room = s.room;
+        rows =
+            w
+            ∙ ap (λ (l : List ℕ). sets (sets l 2 (role ∷ id ∷ [])) 6 (n.home ∷ n.start ∷ n.size ∷ [])) (s.rows ∙ ap (λ (l : List ℕ). l ++ rest) (table_one r kids))
+            ∙ ap (λ (l : List ℕ). l ++ rest) (sym (table_one (field_row role id n r) kids));
+      }
+
+-- the words of a tree's first row
+module _ (r : Row) (kids : Forest Row) (before after : List ℕ) (s : Stored (node r kids ∅) before after) where
+  first_row : after ≡ words_of r (suc (count kids)) ++ (table_of kids ++ drop (row_words * count (node r kids ∅)) before)
+  first_row =
+      s.rows ∙ ap (λ (l : List ℕ). l ++ drop (row_words * count (node r kids ∅)) before) (table_one r kids)
+      ∙ append_assoc (words_of r (suc (count kids))) (table_of kids) (drop (row_words * count (node r kids ∅)) before)
+
+  pub role_said : get_or after 2 0 ≡ r.role
+  unfolding words_of
+  role_said = ap (λ (l : List ℕ). get_or l 2 0) first_row

@@ -1,58 +1,70 @@
 -- Tokens where one is needed or looked for: each return of the small functions as a law.
-use Rattle.std.specs.Prelude.{if◌then◌else◌, Some, None, nat_abs}
-use mathlib.Core.Path.{◌≡◌, refl, sym, ap, ◌∙◌, subst}
-use mathlib.Core.Bool.{true, false, not}
+use Rattle.std.specs.Prelude.{Some, None, nat_abs}
+use mathlib.Core.Path.{◌≡◌, refl, sym, ap, ◌∙◌}
+use mathlib.Core.Bool.{true, false}
 use mathlib.Core.List.{List, [], ◌∷◌}
-use Prim.Native.Nat.{ℕ, ◌+◌, ◌-◌, ◌≤◌, ◌<◌}
+use Prim.Native.Nat.{ℕ, ◌+◌, ◌≤◌, ◌<◌}
 use native.Mathlib.Omega.{arith}
 use lib.ListN.{length, get_or}
 use lib.IntN.{ℤ, pos, negsuc}
 use lib.Dec.{T, eqb}
 use borrow.Author.Tests.{eq-eqb, ne_eqb}
-use types.Run.{OneOf, miss}
-use mir.Val.{has_key}
-use denote.Enum.Declared.{tag_of}
-use Rattle.tokenizer.specs.contracts.TokenKind.{the_type}
-use Rattle.tokenizer.specs.Answer.{Out, done, refuse}
+use Rattle.tokenizer.specs.Answer.{Out, done, refuse, number_of, answer_of}
 use Rattle.tokenizer.specs.Places.{after_spaces}
-use Rattle.tokenizer.specs.Token.{Standing, token, token_at, token_or_refusal, sort_of, value_of, signed, is_below_zero, no_token, integer, nullability}
+use Rattle.tokenizer.specs.Token.{Standing, token, token_at, token_or_refusal, sort_of, value_of, is_negative, signed, is_below_zero, no_token, integer, type_word, time_unit, interval_unit, union_mode, map_sorted, nullability}
 use Rattle.tokenizer.specs.declared.Token.{Token}
 use Rattle.tokenizer.specs.declared.TokenKind.{TokenKind}
 use Rattle.tokenizer.specs.declared.TokenKind.TheVariants as K
 use Rattle.tokenizer.proofs.Marks as Marks
 use Rattle.tokenizer.proofs.Basics.{of_true}
 use Rattle.tokenizer.proofs.Tokens.{token-spaces, token_end}
-use Rattle.tokenizer.proofs.Runs.{spaces-stop}
+use Rattle.tokenizer.proofs.Runs.{spaces-out, spaces-stop, spaces-go}
 use Rattle.parser.specs.Parse.{refusal_of, need, stands, role_at, after_role}
-use Rattle.parser.specs.Internal.Steps.{mark_sort, is_mark, next_of, look_of, word_of, integer_of, signed_of, span_of}
-use Rattle.parser.specs.declared.Word.{Word}
+use Rattle.parser.specs.Internal.Steps.{mark_sort, is_mark, next_of, look_of, word_of, integer_of, span_of}
+use Rattle.parser.specs.declared.ReadValue.{ReadValue}
 use Rattle.parser.specs.declared.Span.{Span}
-use Rattle.parser.proofs.Answers.{standing, got_token, lost_token}
+use Rattle.std.specs.Prelude.{Result}
+use Rattle.std.specs.Result.{IsErrAnd}
+use Rattle.tokenizer.specs.declared.refusal.Refusal as R
+use Rattle.parser.proofs.Answers.{standing, got_token, lost_token, handed}
 use Rattle.parser.proofs.Looks.{need-is, need-not}
 
--- ---- sorts and tags: a token's sort is one more than its tag
+-- ---- kinds and their sorts
 
-abbrev pub tag_for : ℕ → ℕ
-tag_for s = s - 1
+signed_back : (z : ℤ) → signed (is_below_zero z) (nat_abs z) ≡ z
+signed_back (pos n) = refl
+signed_back (negsuc n) = refl
 
-sort_of_tag : (k : TokenKind) → sort_of (done k) ≡ tag_of the_type k + 1
-sort_of_tag K.LParen = refl
-sort_of_tag K.RParen = refl
-sort_of_tag K.Comma = refl
-sort_of_tag K.Colon = refl
-sort_of_tag (K.Integer b) = refl
-sort_of_tag K.DoubleQuotedString = refl
-sort_of_tag K.SingleQuotedString = refl
-sort_of_tag (K.DataType k) = refl
-sort_of_tag (K.TimeUnit u) = refl
-sort_of_tag (K.IntervalUnit u) = refl
-sort_of_tag (K.UnionMode m) = refl
-sort_of_tag (K.MapSorted b) = refl
-sort_of_tag (K.Nullability r) = refl
-sort_of_tag K.Field = refl
-sort_of_tag K.Some = refl
-sort_of_tag K.None = refl
-sort_of_tag K.X = refl
+-- the kind of each sort, from 0 on, that says what a kind says
+abbrev pub of_sort : TokenKind → ℕ → TokenKind
+of_sort k sort =
+    let v = value_of (done k) in
+    get_or (k ∷ K.LParen ∷ K.RParen ∷ K.Comma ∷ K.Colon ∷ K.Integer (signed (is_negative (done k)) v) ∷ K.DoubleQuotedString ∷ K.SingleQuotedString ∷ K.DataType v ∷ K.TimeUnit v
+    ∷ K.IntervalUnit v ∷ K.UnionMode v ∷ K.MapSorted v ∷ K.Nullability v ∷ K.Field ∷ K.Some ∷ K.None ∷ K.X ∷ []) sort k
+
+-- a kind is that of its sort
+told : (k : TokenKind) → k ≡ of_sort k (sort_of (done k))
+told K.LParen = refl
+told K.RParen = refl
+told K.Comma = refl
+told K.Colon = refl
+told (K.Integer b) = ap K.Integer (sym (signed_back b))
+told K.DoubleQuotedString = refl
+told K.SingleQuotedString = refl
+told (K.DataType k) = refl
+told (K.TimeUnit u) = refl
+told (K.IntervalUnit u) = refl
+told (K.UnionMode m) = refl
+told (K.MapSorted b) = refl
+told (K.Nullability r) = refl
+told K.Field = refl
+told K.Some = refl
+told K.None = refl
+told K.X = refl
+
+-- a kind that is not that of a sort is of another sort
+pub other_sort : (sort : ℕ) (k : TokenKind) → (k ≡ of_sort k sort → ⊥) → eqb (sort_of (done k)) sort ≡ false
+other_sort sort k n = ne_eqb (sort_of (done k)) sort (λ e. n (told k ∙ ap (of_sort k) e))
 
 -- a token of another sort is refused with 9
 pub nine : (k : TokenKind) → refusal_of (done k) ≡ 9
@@ -74,20 +86,6 @@ nine K.Some = refl
 nine K.None = refl
 nine K.X = refl
 
--- all tags but one
-abbrev without : ℕ → List ℕ → List ℕ
-without t [] = []
-without t (x ∷ xs) = if eqb x t then without t xs else (x ∷ without t xs)
-
-abbrev pub but : ℕ → List ℕ
-but t = without t (0 ∷ 1 ∷ 2 ∷ 3 ∷ 4 ∷ 5 ∷ 6 ∷ 7 ∷ 8 ∷ 9 ∷ 10 ∷ 11 ∷ 12 ∷ 13 ∷ 14 ∷ 15 ∷ 16 ∷ [])
-
--- the arm of all tags but one
-pub other_sort : (sort : ℕ) (others : List ℕ) (k : TokenKind) → T (not (has_key others (tag_for sort))) → OneOf others (tag_of the_type k) → eqb (sort_of (done k)) sort ≡ false
-other_sort sort others k h o =
-    ne_eqb (sort_of (done k)) sort
-    (λ e. let t : tag_of the_type k ≡ tag_for sort = omega (arith, sort_of_tag k) in miss others (tag_for sort) h (subst (OneOf others) t o))
-
 -- ---- one token, taken or refused
 
 module _ (text : List ℕ) (sort at : ℕ) (t : Standing) (e : t ≡ token_at text at) where
@@ -102,31 +100,35 @@ module _ (text : List ℕ) (sort at : ℕ) (t : Token) (e : done t ≡ token_or_
   taken : sort_of (done t.kind) ≡ sort → need text sort at ≡ done (standing t)
   taken s = here text sort at (standing t) (sym (got_token (token_at text at) t e)) s
 
-  pub word-here : (v : ℕ) → sort_of (done t.kind) ≡ sort → value_of (done t.kind) ≡ v → ◌≡◌ {A = Out Word} (done (record { value = v; next = t.next })) (word_of (need text sort at))
+  word-here : (k : TokenKind) (v : ℕ) → t.kind ≡ k → sort_of (done k) ≡ sort → value_of (done k) ≡ v → ◌≡◌ {A = Out (ReadValue ℕ)} (done (record { value = v; next = t.next })) (word_of (need text sort at))
   unfolding word_of
-  word-here v s w = rw (taken s, w)
+  word-here k v q s w = rw (taken (ap (λ (x : TokenKind). sort_of (done x)) q ∙ s), q, w)
 
-  pub span-here : sort_of (done t.kind) ≡ sort → ◌≡◌ {A = Out Span} (done (record { start = t.start; size = t.size; next = t.next })) (span_of (need text sort at))
-  unfolding span_of
-  span-here s = rw (taken s)
+  module _ (q : t.kind ≡ of_sort t.kind sort) (s : sort_of (done (of_sort t.kind sort)) ≡ sort) where
+    same_sort : sort_of (done t.kind) ≡ sort
+    same_sort = ap (λ (k : TokenKind). sort_of (done k)) q ∙ s
 
-  pub next-here : sort_of (done t.kind) ≡ sort → done t.next ≡ next_of (need text sort at)
-  unfolding next_of
-  next-here s = rw (taken s)
+    pub span-here : ◌≡◌ {A = Out Span} (done (record { start = t.start; size = t.size; next = t.next })) (span_of (need text sort at))
+    unfolding span_of
+    span-here = rw (taken same_sort)
 
-  pub look-here : sort_of (done t.kind) ≡ sort → Some t.next ≡ look_of (need text sort at)
-  unfolding look_of
-  look-here s = rw (taken s)
+    pub next-here : done t.next ≡ next_of (need text sort at)
+    unfolding next_of
+    next-here = rw (taken same_sort)
 
-  pub stands_here : sort_of (done t.kind) ≡ sort → true ≡ stands text sort at
-  unfolding stands
-  stands_here s = sym (eq-eqb _ sort (ap (λ (x : Standing). sort_of x.kind) (got_token (token_at text at) t e) ∙ s))
+    pub look-here : Some t.next ≡ look_of (need text sort at)
+    unfolding look_of
+    look-here = rw (taken same_sort)
+
+    pub stands_here : true ≡ stands text sort at
+    unfolding stands
+    stands_here = sym (eq-eqb _ sort (ap (λ (x : Standing). sort_of x.kind) (got_token (token_at text at) t e) ∙ same_sort))
 
   -- and where it is of another
-  module _ (others : List ℕ) (h : T (not (has_key others (tag_for sort)))) (o : OneOf others (tag_of the_type t.kind)) where
+  module _ (n : t.kind ≡ of_sort t.kind sort → ⊥) where
     pub gone : need text sort at ≡ refuse 9
     gone =
-        not-here text sort at (standing t) (sym (got_token (token_at text at) t e)) (other_sort sort others t.kind h o)
+        not-here text sort at (standing t) (sym (got_token (token_at text at) t e)) (other_sort sort t.kind n)
         ∙ ap (λ (n : ℕ). refuse n) (nine t.kind)
 
     pub look-gone : None ≡ look_of (need text sort at)
@@ -135,7 +137,27 @@ module _ (text : List ℕ) (sort at : ℕ) (t : Token) (e : done t ≡ token_or_
 
     pub stands-gone : false ≡ stands text sort at
     unfolding stands
-    stands-gone = sym (ap (λ (x : Standing). eqb (sort_of x.kind) sort) (got_token (token_at text at) t e) ∙ other_sort sort others t.kind h o)
+    stands-gone = sym (ap (λ (x : Standing). eqb (sort_of x.kind) sort) (got_token (token_at text at) t e) ∙ other_sort sort t.kind n)
+
+-- the words, each of its sort
+module _ (text : List ℕ) (at : ℕ) (t : Token) (e : done t ≡ token_or_refusal (token_at text at)) (v : ℕ) where
+  abbrev read_word : Out (ReadValue ℕ)
+  read_word = done (record { value = v; next = t.next })
+
+  pub type-word-here : t.kind ≡ K.DataType v → read_word ≡ word_of (need text type_word at)
+  type-word-here q = word-here text type_word at t e (K.DataType v) v q refl refl
+
+  pub time-unit-here : t.kind ≡ K.TimeUnit v → read_word ≡ word_of (need text time_unit at)
+  time-unit-here q = word-here text time_unit at t e (K.TimeUnit v) v q refl refl
+
+  pub interval-unit-here : t.kind ≡ K.IntervalUnit v → read_word ≡ word_of (need text interval_unit at)
+  interval-unit-here q = word-here text interval_unit at t e (K.IntervalUnit v) v q refl refl
+
+  pub union-mode-here : t.kind ≡ K.UnionMode v → read_word ≡ word_of (need text union_mode at)
+  union-mode-here q = word-here text union_mode at t e (K.UnionMode v) v q refl refl
+
+  pub map-sorted-here : t.kind ≡ K.MapSorted v → read_word ≡ word_of (need text map_sorted at)
+  map-sorted-here q = word-here text map_sorted at t e (K.MapSorted v) v q refl refl
 
 -- where no token was read
 module _ (text : List ℕ) (sort at : ℕ) (n : eqb no_token sort ≡ false) (x : ℕ) (e : refuse x ≡ token_or_refusal (token_at text at)) where
@@ -171,15 +193,11 @@ module _ (o : Out Standing) (x : ℕ) (e : o ≡ refuse x) where
   unfolding integer_of
   integer-refused = rw e
 
-  pub number-refused : refuse x ≡ signed_of o
-  unfolding signed_of
-  number-refused = rw e
+-- what `?` hands on, where a token is needed
+pub word_lost : (text : List ℕ) (sort at : ℕ) (r : Result (ReadValue ℕ) R.Refusal) (e : R.Refusal) → eqb no_token sort ≡ false → refuse (number_of e) ≡ token_or_refusal (token_at text at) → IsErrAnd r (λ y. y ≡ e) → answer_of r ≡ word_of (need text sort at)
+word_lost text sort at r e n t h = handed (word_of (need text sort at)) r e h (word-refused (need text sort at) (number_of e) (lost text sort at n (number_of e) t))
 
 -- ---- numbers
-
-signed_back : (z : ℤ) → signed (is_below_zero z) (nat_abs z) ≡ z
-signed_back (pos n) = refl
-signed_back (negsuc n) = refl
 
 module _ (text : List ℕ) (at : ℕ) (t : Token) (e : done t ≡ token_or_refusal (token_at text at)) (z : ℤ) (k : t.kind ≡ K.Integer z) where
   pub integer-found : done (record { value = z; next = t.next }) ≡ integer_of (need text integer at)
@@ -234,35 +252,51 @@ module _ (text : List ℕ) (at from mark : ℕ) (f : from ≡ after_spaces text 
         ∙ ap (λ (s : Standing). refuse (refusal_of s.kind)) (got_token (token_at text from) t e)
         ∙ ap (λ (n : ℕ). refuse n) (nine t.kind)
 
-  pub look-over : length text ≤ from → None ≡ look_of (need text (mark_sort mark) at)
+  look-over : length text ≤ from → None ≡ look_of (need text (mark_sort mark) at)
   unfolding look_of
   look-over h = rw (over text at mark (of_true (is_mark mark) m) (rw f at h))
 
-  pub look-found : from < length text → get_or text from 0 ≡ mark → Some (from + 1) ≡ look_of (need text (mark_sort mark) at)
+  look-found : from < length text → get_or text from 0 ≡ mark → Some (from + 1) ≡ look_of (need text (mark_sort mark) at)
   unfolding look_of
   look-found h e = rw (found text at mark (of_true (is_mark mark) m) (rw f at h) (rw f at e), f)
 
-  pub look-other : (get_or text from 0 ≡ mark → ⊥) → None ≡ look_of (need text (mark_sort mark) at)
+  look-other : (get_or text from 0 ≡ mark → ⊥) → None ≡ look_of (need text (mark_sort mark) at)
   unfolding look_of
   look-other h = rw (other text at mark (of_true (is_mark mark) m) (rw f at h))
 
 -- a mark is no space, and more than 0
-pub mark_no_space : (m : ℕ) → is_mark m ≡ true → m ≡ 32 → ⊥
+mark_no_space : (m : ℕ) → is_mark m ≡ true → m ≡ 32 → ⊥
 mark_no_space m h = Marks.marks (λ (x : ℕ). x ≡ 32 → ⊥) (λ z. omega arith) (λ z. omega arith) (λ z. omega arith) (λ z. omega arith) m (of_true (is_mark m) h)
 
-pub mark_more : (m : ℕ) → is_mark m ≡ true → 0 < m
+mark_more : (m : ℕ) → is_mark m ≡ true → 0 < m
 mark_more m h = Marks.marks (λ (x : ℕ). 0 < x) (omega arith) (omega arith) (omega arith) (omega arith) m (of_true (is_mark m) h)
 
 -- with no space before it
 module _ (text : List ℕ) (at mark : ℕ) (m : is_mark mark ≡ true) (h : at < length text) (e : get_or text at 0 ≡ mark) where
-  no_space_lem : at ≡ after_spaces text at
-  no_space_lem = sym (spaces-stop text at h (λ z. mark_no_space mark m (sym e ∙ z)))
+  no-space : at ≡ after_spaces text at
+  no-space = sym (spaces-stop text at h (λ z. mark_no_space mark m (sym e ∙ z)))
 
   pub expect-at : done (at + 1) ≡ next_of (need text (mark_sort mark) at)
-  expect-at = expect-here text at at mark no_space_lem m h e
+  expect-at = expect-here text at at mark no-space m h e
 
   pub look_at : Some (at + 1) ≡ look_of (need text (mark_sort mark) at)
-  look_at = look-found text at at mark no_space_lem m h e
+  look_at = look-found text at at mark no-space m h e
+
+-- looked for from a place on: the text ends, another byte stands there, or there are spaces first
+module _ (text : List ℕ) (at mark : ℕ) (m : is_mark mark ≡ true) where
+  pub look-out : length text ≤ at → None ≡ look_of (need text (mark_sort mark) at)
+  look-out h = look-over text at at mark (sym (spaces-out text at h)) m h
+
+  module _ (h : at < length text) where
+    pub look-first : (get_or text at 0 ≡ 32 → ⊥) → (get_or text at 0 ≡ mark → ⊥) → None ≡ look_of (need text (mark_sort mark) at)
+    look-first s n = look-other text at at mark (sym (spaces-stop text at h s)) m n
+
+    module _ (s : get_or text at 0 ≡ 32) (from : ℕ) (f : from ≡ after_spaces text (at + 1)) where
+      pub look-behind : from < length text → get_or text from 0 ≡ mark → Some (from + 1) ≡ look_of (need text (mark_sort mark) at)
+      look-behind = look-found text at from mark (f ∙ sym (spaces-go text at h s)) m
+
+      pub look-none : (0 < mark → get_or text from 0 ≡ mark → ⊥) → None ≡ look_of (need text (mark_sort mark) at)
+      look-none n = look-other text at from mark (f ∙ sym (spaces-go text at h s)) m (n (mark_more mark m))
 
 -- ---- nullability
 
@@ -287,8 +321,8 @@ module _ (text : List ℕ) (at : ℕ) where
       same-token : token_at text at ≡ standing t
       same-token = same-place ∙ got_token (token_at text from) t e
 
-      pub null-not : (others : List ℕ) → T (not (has_key others (tag_for nullability))) → OneOf others (tag_of the_type t.kind) → (1 ≡ role_at text at) × (at ≡ after_role text at)
-      null-not others h o = plain (ap (λ (x : Standing). eqb (sort_of x.kind) nullability) same-token ∙ other_sort nullability others t.kind h o)
+      pub null-not : (t.kind ≡ of_sort t.kind nullability → ⊥) → (1 ≡ role_at text at) × (at ≡ after_role text at)
+      null-not n = plain (ap (λ (x : Standing). eqb (sort_of x.kind) nullability) same-token ∙ other_sort nullability t.kind n)
 
       pub null-here : (r : ℕ) → t.kind ≡ K.Nullability r → (r ≡ role_at text at) × (t.next ≡ after_role text at)
       unfolding role_at after_role stands

@@ -1,4 +1,4 @@
--- Signed bytes as the rows keep them, and the kinds of types.
+-- Signed bytes as the rows keep them, numbers in their ranges, and the numbers of refusals.
 use Rattle.std.specs.Prelude.{if◌then◌else◌}
 use mathlib.Core.Path.{◌≡◌, refl, sym, ap, ◌∙◌}
 use mathlib.Core.Bool.{false}

@@ -1,40 +1,38 @@
 -- Units, lengths, zones and list names: each return of their functions as a law.
 use Rattle.std.specs.Prelude.{if◌then◌else◌, nat_abs, unsigned_abs}
 use mathlib.Core.Path.{◌≡◌, refl, sym, ap, subst, ◌∙◌}
-use mathlib.Core.Bool.{Bool, true, false, not}
+use mathlib.Core.Bool.{Bool, true, false}
 use mathlib.Core.List.{List}
 use Prim.Native.Nat.{ℕ, ◌+◌, ◌≤◌, ◌<◌}
 use native.Mathlib.Omega.{arith}
 use lib.ListN.{length}
 use lib.IntN.{ℤ}
-use lib.Dec.{T, eqb}
+use lib.Dec.{eqb}
 use borrow.Author.Tests.{eq-eqb, le-leb, lt-leb}
-use types.Run.{OneOf}
-use mir.Val.{has_key, Fits, to_z, of_z}
+use mir.Val.{Fits, to_z, of_z}
 use mir.Syntax.{w8, w32}
 use Rattle.std.specs.Int.{FitsUnsignedBits}
 use Rattle.std.specs.Int.RustNames.{FitsSigned}
 use Rattle.std.proofs.Common.{to_z-of_z}
-use denote.Enum.Declared.{tag_of}
-use Rattle.tokenizer.specs.contracts.TokenKind.{the_type}
 use Rattle.tokenizer.specs.Answer.{Refusal, Out, refused, done, refuse}
-use Rattle.tokenizer.specs.Token.{Standing, token_at, sort_of, is_below_zero, no_token, lparen, rparen, comma, colon, integer, double_quoted, single_quoted, field_word, time_unit, some_word, none_word}
+use Rattle.tokenizer.specs.Token.{Standing, token_at, token_or_refusal, sort_of, is_below_zero, no_token, lparen, rparen, comma, colon, integer, double_quoted, single_quoted, field_word, time_unit, some_word, none_word}
 use Rattle.tokenizer.specs.declared.Token.{Token}
 use Rattle.tokenizer.specs.declared.TokenKind.{TokenKind}
+use Rattle.tokenizer.specs.declared.TokenKind.TheVariants as K
 use Rattle.tokenizer.proofs.Marks.{bounds}
 use Rattle.datatype.specs.Kind.{unit_fits}
 use Rattle.parser.specs.Parse.{Zone, refusal_of, need, stands, number_in, unit_at, some_zone, zone_string, zone_at, list_name_at}
-use Rattle.parser.specs.Internal.Steps.{word_of, signed_of, zone_of}
-use Rattle.parser.specs.declared.Word.{Word}
+use Rattle.parser.specs.Internal.Steps.{word_of, integer_of, zone_of}
+use Rattle.parser.specs.declared.ReadValue.{ReadValue}
 use Rattle.parser.specs.declared.Span.{Span}
 use Rattle.parser.proofs.Holds.{Holds, holds_bind, holds_then, holds_if}
-use Rattle.parser.proofs.Answers.{standing, behind, string, GotWord, GotNumber}
+use Rattle.parser.proofs.Answers.{standing, got_token, got_word, behind, string, GotWord, GotNumber}
 use Rattle.parser.proofs.Values.{sign-is, magnitude-is, byte_in, byte_out, positive, positive_out}
 use Rattle.parser.proofs.Looks.{needed-stands, refused-stands}
-use Rattle.parser.proofs.TokenLaws.{tag_for, here, nine, not-here, other_sort}
+use Rattle.parser.proofs.TokenLaws.{here, nine, not-here, other_sort}
 
 -- a word and a string that were read
-abbrev pub word : ℕ → ℕ → Word
+abbrev pub word : ℕ → ℕ → ReadValue ℕ
 word v n = record { value = v; next = n }
 
 abbrev pub span : ℕ → ℕ → ℕ → Span
@@ -47,14 +45,17 @@ module _ (text : List ℕ) (k at : ℕ) where
   unfolding unit_at word_of
   unit-1 x e = rw e
 
-  module _ (u n : ℕ) (g : GotWord (need text time_unit at) u n) (fits : Bool) (w : fits ≡ unit_fits k u) where
-    pub unit-2 : fits ≡ true → done (word u n) ≡ word_of (unit_at text k at)
-    unfolding unit_at word_of
-    unit-2 z = rw (g.is, g.value, ← w, z, g.value)
+  module _ (u : ReadValue ℕ) (h : done u ≡ word_of (need text time_unit at)) where
+    g : GotWord (need text time_unit at) u.value u.next
+    g = got_word (need text time_unit at) u h
 
-    pub unit-3 : fits ≡ false → refuse 11 ≡ word_of (unit_at text k at)
+    pub unit-2 : (fits : Bool) → fits ≡ unit_fits k u.value → fits ≡ true → done u ≡ word_of (unit_at text k at)
     unfolding unit_at word_of
-    unit-3 z = rw (g.is, g.value, ← w, z)
+    unit-2 fits w z = rw (g.is, g.value, ← w, z, g.value)
+
+    pub unit-3 : (fits : Bool) → fits ≡ unit_fits k u.value → fits ≡ false → refuse 11 ≡ word_of (unit_at text k at)
+    unfolding unit_at word_of
+    unit-3 fits w z = rw (g.is, g.value, ← w, z)
 
 -- a number where one is needed, and its range
 module _ (text : List ℕ) (least most at : ℕ) where
@@ -75,8 +76,8 @@ module _ (text : List ℕ) (least most at : ℕ) where
         let l = le-leb (nat_abs z) (if is_below_zero z then least else most) h in
         rw (g.is, sign-is _ _ _ g, magnitude-is _ _ _ g, l) refl
 
-    pub signed-in : nat_abs z ≤ (if is_below_zero z then least else most) → done (record { value = z; next = n }) ≡ signed_of (number_in text least most at)
-    unfolding signed_of
+    pub signed-in : nat_abs z ≤ (if is_below_zero z then least else most) → done (record { value = z; next = n }) ≡ integer_of (number_in text least most at)
+    unfolding integer_of
     signed-in h = rw (number-in h, g.value)
 
     pub word-in : (v : ℕ) → v ≡ nat_abs z → nat_abs z ≤ (if is_below_zero z then least else most) → done (word v n) ≡ word_of (number_in text least most at)
@@ -95,7 +96,7 @@ module _ (text : List ℕ) (at : ℕ) (z y : ℤ) (n : ℕ) (e : y ≡ z) (g : G
   pub byte-out : (FitsSigned w8 y → ⊥) → number_in text 128 127 at ≡ refuse 10
   byte-out h = number-out text 128 127 at z n g (byte_out z (subst (λ (x : ℤ). FitsSigned w8 x → ⊥) e h))
 
-  pub byte-in : (v : ℤ) → FitsSigned w8 y × (v ≡ y) → done (record { value = to_z w8 (of_z w8 v); next = n }) ≡ signed_of (number_in text 128 127 at)
+  pub byte-in : (v : ℤ) → FitsSigned w8 y × (v ≡ y) → done (record { value = to_z w8 (of_z w8 v); next = n }) ≡ integer_of (number_in text 128 127 at)
   byte-in v h =
       let f = subst (FitsSigned w8) e h.0 in
       let i = h.1 ∙ e in
@@ -173,15 +174,14 @@ module _ (text : List ℕ) (at : ℕ) where
   unfolding zone_string stands need
   zone-lost x w = rw w refl
 
-  pub zone-other : (t : Token) → standing t ≡ token_at text at → (others : List ℕ)
-      → T (not (has_key others (tag_for none_word))) → T (not (has_key others (tag_for some_word))) → T (not (has_key others (tag_for double_quoted)))
-      → OneOf others (tag_of the_type t.kind) → zone_string text at ≡ refuse 9
+  pub zone-other : (t : Token) → done t ≡ token_or_refusal (token_at text at) → (t.kind ≡ K.None → ⊥) → (t.kind ≡ K.Some → ⊥) → (t.kind ≡ K.DoubleQuotedString → ⊥) → zone_string text at ≡ refuse 9
   unfolding zone_string
-  zone-other t e others h₁ h₂ h₃ o =
+  zone-other t h n₁ n₂ n₃ =
+      let e = sym (got_token (token_at text at) t h) in
       rw (
-        stood-not (standing t) e none_word (other_sort none_word others t.kind h₁ o),
-        stood-not (standing t) e some_word (other_sort some_word others t.kind h₂ o),
-        not-here text double_quoted at (standing t) e (other_sort double_quoted others t.kind h₃ o),
+        stood-not (standing t) e none_word (other_sort none_word t.kind n₁),
+        stood-not (standing t) e some_word (other_sort some_word t.kind n₂),
+        not-here text double_quoted at (standing t) e (other_sort double_quoted t.kind n₃),
       ) (ap (λ (n : ℕ). refuse n) (nine t.kind))
 
   -- behind the unit

@@ -1,25 +1,25 @@
-// Types without children, into lent rows. `row` is the next free row.
+// Types without children, into a row of their own.
 ghost use Rattle.std.specs.Prelude.{◌≡◌};
 ghost use Rattle.tokenizer.specs.Answer.{answer_of};
 ghost use Rattle.parser.specs.Parse.{unit_at, timestamp_at, time_at, interval_at, fixed_size_binary_at, scale_at, decimal_at};
-ghost use Rattle.parser.specs.Internal.Steps.{Room, Meets, word_of};
+ghost use Rattle.parser.specs.Internal.Steps.{Meets, word_of};
 
-use crate::rows::{Head, put_row};
-use crate::{Extent, Parser, Word};
+use crate::rows::{Head, PLAIN, put_row};
+use crate::{Extent, Parser, ReadValue};
 use datatype::Decimal;
 use datatype::kind::unit_fits;
+use datatype::rows::ROW_WORDS;
 use tokenizer::Refusal;
 
 impl<'a> Parser<'a> {
+    #[tactic(auto, using(crate::proofs::Rules::timestamp_steps))]
     pub(crate) fn parse_timestamp(
         &self,
-        rows: &mut [u32],
+        row: &mut [u32; ROW_WORDS],
         kind: u32,
         at: usize,
-        row: usize,
     ) -> Result<Extent, Refusal>
-        requires { Room self.now.text.now rows.old row 1 }
-        ensures { Meets (timestamp_at self.now.text.now kind at) row 1 rows.old result rows.new }
+        ensures { Meets (timestamp_at self.now.text.now kind at) row.old result row.new }
     {
         let open = self.expect_token(at, b'(')?;
         let unit = self.parse_time_unit(open)?;
@@ -27,17 +27,16 @@ impl<'a> Parser<'a> {
         let head = Head {
             kind,
             number: unit.value,
-            scale: 0,
+            zone_start: zone.start as u32,
+            zone_length: zone.size as u32,
+            ..PLAIN
         };
-        put_row(rows, row, head, 1, zone.start as u32, zone.size as u32);
-        Ok(Extent {
-            next: zone.next,
-            used: 1,
-        })
+        Ok(put_row(row, 0, head, zone.next))
     }
 
     // The unit of a kind of time is needed.
-    fn parse_unit(&self, kind: u32, at: usize) -> Result<Word, Refusal>
+    #[tactic(auto, using(crate::proofs::Rules::unit_steps))]
+    fn parse_unit(&self, kind: u32, at: usize) -> Result<ReadValue<u32>, Refusal>
         ensures { answer_of result ≡ word_of (unit_at self.now.text.now kind at) }
     {
         let unit = self.parse_time_unit(at)?;
@@ -48,77 +47,74 @@ impl<'a> Parser<'a> {
     }
 
     // Time32, Time64 and Duration.
+    // It and the two below differ in the reader called: a clause over any reader would say less plainly what each takes.
+    #[tactic(auto, using(crate::proofs::Rules::value_steps), unfolding(crate::specs::Parse::time_at))]
     pub(crate) fn parse_time(
         &self,
-        rows: &mut [u32],
+        row: &mut [u32; ROW_WORDS],
         kind: u32,
         at: usize,
-        row: usize,
     ) -> Result<Extent, Refusal>
-        requires { Room self.now.text.now rows.old row 1 }
-        ensures { Meets (time_at self.now.text.now kind at) row 1 rows.old result rows.new }
+        ensures { Meets (time_at self.now.text.now kind at) row.old result row.new }
     {
         let open = self.expect_token(at, b'(')?;
         let unit = self.parse_unit(kind, open)?;
         let head = Head {
             kind,
             number: unit.value,
-            scale: 0,
+            ..PLAIN
         };
-        self.close(rows, unit.next, row, 0, head)
+        self.close(row, unit.next, 0, head)
     }
 
+    #[tactic(auto, using(crate::proofs::Rules::value_steps), unfolding(crate::specs::Parse::interval_at))]
     pub(crate) fn parse_interval(
         &self,
-        rows: &mut [u32],
+        row: &mut [u32; ROW_WORDS],
         kind: u32,
         at: usize,
-        row: usize,
     ) -> Result<Extent, Refusal>
-        requires { Room self.now.text.now rows.old row 1 }
-        ensures { Meets (interval_at self.now.text.now kind at) row 1 rows.old result rows.new }
+        ensures { Meets (interval_at self.now.text.now kind at) row.old result row.new }
     {
         let open = self.expect_token(at, b'(')?;
         let unit = self.parse_interval_unit(open)?;
         let head = Head {
             kind,
             number: unit.value,
-            scale: 0,
+            ..PLAIN
         };
-        self.close(rows, unit.next, row, 0, head)
+        self.close(row, unit.next, 0, head)
     }
 
+    #[tactic(auto, using(crate::proofs::Rules::value_steps), unfolding(crate::specs::Parse::fixed_size_binary_at))]
     pub(crate) fn parse_fixed_size_binary(
         &self,
-        rows: &mut [u32],
+        row: &mut [u32; ROW_WORDS],
         kind: u32,
         at: usize,
-        row: usize,
     ) -> Result<Extent, Refusal>
-        requires { Room self.now.text.now rows.old row 1 }
-        ensures { Meets (fixed_size_binary_at self.now.text.now kind at) row 1 rows.old result rows.new }
+        ensures { Meets (fixed_size_binary_at self.now.text.now kind at) row.old result row.new }
     {
         let open = self.expect_token(at, b'(')?;
         let length = self.parse_length(open)?;
         let head = Head {
             kind,
             number: length.value,
-            scale: 0,
+            ..PLAIN
         };
-        self.close(rows, length.next, row, 0, head)
+        self.close(row, length.next, 0, head)
     }
 
     // A decimal's scale and closing mark, behind which precision and scale are judged.
+    #[tactic(auto, using(crate::proofs::Rules::scale_steps))]
     fn parse_scale(
         &self,
-        rows: &mut [u32],
+        row: &mut [u32; ROW_WORDS],
         kind: u32,
         precision: u32,
         at: usize,
-        row: usize,
     ) -> Result<Extent, Refusal>
-        requires { Room self.now.text.now rows.old row 1 }
-        ensures { Meets (scale_at self.now.text.now kind precision at) row 1 rows.old result rows.new }
+        ensures { Meets (scale_at self.now.text.now kind precision at) row.old result row.new }
     {
         let number = self.parse_i8(at)?;
         let scale = number.as_scale();
@@ -126,8 +122,9 @@ impl<'a> Parser<'a> {
             kind,
             number: precision,
             scale,
+            ..PLAIN
         };
-        let closed = self.close(rows, number.next, row, 0, head)?;
+        let closed = self.close(row, number.next, 0, head)?;
         let decimal = Decimal { precision, scale };
         if decimal.fits(kind) {
             return Ok(closed);
@@ -136,19 +133,18 @@ impl<'a> Parser<'a> {
     }
 
     // The four decimals.
+    #[tactic(auto, using(crate::proofs::Rules::decimal_steps))]
     pub(crate) fn parse_decimal(
         &self,
-        rows: &mut [u32],
+        row: &mut [u32; ROW_WORDS],
         kind: u32,
         at: usize,
-        row: usize,
     ) -> Result<Extent, Refusal>
-        requires { Room self.now.text.now rows.old row 1 }
-        ensures { Meets (decimal_at self.now.text.now kind at) row 1 rows.old result rows.new }
+        ensures { Meets (decimal_at self.now.text.now kind at) row.old result row.new }
     {
         let open = self.expect_token(at, b'(')?;
         let precision = self.parse_u8(open)?;
         let comma = self.expect_token(precision.next, b',')?;
-        self.parse_scale(rows, kind, precision.value, comma, row)
+        self.parse_scale(row, kind, precision.value, comma)
     }
 }

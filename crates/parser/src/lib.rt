@@ -1,26 +1,27 @@
 // The readers of types: text becomes rows, or is refused. The functions are named after those of the Rust's `Parser`. A
-// parent's row is written behind its children's.
+// row is lent as an array, and the rows below it as a slice, which says how many are left; a parent's row is written once
+// its children are read. That a slice is no longer than 1,024 rows stays a clause (`Room`): its type says no length, and a
+// struct that held the loan would be taken apart at each call.
 
 #![tactic(auto)]
 
-ghost use Rattle.std.specs.Prelude.{◌≡◌, ◌+◌, length};
+ghost use Rattle.std.specs.Prelude.{◌≡◌, ◌≤◌, ◌++◌, length};
 ghost use Rattle.tokenizer.specs.Answer.{answer_of, done};
 ghost use Rattle.tokenizer.specs.declared.TokenKind.TheVariants.{Integer};
 ghost use Rattle.tokenizer.specs.Edges.{edges};
+ghost use Rattle.datatype.specs.Limits.{max_text};
 ghost use Rattle.datatype.specs.Table.{rows_lent};
 ghost use Rattle.parser.specs.Parse.{id_of, scale_of, field_at, list_field, list_name_at, named_run_ends, default_run_ends, list_at, fixed_size_list_at, struct_at, union_at, union_field, dictionary_at, map_at, run_end_encoded_at, type_at, first_type, read_of, rows_of};
-ghost use Rattle.parser.specs.Internal.Steps.{Room, Meets, MeetsFields, span_of};
+ghost use Rattle.parser.specs.Internal.Steps.{Room, RoomBelow, Meets, MeetsFields, rows_left, span_of};
 
-use crate::rows::{
-    Head, ITEM, Label, RUN_ENDS, VALUES, put_field, put_leaf, put_parent, role_of, rows_of,
-};
+use crate::rows::{Head, ITEM, PLAIN, RUN_ENDS, VALUES, put_field, put_row};
 use datatype::kind::{
     DECIMAL32, DECIMAL64, DECIMAL128, DECIMAL256, DICTIONARY, DURATION, FIXED_SIZE_BINARY,
     FIXED_SIZE_LIST, INTERVAL, LARGE_LIST, LARGE_LIST_VIEW, LIST, LIST_VIEW, MAP, RUN_END_ENCODED,
     STRUCT, TIME32, TIME64, TIMESTAMP, UNION,
 };
-use datatype::rows::{MAX_LEVELS, MAX_TEXT, NON_NULL, NULLABLE, rows_lent};
-use datatype::{Field, clear_words};
+use datatype::rows::{MAX_LEVELS, MAX_TEXT, NON_NULL, NULLABLE, ROW_WORDS, rows_lent};
+use datatype::{Field, Row};
 use tokenizer::{EDGES, Refusal, WordTable};
 
 mod leaves;
@@ -34,15 +35,7 @@ pub(crate) struct Parser<'a> {
     words: &'a WordTable,
     text: &'a [u8],
     ghost listed: { words.now ≡ edges },
-}
-
-// Where rows go: the next free row, how many rows there are from it on, and how many levels are left. The rows and the
-// fact that they have room stand beside it: a struct that held the rows' loan would be taken apart at each call.
-#[derive(Clone, Copy)]
-pub(crate) struct Space {
-    pub row: usize,
-    pub left: usize,
-    pub level: usize,
+    ghost short: { length text.now ≤ max_text },
 }
 
 // A type or a field, or some fields, that were read: the place behind, and how many rows were filled.
@@ -52,28 +45,14 @@ pub struct Extent {
     pub used: usize,
 }
 
-// A listed word or a number without a sign: its value, and the place behind it.
+// A word or a number that was read, and the place behind it.
 #[derive(Clone, Copy)]
-pub(crate) struct Word {
-    pub value: u32,
+pub(crate) struct ReadValue<T> {
+    pub value: T,
     pub next: usize,
 }
 
-// A number, and the place behind it.
-#[derive(Clone, Copy)]
-pub(crate) struct Number {
-    pub value: i64,
-    pub next: usize,
-}
-
-// A signed byte, and the place behind it.
-#[derive(Clone, Copy)]
-pub(crate) struct Signed {
-    pub value: i8,
-    pub next: usize,
-}
-
-impl Signed {
+impl ReadValue<i8> {
     // A row keeps a union id with 256 added to a negative one.
     fn as_union_id(self) -> u32
         ensures { result ≡ id_of (done (Integer self.value)) }
@@ -119,94 +98,88 @@ impl<'a> Parser<'a> {
 
     // A type at a place: a level (3) and a row (4) must be left, then its word is judged.
     #[cycle(types)]
-    fn parse_next_type(&self, rows: &mut [u32], at: usize, space: Space) -> Result<Extent, Refusal>
-        requires { Room self.now.text.now rows.old space.row space.left }
-        ensures { Meets (type_at self.now.text.now space.level at space.left) space.row space.left rows.old result rows.new }
+    #[tactic(auto, using(crate::proofs::Rules::next_type_steps))]
+    fn parse_next_type(&self, rows: &mut [u32], at: usize, level: usize) -> Result<Extent, Refusal>
+        requires { Room rows.old }
+        ensures { Meets (type_at self.now.text.now level at (rows_left rows.old)) rows.old result rows.new }
     {
-        if space.level == 0 {
+        if level == 0 {
             return Err(Refusal::TooDeep);
         }
-        if space.left == 0 {
+        let Some((row, below)) = rows.split_first_chunk_mut::<ROW_WORDS>() else {
             return Err(Refusal::TooManyRows);
-        }
+        };
         let word = self.parse_type_word(at)?;
         let kind = word.value;
         let next = word.next;
-        let row = space.row;
-        let space = Space {
-            row,
-            left: space.left - 1,
-            level: space.level - 1,
-        };
+        let level = level - 1;
         match kind {
-            TIMESTAMP => self.parse_timestamp(rows, kind, next, row),
-            TIME32 | TIME64 | DURATION => self.parse_time(rows, kind, next, row),
-            INTERVAL => self.parse_interval(rows, kind, next, row),
-            FIXED_SIZE_BINARY => self.parse_fixed_size_binary(rows, kind, next, row),
+            TIMESTAMP => self.parse_timestamp(row, kind, next),
+            TIME32 | TIME64 | DURATION => self.parse_time(row, kind, next),
+            INTERVAL => self.parse_interval(row, kind, next),
+            FIXED_SIZE_BINARY => self.parse_fixed_size_binary(row, kind, next),
             LIST | LIST_VIEW | LARGE_LIST | LARGE_LIST_VIEW => {
-                self.parse_list(rows, kind, next, space)
+                self.parse_list(row, below, kind, next, level)
             }
-            FIXED_SIZE_LIST => self.parse_fixed_size_list(rows, kind, next, space),
-            STRUCT => self.parse_struct(rows, kind, next, space),
-            UNION => self.parse_union(rows, kind, next, space),
-            DICTIONARY => self.parse_dictionary(rows, kind, next, space),
+            FIXED_SIZE_LIST => self.parse_fixed_size_list(row, below, kind, next, level),
+            STRUCT => self.parse_struct(row, below, kind, next, level),
+            UNION => self.parse_union(row, below, kind, next, level),
+            DICTIONARY => self.parse_dictionary(row, below, kind, next, level),
             DECIMAL32 | DECIMAL64 | DECIMAL128 | DECIMAL256 => {
-                self.parse_decimal(rows, kind, next, row)
+                self.parse_decimal(row, kind, next)
             }
-            MAP => self.parse_map(rows, kind, next, space),
-            RUN_END_ENCODED => self.parse_run_end_encoded(rows, kind, next, space),
-            _ => Ok(put_leaf(rows, row, kind, next)),
+            MAP => self.parse_map(row, below, kind, next, level),
+            RUN_END_ENCODED => self.parse_run_end_encoded(row, below, kind, next, level),
+            _ => Ok(put_row(row, 0, Head { kind, ..PLAIN }, next)),
         }
     }
 
     // "name": [nullability] type, with a union id.
     #[cycle(types)]
+    #[tactic(auto, using(crate::proofs::Rules::field_steps, crate::proofs::Readers::read_most, crate::proofs::Readers::read_some))]
     fn parse_field(
         &self,
         rows: &mut [u32],
         id: u32,
         at: usize,
-        space: Space,
+        level: usize,
     ) -> Result<Extent, Refusal>
-        requires { Room self.now.text.now rows.old space.row space.left }
-        ensures { Meets (field_at self.now.text.now (type_at self.now.text.now space.level) id at space.left) space.row space.left rows.old result rows.new }
+        requires { Room rows.old }
+        ensures { Meets (field_at self.now.text.now (type_at self.now.text.now level) id at (rows_left rows.old)) rows.old result rows.new }
     {
         let name = self.parse_double_quoted_string(at)?;
         let colon = self.expect_token(name.next, b':')?;
         let null = self.parse_opt_nullable(colon);
-        let tree = self.parse_next_type(rows, null.next, space)?;
-        let label = Label {
+        let tree = self.parse_next_type(rows, null.next, level)?;
+        let label = Field {
             home: Field::IN_TEXT,
             start: name.start as u32,
             size: name.size as u32,
         };
-        put_field(rows, space.row, null.role, id, label);
-        // The row's own count: the answer's would be copied, and waited for.
-        Ok(Extent {
-            next: tree.next,
-            used: rows_of(rows, space.row),
-        })
+        put_field(rows, null.role, id, label);
+        Ok(tree)
     }
 
     // [nullability] type [, field: 'name'].
     #[cycle(types)]
-    fn parse_list_field(&self, rows: &mut [u32], at: usize, space: Space) -> Result<Extent, Refusal>
-        requires { Room self.now.text.now rows.old space.row space.left }
-        ensures { Meets (list_field self.now.text.now (type_at self.now.text.now space.level) at space.left) space.row space.left rows.old result rows.new }
+    #[tactic(auto, using(crate::proofs::Rules::list_field_steps, crate::proofs::Readers::read_most, crate::proofs::Readers::read_some))]
+    fn parse_list_field(&self, rows: &mut [u32], at: usize, level: usize) -> Result<Extent, Refusal>
+        requires { Room rows.old }
+        ensures { Meets (list_field self.now.text.now (type_at self.now.text.now level) at (rows_left rows.old)) rows.old result rows.new }
     {
         let null = self.parse_opt_nullable(at);
-        let item = self.parse_next_type(rows, null.next, space)?;
+        let item = self.parse_next_type(rows, null.next, level)?;
         let Some(comma) = self.next_if(item.next, b',') else {
-            put_field(rows, space.row, null.role, 0, ITEM);
+            put_field(rows, null.role, 0, ITEM);
             return Ok(item);
         };
         let name = self.parse_list_name(comma)?;
-        let label = Label {
+        let label = Field {
             home: Field::IN_TEXT,
             start: name.start as u32,
             size: name.size as u32,
         };
-        put_field(rows, space.row, null.role, 0, label);
+        put_field(rows, null.role, 0, label);
         Ok(Extent {
             next: name.next,
             used: item.used,
@@ -214,6 +187,7 @@ impl<'a> Parser<'a> {
     }
 
     // A list's name behind the comma: field: 'name'.
+    #[tactic(auto, using(crate::proofs::Rules::list_name_steps))]
     fn parse_list_name(&self, at: usize) -> Result<Span, Refusal>
         ensures { answer_of result ≡ span_of (list_name_at self.now.text.now at) }
     {
@@ -222,131 +196,108 @@ impl<'a> Parser<'a> {
         self.parse_single_quoted_string(colon)
     }
 
-    // ---- types with children: `space` begins at the parent's row, and has so many rows and levels left below it
+    // ---- types with children: the row of their own, and the rows and levels left below it
 
     // List, ListView, LargeList and LargeListView.
     #[cycle(types)]
+    #[tactic(auto, using(crate::proofs::Rules::list_steps, crate::proofs::Readers::read_most, crate::proofs::Readers::read_some))]
     fn parse_list(
         &self,
-        rows: &mut [u32],
+        row: &mut [u32; ROW_WORDS],
+        below: &mut [u32],
         kind: u32,
         at: usize,
-        space: Space,
+        level: usize,
     ) -> Result<Extent, Refusal>
-        requires { Room self.now.text.now rows.old space.row (space.left + 1) }
-        ensures { Meets (list_at self.now.text.now (type_at self.now.text.now space.level) kind at space.left) space.row (space.left + 1) rows.old result rows.new }
+        requires { RoomBelow below.old }
+        ensures { Meets (list_at self.now.text.now (type_at self.now.text.now level) kind at (rows_left below.old)) (row.old ++ below.old) result (row.new ++ below.new) }
     {
         let open = self.expect_token(at, b'(')?;
-        let below = Space {
-            row: space.row + 1,
-            ..space
-        };
-        let field = self.parse_list_field(rows, open, below)?;
-        let head = Head {
-            kind,
-            number: 0,
-            scale: 0,
-        };
-        self.close(rows, field.next, space.row, field.used, head)
+        let field = self.parse_list_field(below, open, level)?;
+        let head = Head { kind, ..PLAIN };
+        self.close(row, field.next, field.used, head)
     }
 
     // FixedSizeList(length x list field), or FixedSizeList(length, type).
     #[cycle(types)]
+    #[tactic(auto, using(crate::proofs::Rules::fixed_size_list_steps, crate::proofs::Readers::read_most, crate::proofs::Readers::read_some))]
     fn parse_fixed_size_list(
         &self,
-        rows: &mut [u32],
+        row: &mut [u32; ROW_WORDS],
+        below: &mut [u32],
         kind: u32,
         at: usize,
-        space: Space,
+        level: usize,
     ) -> Result<Extent, Refusal>
-        requires { Room self.now.text.now rows.old space.row (space.left + 1) }
-        ensures { Meets (fixed_size_list_at self.now.text.now (type_at self.now.text.now space.level) kind at space.left) space.row (space.left + 1) rows.old result rows.new }
+        requires { RoomBelow below.old }
+        ensures { Meets (fixed_size_list_at self.now.text.now (type_at self.now.text.now level) kind at (rows_left below.old)) (row.old ++ below.old) result (row.new ++ below.new) }
     {
         let open = self.expect_token(at, b'(')?;
         let length = self.parse_length(open)?;
         let head = Head {
             kind,
             number: length.value,
-            scale: 0,
-        };
-        let below = Space {
-            row: space.row + 1,
-            ..space
+            ..PLAIN
         };
         if let Some(x) = self.next_if_x(length.next) {
-            let field = self.parse_list_field(rows, x, below)?;
-            return self.close(rows, field.next, space.row, field.used, head);
+            let field = self.parse_list_field(below, x, level)?;
+            return self.close(row, field.next, field.used, head);
         }
         let comma = self.expect_token(length.next, b',')?;
-        let item = self.parse_next_type(rows, comma, below)?;
-        put_field(rows, below.row, NULLABLE, 0, ITEM);
-        self.close(rows, item.next, space.row, item.used, head)
+        let item = self.parse_next_type(below, comma, level)?;
+        put_field(below, NULLABLE, 0, ITEM);
+        self.close(row, item.next, item.used, head)
     }
 
     #[cycle(types)]
+    #[tactic(auto, using(crate::proofs::Rules::dictionary_steps, crate::proofs::Readers::read_most, crate::proofs::Readers::read_some))]
     fn parse_dictionary(
         &self,
-        rows: &mut [u32],
+        row: &mut [u32; ROW_WORDS],
+        below: &mut [u32],
         kind: u32,
         at: usize,
-        space: Space,
+        level: usize,
     ) -> Result<Extent, Refusal>
-        requires { Room self.now.text.now rows.old space.row (space.left + 1) }
-        ensures { Meets (dictionary_at self.now.text.now (type_at self.now.text.now space.level) kind at space.left) space.row (space.left + 1) rows.old result rows.new }
+        requires { RoomBelow below.old }
+        ensures { Meets (dictionary_at self.now.text.now (type_at self.now.text.now level) kind at (rows_left below.old)) (row.old ++ below.old) result (row.new ++ below.new) }
     {
         let open = self.expect_token(at, b'(')?;
-        let below = Space {
-            row: space.row + 1,
-            ..space
-        };
-        let key = self.parse_next_type(rows, open, below)?;
+        let key = self.parse_next_type(below, open, level)?;
         let comma = self.expect_token(key.next, b',')?;
-        let behind = Space {
-            row: below.row + key.used,
-            left: space.left - key.used,
-            ..space
-        };
-        let value = self.parse_next_type(rows, comma, behind)?;
-        let head = Head {
-            kind,
-            number: 0,
-            scale: 0,
-        };
-        self.close(rows, value.next, space.row, key.used + value.used, head)
+        let behind = &mut below[ROW_WORDS * key.used..];
+        let value = self.parse_next_type(behind, comma, level)?;
+        let head = Head { kind, ..PLAIN };
+        self.close(row, value.next, key.used + value.used, head)
     }
 
     #[cycle(types)]
+    #[tactic(auto, using(crate::proofs::Rules::struct_steps, crate::proofs::Readers::read_most, crate::proofs::Readers::read_some))]
     fn parse_struct(
         &self,
-        rows: &mut [u32],
+        row: &mut [u32; ROW_WORDS],
+        below: &mut [u32],
         kind: u32,
         at: usize,
-        space: Space,
+        level: usize,
     ) -> Result<Extent, Refusal>
-        requires { Room self.now.text.now rows.old space.row (space.left + 1) }
-        ensures { Meets (struct_at self.now.text.now (type_at self.now.text.now space.level) kind at space.left) space.row (space.left + 1) rows.old result rows.new }
+        requires { RoomBelow below.old }
+        ensures { Meets (struct_at self.now.text.now (type_at self.now.text.now level) kind at (rows_left below.old)) (row.old ++ below.old) result (row.new ++ below.new) }
     {
         let open = self.expect_token(at, b'(')?;
-        let head = Head {
-            kind,
-            number: 0,
-            scale: 0,
-        };
+        let head = Head { kind, ..PLAIN };
         let mut next = open;
         let mut used = 0;
+        // No range has the places of the fields: each begins where the one before it ended, until a closing mark.
         loop {
             if let Some(end) = self.next_if(next, b')') {
-                return Ok(put_parent(rows, space.row, used, head, end));
+                return Ok(put_row(row, used, head, end));
             }
-            let behind = Space {
-                row: space.row + 1 + used,
-                left: space.left - used,
-                ..space
-            };
-            let field = self.parse_field(rows, 0, next, behind)?;
+            let behind = &mut below[ROW_WORDS * used..];
+            let field = self.parse_field(behind, 0, next, level)?;
             used += field.used;
             let Some(comma) = self.next_if(field.next, b',') else {
-                return self.close(rows, field.next, space.row, used, head);
+                return self.close(row, field.next, used, head);
             };
             next = comma;
         }
@@ -354,39 +305,38 @@ impl<'a> Parser<'a> {
 
     // Union ids are judged behind the mark that closes the type.
     #[cycle(types)]
+    #[tactic(auto, using(crate::proofs::Rules::union_steps, crate::proofs::Readers::read_most, crate::proofs::Readers::read_some))]
     fn parse_union(
         &self,
-        rows: &mut [u32],
+        row: &mut [u32; ROW_WORDS],
+        below: &mut [u32],
         kind: u32,
         at: usize,
-        space: Space,
+        level: usize,
     ) -> Result<Extent, Refusal>
-        requires { Room self.now.text.now rows.old space.row (space.left + 1) }
-        ensures { Meets (union_at self.now.text.now (type_at self.now.text.now space.level) kind at space.left) space.row (space.left + 1) rows.old result rows.new }
+        requires { RoomBelow below.old }
+        ensures { Meets (union_at self.now.text.now (type_at self.now.text.now level) kind at (rows_left below.old)) (row.old ++ below.old) result (row.new ++ below.new) }
     {
         let open = self.expect_token(at, b'(')?;
         let mode = self.parse_union_mode(open)?;
         let head = Head {
             kind,
             number: mode.value,
-            scale: 0,
+            ..PLAIN
         };
         let mut next = mode.next;
         let mut used = 0;
+        // No range has the places of the fields: each begins where the one before it ended, until a closing mark.
         loop {
             if let Some(end) = self.next_if(next, b')') {
-                if !subtrees::try_new(rows, space.row + 1, space.row + 1 + used) {
+                if !subtrees::try_new(below, 0, used) {
                     return Err(Refusal::WrongUnionId);
                 }
-                return Ok(put_parent(rows, space.row, used, head, end));
+                return Ok(put_row(row, used, head, end));
             }
             let comma = self.expect_token(next, b',')?;
-            let behind = Space {
-                row: space.row + 1 + used,
-                left: space.left - used,
-                ..space
-            };
-            let field = self.parse_union_field(rows, comma, behind)?;
+            let behind = &mut below[ROW_WORDS * used..];
+            let field = self.parse_union_field(behind, comma, level)?;
             next = field.next;
             used += field.used;
         }
@@ -394,20 +344,21 @@ impl<'a> Parser<'a> {
 
     // id: ("name": [nullability] type).
     #[cycle(types)]
+    #[tactic(auto, using(crate::proofs::Rules::union_field_steps))]
     fn parse_union_field(
         &self,
         rows: &mut [u32],
         at: usize,
-        space: Space,
+        level: usize,
     ) -> Result<Extent, Refusal>
-        requires { Room self.now.text.now rows.old space.row space.left }
-        ensures { Meets (union_field self.now.text.now (type_at self.now.text.now space.level) at space.left) space.row space.left rows.old result rows.new }
+        requires { Room rows.old }
+        ensures { Meets (union_field self.now.text.now (type_at self.now.text.now level) at (rows_left rows.old)) rows.old result rows.new }
     {
         let id = self.parse_i8(at)?;
         let colon = self.expect_token(id.next, b':')?;
         let open = self.expect_token(colon, b'(')?;
         let type_id = id.as_union_id();
-        let field = self.parse_field(rows, type_id, open, space)?;
+        let field = self.parse_field(rows, type_id, open, level)?;
         let end = self.expect_token(field.next, b')')?;
         Ok(Extent {
             next: end,
@@ -416,80 +367,69 @@ impl<'a> Parser<'a> {
     }
 
     #[cycle(types)]
+    #[tactic(auto, using(crate::proofs::Rules::map_steps, crate::proofs::Readers::read_most, crate::proofs::Readers::read_some))]
     fn parse_map(
         &self,
-        rows: &mut [u32],
+        row: &mut [u32; ROW_WORDS],
+        below: &mut [u32],
         kind: u32,
         at: usize,
-        space: Space,
+        level: usize,
     ) -> Result<Extent, Refusal>
-        requires { Room self.now.text.now rows.old space.row (space.left + 1) }
-        ensures { Meets (map_at self.now.text.now (type_at self.now.text.now space.level) kind at space.left) space.row (space.left + 1) rows.old result rows.new }
+        requires { RoomBelow below.old }
+        ensures { Meets (map_at self.now.text.now (type_at self.now.text.now level) kind at (rows_left below.old)) (row.old ++ below.old) result (row.new ++ below.new) }
     {
         let open = self.expect_token(at, b'(')?;
-        let below = Space {
-            row: space.row + 1,
-            ..space
-        };
-        let entries = self.parse_field(rows, 0, open, below)?;
-        subtrees::check_entries(rows, below.row)?;
+        let entries = self.parse_field(below, 0, open, level)?;
+        subtrees::check_entries(below, 0)?;
         let comma = self.expect_token(entries.next, b',')?;
         let sorted = self.parse_map_sorted(comma)?;
         let head = Head {
             kind,
             number: sorted.value,
-            scale: 0,
+            ..PLAIN
         };
-        self.close(rows, sorted.next, space.row, entries.used, head)
+        self.close(row, sorted.next, entries.used, head)
     }
 
     // RunEndEncoded of two fields if a whole double-quoted string is next, else of two types.
     #[cycle(types)]
+    #[tactic(auto, using(crate::proofs::Rules::run_end_encoded_steps, crate::proofs::Readers::read_fields_most))]
     fn parse_run_end_encoded(
         &self,
-        rows: &mut [u32],
+        row: &mut [u32; ROW_WORDS],
+        below: &mut [u32],
         kind: u32,
         at: usize,
-        space: Space,
+        level: usize,
     ) -> Result<Extent, Refusal>
-        requires { Room self.now.text.now rows.old space.row (space.left + 1) }
-        ensures { Meets (run_end_encoded_at self.now.text.now (type_at self.now.text.now space.level) kind at space.left) space.row (space.left + 1) rows.old result rows.new }
+        requires { RoomBelow below.old }
+        ensures { Meets (run_end_encoded_at self.now.text.now (type_at self.now.text.now level) kind at (rows_left below.old)) (row.old ++ below.old) result (row.new ++ below.new) }
     {
         let open = self.expect_token(at, b'(')?;
-        let head = Head {
-            kind,
-            number: 0,
-            scale: 0,
-        };
-        let below = Space {
-            row: space.row + 1,
-            ..space
-        };
+        let head = Head { kind, ..PLAIN };
         if self.peek_double_quoted(open) {
-            let fields = self.ree_fields(rows, open, below)?;
-            return self.close(rows, fields.next, space.row, fields.used, head);
+            let fields = self.ree_fields(below, open, level)?;
+            return self.close(row, fields.next, fields.used, head);
         }
-        let fields = self.ree_types(rows, open, below)?;
-        self.close(rows, fields.next, space.row, fields.used, head)
+        let fields = self.ree_types(below, open, level)?;
+        self.close(row, fields.next, fields.used, head)
     }
 
     // RunEndEncoded's two fields, in the long form.
     #[cycle(types)]
-    fn ree_fields(&self, rows: &mut [u32], at: usize, space: Space) -> Result<Extent, Refusal>
-        requires { Room self.now.text.now rows.old space.row space.left }
-        ensures { MeetsFields (named_run_ends self.now.text.now (type_at self.now.text.now space.level) at space.left) space.row space.left rows.old result rows.new }
+    #[tactic(auto, using(crate::proofs::Rules::ree_fields_steps, crate::proofs::Readers::read_most, crate::proofs::Readers::read_some))]
+    fn ree_fields(&self, rows: &mut [u32], at: usize, level: usize) -> Result<Extent, Refusal>
+        requires { Room rows.old }
+        ensures { MeetsFields (named_run_ends self.now.text.now (type_at self.now.text.now level) at (rows_left rows.old)) rows.old result rows.new }
     {
-        let run_ends = self.parse_field(rows, 0, at, space)?;
-        if role_of(rows, space.row, space.row + run_ends.used) != NON_NULL {
+        let run_ends = self.parse_field(rows, 0, at, level)?;
+        if (Row { rows, at: 0 }.role() != NON_NULL) {
             return Err(Refusal::MustBeNonNull);
         }
         let comma = self.expect_token(run_ends.next, b',')?;
-        let behind = Space {
-            row: space.row + run_ends.used,
-            left: space.left - run_ends.used,
-            ..space
-        };
-        let values = self.parse_field(rows, 0, comma, behind)?;
+        let behind = &mut rows[ROW_WORDS * run_ends.used..];
+        let values = self.parse_field(behind, 0, comma, level)?;
         Ok(Extent {
             next: values.next,
             used: run_ends.used + values.used,
@@ -498,25 +438,22 @@ impl<'a> Parser<'a> {
 
     // RunEndEncoded's fields in the short form: two types, named by the name list.
     #[cycle(types)]
-    fn ree_types(&self, rows: &mut [u32], at: usize, space: Space) -> Result<Extent, Refusal>
-        requires { Room self.now.text.now rows.old space.row space.left }
-        ensures { MeetsFields (default_run_ends self.now.text.now (type_at self.now.text.now space.level) at space.left) space.row space.left rows.old result rows.new }
+    #[tactic(auto, using(crate::proofs::Rules::ree_types_steps, crate::proofs::Readers::read_most, crate::proofs::Readers::read_some))]
+    fn ree_types(&self, rows: &mut [u32], at: usize, level: usize) -> Result<Extent, Refusal>
+        requires { Room rows.old }
+        ensures { MeetsFields (default_run_ends self.now.text.now (type_at self.now.text.now level) at (rows_left rows.old)) rows.old result rows.new }
     {
         let sure = self.parse_opt_nullable(at);
         if sure.role != NON_NULL {
             return Err(Refusal::MustBeNonNull);
         }
-        let run_ends = self.parse_next_type(rows, sure.next, space)?;
-        put_field(rows, space.row, NON_NULL, 0, RUN_ENDS);
+        let run_ends = self.parse_next_type(rows, sure.next, level)?;
+        put_field(rows, NON_NULL, 0, RUN_ENDS);
         let comma = self.expect_token(run_ends.next, b',')?;
         let null = self.parse_opt_nullable(comma);
-        let behind = Space {
-            row: space.row + run_ends.used,
-            left: space.left - run_ends.used,
-            ..space
-        };
-        let values = self.parse_next_type(rows, null.next, behind)?;
-        put_field(rows, behind.row, null.role, 0, VALUES);
+        let behind = &mut rows[ROW_WORDS * run_ends.used..];
+        let values = self.parse_next_type(behind, null.next, level)?;
+        put_field(behind, null.role, 0, VALUES);
         Ok(Extent {
             next: values.next,
             used: run_ends.used + values.used,
@@ -527,8 +464,9 @@ impl<'a> Parser<'a> {
 // ---- the type that a text begins with
 
 // Reads the type that a text begins with. The rows are left open on a refusal.
+#[tactic(auto, using(crate::proofs::Rules::text_steps))]
 fn parse_text(text: &[u8], rows: &mut [u32]) -> Result<Extent, Refusal>
-    ensures { Meets (first_type text.now (rows_lent (length rows.old))) 0 (rows_lent (length rows.old)) rows.old result rows.new }
+    ensures { Meets (first_type text.now (rows_lent (length rows.old))) rows.old result rows.new }
 {
     if text.len() > MAX_TEXT {
         return Err(Refusal::TextTooLong);
@@ -540,16 +478,13 @@ fn parse_text(text: &[u8], rows: &mut [u32]) -> Result<Extent, Refusal>
         words: &EDGES,
         text,
     };
-    let space = Space {
-        row: 0,
-        left: rows_lent(rows.len()),
-        level: MAX_LEVELS,
-    };
-    parser.parse_next_type(rows, 0, space)
+    let lent = rows_lent(rows.len());
+    parser.parse_next_type(&mut rows[..ROW_WORDS * lent], 0, MAX_LEVELS)
 }
 
 // Reads the type that a text begins with into lent rows: the place behind it and how many rows it fills, or the refusal.
 // A refusal leaves the rows all zeros.
+#[tactic(auto, using(crate::proofs::FirstType::first_read))]
 pub fn parse_first_type(text: &[u8], rows: &mut [u32]) -> Result<Extent, Refusal>
     ensures answer { answer_of result ≡ read_of (first_type text.now (rows_lent (length rows.old))) }
     ensures contents { rows.new ≡ rows_of rows.old (first_type text.now (rows_lent (length rows.old))) }
@@ -557,7 +492,7 @@ pub fn parse_first_type(text: &[u8], rows: &mut [u32]) -> Result<Extent, Refusal
     match parse_text(text, rows) {
         Ok(extent) => Ok(extent),
         Err(refusal) => {
-            clear_words(rows);
+            rows.fill(0);
             Err(refusal)
         }
     }

@@ -3,9 +3,9 @@ ghost use Rattle.std.specs.Prelude.{◌≡◌, true, false, ◌<◌, length, get
 ghost use Rattle.tokenizer.specs.Answer.{answer_of};
 ghost use Rattle.tokenizer.specs.Token.{token_at, token_or_refusal, integer, double_quoted, single_quoted, type_word, time_unit, interval_unit, union_mode, map_sorted, field_word, x_word};
 ghost use Rattle.parser.specs.Parse.{need, role_at, after_role, number_in, length_at, precision_at, signed_byte_at, stands};
-ghost use Rattle.parser.specs.Internal.Steps.{mark_sort, is_mark, next_of, look_of, word_of, integer_of, signed_of, span_of};
+ghost use Rattle.parser.specs.Internal.Steps.{mark_sort, is_mark, next_of, look_of, word_of, integer_of, span_of};
 
-use crate::{Nullability, Number, Parser, Signed, Span, Word};
+use crate::{Nullability, Parser, ReadValue, Span};
 use datatype::rows::NULLABLE;
 use tokenizer::{Refusal, Token, TokenKind};
 
@@ -29,6 +29,7 @@ impl<'a> Parser<'a> {
     }
 
     // A mark is needed.
+    #[tactic(auto, using(crate::proofs::Rules::expect_token_steps))]
     pub(crate) fn expect_token(&self, at: usize, mark: u8) -> Result<usize, Refusal>
         requires { is_mark mark ≡ true }
         ensures { answer_of result ≡ next_of (need self.now.text.now (mark_sort mark) at) }
@@ -48,6 +49,7 @@ impl<'a> Parser<'a> {
     }
 
     // A mark is looked for, and taken if it is there.
+    #[tactic(auto, using(crate::proofs::Rules::next_if_steps))]
     pub(crate) fn next_if(&self, at: usize, mark: u8) -> Option<usize>
         requires { is_mark mark ≡ true }
         ensures { result ≡ look_of (need self.now.text.now (mark_sort mark) at) }
@@ -100,6 +102,7 @@ impl<'a> Parser<'a> {
     }
 
     // Whether a whole, non-empty double-quoted string is next.
+    #[tactic(auto, using(crate::proofs::Rules::peek_double_quoted_steps))]
     pub(crate) fn peek_double_quoted(&self, at: usize) -> bool
         ensures { result ≡ stands self.now.text.now double_quoted at }
     {
@@ -112,7 +115,11 @@ impl<'a> Parser<'a> {
         true
     }
 
+    // The seven readers of a string or of a word differ in a variant, which is no value: one for all would take from each a
+    // closure with the same `match`, and its clause would say what that answers and not which token is needed.
+
     // A double-quoted string is needed.
+    #[tactic(auto, using(crate::proofs::Rules::string_steps))]
     pub(crate) fn parse_double_quoted_string(&self, at: usize) -> Result<Span, Refusal>
         ensures { answer_of result ≡ span_of (need self.now.text.now double_quoted at) }
     {
@@ -128,6 +135,7 @@ impl<'a> Parser<'a> {
     }
 
     // A single-quoted string is needed.
+    #[tactic(auto, using(crate::proofs::Rules::string_steps))]
     pub(crate) fn parse_single_quoted_string(&self, at: usize) -> Result<Span, Refusal>
         ensures { answer_of result ≡ span_of (need self.now.text.now single_quoted at) }
     {
@@ -143,74 +151,78 @@ impl<'a> Parser<'a> {
     }
 
     // The word of a type is needed.
-    pub(crate) fn parse_type_word(&self, at: usize) -> Result<Word, Refusal>
+    #[tactic(auto, using(crate::proofs::Rules::word_steps))]
+    pub(crate) fn parse_type_word(&self, at: usize) -> Result<ReadValue<u32>, Refusal>
         ensures { answer_of result ≡ word_of (need self.now.text.now type_word at) }
     {
         let token = self.next_token(at)?;
         let TokenKind::DataType(value) = token.kind else {
             return Err(Refusal::UnexpectedToken);
         };
-        Ok(Word {
+        Ok(ReadValue {
             value,
             next: token.next,
         })
     }
 
-    // The readers of words and of strings differ in the variant, which is no value: each would hand a closure as long as
-    // itself to one.
-    pub(crate) fn parse_time_unit(&self, at: usize) -> Result<Word, Refusal>
+    #[tactic(auto, using(crate::proofs::Rules::word_steps))]
+    pub(crate) fn parse_time_unit(&self, at: usize) -> Result<ReadValue<u32>, Refusal>
         ensures { answer_of result ≡ word_of (need self.now.text.now time_unit at) }
     {
         let token = self.next_token(at)?;
         let TokenKind::TimeUnit(value) = token.kind else {
             return Err(Refusal::UnexpectedToken);
         };
-        Ok(Word {
+        Ok(ReadValue {
             value,
             next: token.next,
         })
     }
 
-    pub(crate) fn parse_interval_unit(&self, at: usize) -> Result<Word, Refusal>
+    #[tactic(auto, using(crate::proofs::Rules::word_steps))]
+    pub(crate) fn parse_interval_unit(&self, at: usize) -> Result<ReadValue<u32>, Refusal>
         ensures { answer_of result ≡ word_of (need self.now.text.now interval_unit at) }
     {
         let token = self.next_token(at)?;
         let TokenKind::IntervalUnit(value) = token.kind else {
             return Err(Refusal::UnexpectedToken);
         };
-        Ok(Word {
+        Ok(ReadValue {
             value,
             next: token.next,
         })
     }
 
-    pub(crate) fn parse_union_mode(&self, at: usize) -> Result<Word, Refusal>
+    #[tactic(auto, using(crate::proofs::Rules::word_steps))]
+    pub(crate) fn parse_union_mode(&self, at: usize) -> Result<ReadValue<u32>, Refusal>
         ensures { answer_of result ≡ word_of (need self.now.text.now union_mode at) }
     {
         let token = self.next_token(at)?;
         let TokenKind::UnionMode(value) = token.kind else {
             return Err(Refusal::UnexpectedToken);
         };
-        Ok(Word {
+        Ok(ReadValue {
             value,
             next: token.next,
         })
     }
 
-    pub(crate) fn parse_map_sorted(&self, at: usize) -> Result<Word, Refusal>
+    #[tactic(auto, using(crate::proofs::Rules::word_steps))]
+    pub(crate) fn parse_map_sorted(&self, at: usize) -> Result<ReadValue<u32>, Refusal>
         ensures { answer_of result ≡ word_of (need self.now.text.now map_sorted at) }
     {
         let token = self.next_token(at)?;
         let TokenKind::MapSorted(value) = token.kind else {
             return Err(Refusal::UnexpectedToken);
         };
-        Ok(Word {
+        Ok(ReadValue {
             value,
             next: token.next,
         })
     }
 
     // The word `field` is needed.
+    #[tactic(auto, using(crate::proofs::Rules::expect_field_steps))]
     pub(crate) fn expect_field(&self, at: usize) -> Result<usize, Refusal>
         ensures { answer_of result ≡ next_of (need self.now.text.now field_word at) }
     {
@@ -222,6 +234,7 @@ impl<'a> Parser<'a> {
     }
 
     // The word `x` is looked for, and taken if it is there.
+    #[tactic(auto, using(crate::proofs::Rules::next_if_x_steps))]
     pub(crate) fn next_if_x(&self, at: usize) -> Option<usize>
         ensures { result ≡ look_of (need self.now.text.now x_word at) }
     {
@@ -239,21 +252,23 @@ impl<'a> Parser<'a> {
 
 impl<'a> Parser<'a> {
     // A number of signed 64 bits is needed.
-    fn parse_i64(&self, at: usize) -> Result<Number, Refusal>
+    #[tactic(auto, using(crate::proofs::Rules::i64_steps))]
+    fn parse_i64(&self, at: usize) -> Result<ReadValue<i64>, Refusal>
         ensures { answer_of result ≡ integer_of (need self.now.text.now integer at) }
     {
         let token = self.next_token(at)?;
         let TokenKind::Integer(value) = token.kind else {
             return Err(Refusal::UnexpectedToken);
         };
-        Ok(Number {
+        Ok(ReadValue {
             value,
             next: token.next,
         })
     }
 
     // A number from 0 to most is needed.
-    fn parse_unsigned(&self, at: usize, most: u32) -> Result<Word, Refusal>
+    #[tactic(auto, using(crate::proofs::Rules::unsigned_steps))]
+    fn parse_unsigned(&self, at: usize, most: u32) -> Result<ReadValue<u32>, Refusal>
         ensures { answer_of result ≡ word_of (number_in self.now.text.now 0 most at) }
     {
         let number = self.parse_i64(at)?;
@@ -263,35 +278,36 @@ impl<'a> Parser<'a> {
         if value > most {
             return Err(Refusal::NumberOutOfRange);
         }
-        Ok(Word {
+        Ok(ReadValue {
             value,
             next: number.next,
         })
     }
 
     // The Rust's `parse_i8`: a scale or a union id.
-    pub(crate) fn parse_i8(&self, at: usize) -> Result<Signed, Refusal>
-        ensures { answer_of result ≡ signed_of (signed_byte_at self.now.text.now at) }
+    #[tactic(auto, using(crate::proofs::Rules::i8_steps))]
+    pub(crate) fn parse_i8(&self, at: usize) -> Result<ReadValue<i8>, Refusal>
+        ensures { answer_of result ≡ integer_of (signed_byte_at self.now.text.now at) }
     {
         let number = self.parse_i64(at)?;
         let Ok(value) = i8::try_from(number.value) else {
             return Err(Refusal::NumberOutOfRange);
         };
-        Ok(Signed {
+        Ok(ReadValue {
             value,
             next: number.next,
         })
     }
 
     // The Rust's `parse_u8`: a precision.
-    pub(crate) fn parse_u8(&self, at: usize) -> Result<Word, Refusal>
+    pub(crate) fn parse_u8(&self, at: usize) -> Result<ReadValue<u32>, Refusal>
         ensures { answer_of result ≡ word_of (precision_at self.now.text.now at) }
     {
         self.parse_unsigned(at, u8::MAX as u32)
     }
 
     // The Rust's `parse_i32`, of which no negative number is taken: a length.
-    pub(crate) fn parse_length(&self, at: usize) -> Result<Word, Refusal>
+    pub(crate) fn parse_length(&self, at: usize) -> Result<ReadValue<u32>, Refusal>
         ensures { answer_of result ≡ word_of (length_at self.now.text.now at) }
     {
         self.parse_unsigned(at, i32::MAX as u32)

@@ -9,6 +9,7 @@ use tokenizer::{Refusal, TokenKind};
 
 impl<'a> Parser<'a> {
     // A zone in `Some(..)`, behind the word.
+    #[tactic(auto, using(crate::proofs::Rules::some_steps))]
     fn parse_some(&self, at: usize) -> Result<Span, Refusal>
         ensures { answer_of result ≡ zone_of (some_zone self.now.text.now at) }
     {
@@ -19,6 +20,7 @@ impl<'a> Parser<'a> {
     }
 
     // A timestamp's zone behind the comma: a string, `Some(string)` or `None`.
+    #[tactic(auto, using(crate::proofs::Rules::zone_string_steps))]
     fn parse_zone_string(&self, at: usize) -> Result<Span, Refusal>
         ensures { answer_of result ≡ zone_of (zone_string self.now.text.now at) }
     {
@@ -40,6 +42,7 @@ impl<'a> Parser<'a> {
     }
 
     // What follows a timestamp's unit: the closing mark, or a comma, a zone and the closing mark.
+    #[tactic(auto, using(crate::proofs::Rules::zone_steps))]
     pub(crate) fn parse_zone(&self, at: usize) -> Result<Span, Refusal>
         ensures { answer_of result ≡ zone_of (zone_at self.now.text.now at) }
     {

@@ -1,5 +1,3 @@
-pub mod Cases
-pub mod PrintCases
 pub mod Reading
-pub mod TableCases
+pub mod Steps
 pub mod Times

@@ -18,3 +18,6 @@ times_more one n t =
 pub times_none : (one : Tally → Tally) (t : Tally) → times one 0 t ≡ t
 unfolding times
 times_none one t = refl
+
+-- what the loops over cases use
+pub ruleset times_steps = (times_more, times_none)

@@ -20,11 +20,11 @@ unfoldable pub print_case_at : List ℕ → ℕ → PrintCase
 print_case_at sample at =
     let lent = number_at sample at in
     let text = number_at sample lent.next in
-    let list = number_at sample (after_part sample text.next text.value) in
-    let status = number_at sample (after_part sample list.next list.value) in
+    let names = number_at sample (after_part sample text.next text.value) in
+    let status = number_at sample (after_part sample names.next names.value) in
     let printed = number_at sample status.next in
     let count = number_at sample (after_part sample printed.next printed.value) in
-    record { lent = lent.value; text = text; list = list; status = status.value; printed = printed; count = count.value; next = count.next }
+    record { lent = lent.value; text = text; names = names; status = status.value; printed = printed; count = count.value; next = count.next }
 
 -- The bytes that such a number stands before.
 abbrev pub bytes_of : List ℕ → Number → List ℕ
@@ -40,15 +40,15 @@ leaves_bytes out size printed = same (part out 0 size) printed && all (eqb unpri
 
 -- The printer gives a tree the status and the printed bytes of a case, and leaves the rest of so many bytes lent.
 unfoldable pub gives_print : List ℕ → List ℕ → List ℕ → ℕ → PrintCase → List ℕ → Bool
-gives_print text list words lent case printed =
+gives_print text names words lent case printed =
     let before = replicate lent unprinted in
-    is_answer (print_answer text list words before) case.status case.printed.value
-    && leaves_bytes (print_bytes text list words before) case.printed.value printed
+    is_answer (print_answer text names words before) case.status case.printed.value
+    && leaves_bytes (print_bytes text names words before) case.printed.value printed
 
 -- The tally with one case more, of so many words, which is lent so many bytes.
 unfoldable pub one_print : List ℕ → Tally → PrintCase → ℕ → ℕ → Tally
 one_print sample t case count lent =
-    counted t (gives_print (bytes_of sample case.text) (bytes_of sample case.list) (numbers_at sample count case.next) lent case (bytes_of sample case.printed)) (after_numbers sample count case.next)
+    counted t (gives_print (bytes_of sample case.text) (bytes_of sample case.names) (numbers_at sample count case.next) lent case (bytes_of sample case.printed)) (after_numbers sample count case.next)
 
 -- The tally with the case that stands behind it, with no more than so many words, and lent no more than so many bytes.
 unfoldable pub print_one : List ℕ → ℕ → ℕ → Tally → Tally

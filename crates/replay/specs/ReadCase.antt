@@ -52,14 +52,13 @@ unfoldable pub one_case : List ℕ → Tally → ReadCase → ℕ → ℕ → Ta
 one_case sample t case lent left =
     counted t (gives (part sample case.at case.size) lent case.status case.value (left_words sample case left)) (after_case sample case left)
 
--- The tally with the case that stands behind it, read for the first time or again, which is lent no more than so many
--- words.
-unfoldable pub read_one : List ℕ → Bool → ℕ → Tally → Tally
-read_one sample again most t =
+-- The tally with the case that stands behind it, which is lent as many words as `words` says, and no more than so many.
+unfoldable pub read_one : List ℕ → (ReadCase → ℕ) → ℕ → Tally → Tally
+read_one sample words most t =
     let case = read_case_at sample t.next in
-    let lent = min (words_lent again case) most in
+    let lent = min (words case) most in
     one_case sample t case lent lent
 
--- The tally of a whole sample.
+-- The tally of a whole sample, read for the first time or again.
 unfoldable pub read_all : List ℕ → Bool → ℕ → Tally
-read_all sample again most = replayed (read_one sample again most) sample
+read_all sample again most = replayed (read_one sample (words_lent again) most) sample

@@ -22,9 +22,9 @@ use Rattle.replay.specs.declared.Tally.{Tally}
 unfoldable pub table_at : List ℕ → ℕ → Table
 table_at sample at =
     let text = number_at sample at in
-    let list = number_at sample (after_part sample text.next text.value) in
-    let count = number_at sample (after_part sample list.next list.value) in
-    record { text = text; list = list; count = count.value; next = count.next }
+    let names = number_at sample (after_part sample text.next text.value) in
+    let count = number_at sample (after_part sample names.next names.value) in
+    record { text = text; names = names; count = count.value; next = count.next }
 
 unfoldable pub table_case_at : List ℕ → ℕ → TableCase
 table_case_at sample at =
@@ -63,26 +63,26 @@ is_verdict answer status value = eqb (status_of answer) status && eqb (verdict_v
 
 -- A table is sound or not, and has the depth and the verdict, as a case says.
 unfoldable pub tree_alike : List ℕ → List ℕ → List ℕ → TableCase → Bool
-tree_alike text list words case =
-    eqb (flag (is_sound text list words)) case.sound
-    && eqb (status_of (depth_of text list words)) case.depth.status
-    && eqb (value_of (depth_of text list words)) case.depth.value
-    && is_verdict (verdict_of text list words) case.verdict.status case.verdict.value
+tree_alike text names words case =
+    eqb (flag (is_sound text names words)) case.sound
+    && eqb (status_of (depth_of text names words)) case.depth.status
+    && eqb (value_of (depth_of text names words)) case.depth.value
+    && is_verdict (verdict_of text names words) case.verdict.status case.verdict.value
 
 -- The row that has the word has this name and this zone.
 unfoldable pub row_alike : List ℕ → List ℕ → List ℕ → ℕ → List ℕ → List ℕ → Bool
-row_alike text list words place name zone =
-    let row = label_of text list (row_of (drop (row_words * (place / row_words)) words)) in
+row_alike text names words place name zone =
+    let row = label_of text names (row_of (drop (row_words * (place / row_words)) words)) in
     same row.name name && same row.zone zone
 
 -- A table, changed as a case says, gives all that it says.
 unfoldable pub change_alike : List ℕ → Table → List ℕ → Table → List ℕ → TableCase → Bool
 change_alike sample table words other others case =
     let text = bytes_of sample table.text in
-    let list = bytes_of sample table.list in
-    tree_alike text list words case
-    && row_alike text list words case.place (bytes_of sample case.name) (bytes_of sample case.zone)
-    && eqb (flag (equal_trees text list (bytes_of sample other.text) (bytes_of sample other.list) words others)) case.equal
+    let names = bytes_of sample table.names in
+    tree_alike text names words case
+    && row_alike text names words case.place (bytes_of sample case.name) (bytes_of sample case.zone)
+    && eqb (flag (equal_trees text names (bytes_of sample other.text) (bytes_of sample other.names) words others)) case.equal
 
 -- ---- all of them
 

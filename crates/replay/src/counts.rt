@@ -19,6 +19,7 @@ pub(crate) fn start(next: usize) -> Tally
 }
 
 // A tally with one case more.
+#[tactic(auto, unfolding(crate::specs::Sample::counted))]
 pub(crate) fn counted(t: Tally, alike: bool, next: usize) -> Tally
     ensures { result ≡ counted_of t alike next }
 {

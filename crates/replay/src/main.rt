@@ -6,12 +6,12 @@
 ghost use Rattle.std.specs.Prelude.{◌≡◌, ◌≤◌, length, take};
 
 use prints::Prints;
-use samples::replay;
+use samples::{Sample, replay};
 use std::fs::File;
-use std::io::Read;
+use std::io::Cursor;
 use std::{fs, io};
 use tables::Tables;
-use texts::Texts;
+use texts::{RowsToLend, Stored, Texts};
 
 mod counts;
 mod prints;
@@ -20,10 +20,13 @@ mod stored;
 mod tables;
 mod texts;
 
-// The most words and the most bytes that a case is lent.
+// The most words and the most bytes that a case is lent. No heap: buffers of so many are there for all cases.
 const MOST_WORDS: usize = 13000;
 
 const MOST_BYTES: usize = 20000;
+
+// The most bytes of a sample that are read.
+const SAMPLE_BYTES: usize = 1000000;
 
 // What each word and each byte that is lent holds before, and where nothing is written.
 const UNTOUCHED: u32 = 7;
@@ -63,7 +66,7 @@ struct ReadCase {
 struct PrintCase {
     lent: u32,
     text: Number,
-    list: Number,
+    names: Number,
     status: u32,
     printed: Number,
     count: u32,
@@ -74,7 +77,7 @@ struct PrintCase {
 #[derive(Clone, Copy)]
 struct Table {
     text: Number,
-    list: Number,
+    names: Number,
     count: u32,
     next: usize,
 }
@@ -101,22 +104,15 @@ struct TableCase {
     next: usize,
 }
 
-// No heap: std's `read_to_end` fills a `Vec`, and its `read_exact` says nothing of a file that is shorter than the buffer.
-// Reads until the buffer is full, the file ends or a read fails: how many bytes stand at the start of the buffer.
+// Reads until the buffer is full, the file ends or a read fails: how many bytes stand at the start of the buffer. No
+// heap: std's `read_to_end` fills a `Vec`.
 fn read_full(mut file: File, sample: &mut [u8]) -> usize
     ensures { (result ≤ length sample.new) × (result ≡ length (take result sample.new)) }
 {
-    let mut done = 0;
-    while done < sample.len() {
-        let Ok(n) = file.read(&mut sample[done..]) else {
-            break;
-        };
-        if n == 0 {
-            break;
-        }
-        done += n;
-    }
-    done
+    let mut place = Cursor::new(&mut *sample);
+    let _ = io::copy(&mut file, &mut place);
+    let read = place.position();
+    sample.len().min(read as usize)
 }
 
 // Reads a file into a buffer: how many bytes of it are read.
@@ -132,55 +128,33 @@ fn load(rt: &HostRuntime, path: &str, sample: &mut [u8]) -> usize
     }
 }
 
-fn replay_texts(rt: &HostRuntime, sample: &[u8]) -> io::Result<()> {
-    let mut texts = Texts {
-        again: false,
-        rows: [0; MOST_WORDS],
-        left: [0; MOST_WORDS],
-    };
-    let t = replay(&mut texts, sample);
-    counts::print(rt, " texts, ", t, sample.len())?;
-    texts.again = true;
-    let again = replay(&mut texts, sample);
-    counts::print(
-        rt,
-        " texts again, accepted ones with rows to lend, ",
-        again,
-        sample.len(),
-    )
+// Replays a sample of one kind, and prints the counts.
+fn replay_and_print(
+    rt: &HostRuntime,
+    what: &str,
+    kind: &mut impl Sample,
+    sample: &[u8],
+) -> io::Result<()> {
+    let t = replay(kind, sample);
+    counts::print(rt, what, t, sample.len())
 }
 
-fn replay_tables(rt: &HostRuntime, sample: &[u8]) -> io::Result<()> {
-    let mut tables = Tables {
-        words: [0; MOST_WORDS],
-        others: [0; MOST_WORDS],
-    };
-    let t = replay(&mut tables, sample);
-    counts::print(rt, " tables, ", t, sample.len())
-}
-
-fn replay_prints(rt: &HostRuntime, sample: &[u8]) -> io::Result<()> {
-    let mut prints = Prints {
-        words: [0; MOST_WORDS],
-        out: [0; MOST_BYTES],
-    };
-    let t = replay(&mut prints, sample);
-    counts::print(rt, " prints, ", t, sample.len())
-}
-
-// Room for a sample.
-fn room() -> [u8; 1000000]
+// Room for a sample: a function of its own, since the check of `main` would go through a million zeros.
+fn room() -> [u8; SAMPLE_BYTES]
     ensures { 1000000 ≡ length result }
 {
-    [0; 1000000]
+    [0; SAMPLE_BYTES]
 }
 
 fn main(rt: HostRuntime) -> io::Result<()> {
     let mut sample = room();
     let n = load(&rt, "texts", &mut sample);
-    replay_texts(&rt, &sample[..n])?;
+    let texts = &sample[..n];
+    replay_and_print(&rt, " texts, ", &mut Texts::new(Stored), texts)?;
+    let what = " texts again, accepted ones with rows to lend, ";
+    replay_and_print(&rt, what, &mut Texts::new(RowsToLend), texts)?;
     let m = load(&rt, "tables", &mut sample);
-    replay_tables(&rt, &sample[..m])?;
+    replay_and_print(&rt, " tables, ", &mut Tables::new(), &sample[..m])?;
     let k = load(&rt, "prints", &mut sample);
-    replay_prints(&rt, &sample[..k])
+    replay_and_print(&rt, " prints, ", &mut Prints::new(), &sample[..k])
 }

@@ -7,24 +7,26 @@ ghost use Rattle.replay.specs.PrintCase.{print_case_at, is_answer, leaves_bytes,
 
 use crate::counts::counted;
 use crate::samples::Sample;
-use crate::stored::{Tree, after_part, bytes_of, number_at, part_at, rest_at, words_at};
+use crate::stored::{after_part, bytes_of, number_at, part_at, rest_at, words_at};
 use crate::{MOST_BYTES, MOST_WORDS, PrintCase, Tally, UNTOUCHED};
+use datatype::Tree;
 use tokenizer::Refusal;
 
 // What stands before the rows' words of a case.
+#[tactic(auto, unfolding(crate::specs::PrintCase::print_case_at))]
 fn case_at(sample: &[u8], at: usize) -> PrintCase
     ensures { result ≡ print_case_at sample.now at }
 {
     let lent = number_at(sample, at);
     let text = number_at(sample, lent.next);
-    let list = number_at(sample, after_part(sample, text.next, text.value));
-    let status = number_at(sample, after_part(sample, list.next, list.value));
+    let names = number_at(sample, after_part(sample, text.next, text.value));
+    let status = number_at(sample, after_part(sample, names.next, names.value));
     let printed = number_at(sample, status.next);
     let count = number_at(sample, after_part(sample, printed.next, printed.value));
     PrintCase {
         lent: lent.value,
         text,
-        list,
+        names,
         status: status.value,
         printed,
         count: count.value,
@@ -33,6 +35,7 @@ fn case_at(sample: &[u8], at: usize) -> PrintCase
 }
 
 // Whether an answer has this status and this value.
+#[tactic(auto, unfolding(crate::specs::PrintCase::is_answer, arrow_types::specs::Status::status_of, arrow_types::specs::Status::value_of))]
 fn is_answer(answer: Result<usize, Refusal>, status: u32, value: u32) -> bool
     ensures { result ≡ is_answer (answer_of answer) status value }
 {
@@ -50,6 +53,7 @@ fn all_are(bytes: &[u8], value: u8) -> bool
 }
 
 // Whether a buffer holds these bytes, so many, and past them what it held before.
+#[tactic(auto, unfolding(crate::specs::PrintCase::leaves_bytes))]
 fn leaves(out: &[u8], size: u32, printed: &[u8]) -> bool
     ensures { result ≡ leaves_bytes out.now size printed.now }
 {
@@ -58,23 +62,25 @@ fn leaves(out: &[u8], size: u32, printed: &[u8]) -> bool
 }
 
 // Whether the printer gives a tree the status and the printed bytes of a case, and leaves the rest of the buffer.
+#[tactic(auto, unfolding(crate::specs::PrintCase::gives_print))]
 fn gives(tree: Tree, case: PrintCase, printed: &[u8], out: &mut [u8]) -> bool
-    ensures { result ≡ gives_print tree.entry.text.now tree.entry.list.now tree.entry.words.now (length out.old) case printed.now }
+    ensures { result ≡ gives_print tree.entry.text.now tree.entry.names.now tree.entry.rows.now (length out.old) case printed.now }
 {
     out.fill(UNTOUCHED as u8);
-    let answer = datatype_display::print_data_type(tree.text, tree.list, tree.words, out);
+    let answer = datatype_display::print_data_type(tree, out);
     is_answer(answer, case.status, case.printed.value) && leaves(out, case.printed.value, printed)
 }
 
 // The tally with one case more.
+#[tactic(auto, unfolding(crate::specs::PrintCase::one_print))]
 fn one_case(sample: &[u8], t: Tally, case: PrintCase, words: &mut [u32], out: &mut [u8]) -> Tally
     ensures { result ≡ one_print sample.now t case (length words.old) (length out.old) }
 {
     let next = words_at(sample, case.next, words);
     let tree = Tree {
         text: bytes_of(sample, case.text),
-        list: bytes_of(sample, case.list),
-        words,
+        names: bytes_of(sample, case.names),
+        rows: words,
     };
     let printed = bytes_of(sample, case.printed);
     let alike = gives(tree, case, printed, out);
@@ -82,6 +88,7 @@ fn one_case(sample: &[u8], t: Tally, case: PrintCase, words: &mut [u32], out: &m
 }
 
 // The tally with the case that stands behind it.
+#[tactic(auto, unfolding(crate::specs::PrintCase::print_one))]
 fn print_one(sample: &[u8], t: Tally, words: &mut [u32], out: &mut [u8]) -> Tally
     ensures { result ≡ print_one sample.now (length words.old) (length out.old) t }
 {
@@ -94,12 +101,21 @@ fn print_one(sample: &[u8], t: Tally, words: &mut [u32], out: &mut [u8]) -> Tall
 // The prints, with the words of a tree and the bytes that the printer is lent.
 #[derive(Drop)]
 pub(crate) struct Prints {
-    pub(crate) words: [u32; MOST_WORDS],
-    pub(crate) out: [u8; MOST_BYTES],
+    words: [u32; MOST_WORDS],
+    out: [u8; MOST_BYTES],
+}
+
+impl Prints {
+    pub(crate) fn new() -> Prints {
+        Prints {
+            words: [0; MOST_WORDS],
+            out: [0; MOST_BYTES],
+        }
+    }
 }
 
 impl Sample for Prints {
-    ghost one_of = { λ _ sample. print_one sample most_words most_bytes };
+    ghost one_of = { λ sample. print_one sample most_words most_bytes };
 
     fn one(&mut self, sample: &[u8], t: Tally) -> Tally {
         print_one(sample, t, &mut self.words, &mut self.out)

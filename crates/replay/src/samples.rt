@@ -10,17 +10,17 @@ use crate::stored::number_at;
 // A kind of sample, with the buffers that its cases are lent.
 pub(crate) trait Sample {
     // The tally of a sample with the case that stands behind it.
-    ghost one_of: { Self → List ℕ → Tally → Tally };
+    ghost one_of: { List ℕ → Tally → Tally };
 
     // What the buffers hold makes no difference.
     fn one(&mut self, sample: &[u8], t: Tally) -> Tally
-        ensures tally { result ≡ one_of self.old sample.now t }
-        ensures kept { one_of self.new ≡ one_of self.old };
+        ensures { result ≡ one_of sample.now t };
 }
 
 // The tally of a whole sample.
+#[tactic(auto, using(crate::proofs::Times::times_steps), unfolding(crate::specs::Sample::replayed))]
 pub(crate) fn replay<S: Sample>(kind: &mut S, sample: &[u8]) -> Tally
-    ensures { result ≡ replayed (S.one_of kind.old sample.now) sample.now }
+    ensures { result ≡ replayed (S.one_of sample.now) sample.now }
 {
     let cases = number_at(sample, 0);
     let mut t = start(cases.next);

@@ -1,18 +1,11 @@
-// Reading a stored sample: specs/Sample.antt says what its numbers and bytes are.
+// Reading a stored sample: specs/Sample.antt says what its numbers and bytes are. A sample and a place in it are taken
+// apart, as the definitions do: what was read keeps the place behind it, and a cursor would be taken apart for each.
 ghost use Rattle.std.specs.Prelude.{◌≡◌, length, drop};
 ghost use Rattle.replay.specs.Sample.{shift, number_at, numbers_at, after_numbers, after_part};
 ghost use Rattle.replay.specs.PrintCase.{bytes_of};
 ghost use Rattle.datatype.specs.Tree.{part};
 
 use crate::Number;
-
-// A tree: its text, its name list, and the words of its rows.
-#[derive(Clone, Copy)]
-pub(crate) struct Tree<'a> {
-    pub(crate) text: &'a [u8],
-    pub(crate) list: &'a [u8],
-    pub(crate) words: &'a [u32],
-}
 
 // A number with one more digit behind it.
 fn shifted(value: u32, digit: u8) -> u32
@@ -22,6 +15,7 @@ fn shifted(value: u32, digit: u8) -> u32
 }
 
 // The number at a place.
+#[tactic(auto, using(crate::proofs::Reading::number_steps), unfolding(crate::specs::Sample::number_at))]
 pub(crate) fn number_at(sample: &[u8], at: usize) -> Number
     ensures { result ≡ number_at sample.now at }
 {
@@ -46,7 +40,7 @@ pub(crate) fn rest_at(sample: &[u8], at: usize) -> &[u8]
     sample.get(at..).unwrap_or(&[])
 }
 
-// So many bytes at a place.
+// So many bytes at a place: as `datatype`'s, which is private, and takes places of 32 bits.
 pub(crate) fn part_at(sample: &[u8], at: usize, size: u32) -> &[u8]
     ensures { result.now ≡ part sample.now at size }
 {
@@ -69,6 +63,7 @@ pub(crate) fn after_part(sample: &[u8], at: usize, size: u32) -> usize
 }
 
 // Fills words with the numbers from a place on: the place behind them.
+#[tactic(auto, using(crate::proofs::Reading::numbers_steps))]
 pub(crate) fn words_at(sample: &[u8], at: usize, out: &mut [u32]) -> usize
     ensures place { result ≡ after_numbers sample.now (length out.old) at }
     ensures words { out.new ≡ numbers_at sample.now (length out.old) at }

@@ -8,10 +8,10 @@ ghost use Rattle.replay.specs.TableCase.{table_at, table_case_at, is_verdict, tr
 
 use crate::counts::counted;
 use crate::samples::Sample;
-use crate::stored::{Tree, after_part, bytes_of, number_at, words_at};
+use crate::stored::{after_part, bytes_of, number_at, words_at};
 use crate::{Answer, MOST_WORDS, Table, TableCase, Tally};
-use datatype::Field;
 use datatype::rows::{HOME, NAME_LENGTH, NAME_START, ROW_WORDS, ZONE_LENGTH, ZONE_START};
+use datatype::{Field, Tree};
 use tokenizer::Refusal;
 
 // What the cases of a group share: the sample, the table that they change, and the table that it is compared with.
@@ -24,21 +24,23 @@ struct Group<'a> {
 }
 
 // What stands before the words of a table.
+#[tactic(auto, unfolding(crate::specs::TableCase::table_at))]
 fn table_at(sample: &[u8], at: usize) -> Table
     ensures { result ≡ table_at sample.now at }
 {
     let text = number_at(sample, at);
-    let list = number_at(sample, after_part(sample, text.next, text.value));
-    let count = number_at(sample, after_part(sample, list.next, list.value));
+    let names = number_at(sample, after_part(sample, text.next, text.value));
+    let count = number_at(sample, after_part(sample, names.next, names.value));
     Table {
         text,
-        list,
+        names,
         count: count.value,
         next: count.next,
     }
 }
 
 // A case: the word, its value, and the answers.
+#[tactic(auto, unfolding(crate::specs::TableCase::table_case_at))]
 fn case_at(sample: &[u8], at: usize) -> TableCase
     ensures { result ≡ table_case_at sample.now at }
 {
@@ -71,14 +73,15 @@ fn case_at(sample: &[u8], at: usize) -> TableCase
     }
 }
 
-// A word of a table; 0 past its end.
+// A word of a table; 0 past its end, so that a row counts that is there in part: no `Row`, which has all its words.
 fn word(words: &[u32], place: usize) -> u32
     ensures { result ≡ get_or words.now place 0 }
 {
     words.get(place).copied().unwrap_or(0)
 }
 
-// Sets a word of a table, unless it is past its end.
+// Sets a word of a table, unless it is past its end, as `output::put_byte` does a byte: one function for both would be no
+// plainer, since its clause would speak of values of any type.
 fn put(words: &mut [u32], place: usize, value: u32)
     ensures { words.new ≡ set words.old place value }
 {
@@ -88,6 +91,7 @@ fn put(words: &mut [u32], place: usize, value: u32)
 }
 
 // Whether a verdict is this one: the value is 0 for yes, else the row's number from 1.
+#[tactic(auto, unfolding(crate::specs::TableCase::is_verdict, crate::specs::TableCase::verdict_value, arrow_types::specs::Status::status_of))]
 fn is_verdict(verdict: Result<Option<usize>, Refusal>, status: u32, value: u32) -> bool
     ensures { result ≡ is_verdict (answer_of verdict) status value }
 {
@@ -102,18 +106,19 @@ fn is_verdict(verdict: Result<Option<usize>, Refusal>, status: u32, value: u32) 
 }
 
 // Whether a table is sound or not, and has the depth and the verdict, as a case says.
+#[tactic(auto, unfolding(crate::specs::TableCase::tree_alike))]
 fn tree_alike(tree: Tree, case: TableCase) -> bool
-    ensures { result ≡ tree_alike tree.entry.text.now tree.entry.list.now tree.entry.words.now case }
+    ensures { result ≡ tree_alike tree.entry.text.now tree.entry.names.now tree.entry.rows.now case }
 {
-    if arrow_types::arrow_types_is_sound(tree.text, tree.list, tree.words) != case.sound {
+    if arrow_types::arrow_types_is_sound(tree.text, tree.names, tree.rows) != case.sound {
         return false;
     }
     let mut depth: usize = 0;
-    let status = arrow_types::arrow_types_depth(tree.text, tree.list, tree.words, &mut depth);
+    let status = arrow_types::arrow_types_depth(tree.text, tree.names, tree.rows, &mut depth);
     if status != case.depth.status {
         return false;
     }
-    let verdict = layout::verdict_of(tree.text, tree.list, tree.words);
+    let verdict = layout::verdict_of(tree);
     depth == case.depth.value as usize
         && is_verdict(verdict, case.verdict.status, case.verdict.value)
 }
@@ -126,29 +131,31 @@ fn row_of(place: u32) -> usize
 }
 
 // Whether the name and the zone of the row that has the word are as a case says.
+#[tactic(auto, unfolding(crate::specs::TableCase::row_alike, datatype::specs::Tree::label_of, datatype::specs::Table::row_of))]
 fn row_alike(tree: Tree, place: u32, name: &[u8], zone: &[u8]) -> bool
-    ensures { result ≡ row_alike tree.entry.text.now tree.entry.list.now tree.entry.words.now place name.now zone.now }
+    ensures { result ≡ row_alike tree.entry.text.now tree.entry.names.now tree.entry.rows.now place name.now zone.now }
 {
     let row = row_of(place);
     let field = Field {
-        home: word(tree.words, row + HOME),
-        start: word(tree.words, row + NAME_START),
-        size: word(tree.words, row + NAME_LENGTH),
+        home: word(tree.rows, row + HOME),
+        start: word(tree.rows, row + NAME_START),
+        size: word(tree.rows, row + NAME_LENGTH),
     };
-    let zone_start = word(tree.words, row + ZONE_START);
-    let zone_size = word(tree.words, row + ZONE_LENGTH);
-    datatype::equal_bytes(field.name(tree.text, tree.list), name)
+    let zone_start = word(tree.rows, row + ZONE_START);
+    let zone_size = word(tree.rows, row + ZONE_LENGTH);
+    datatype::equal_bytes(field.name(tree.text, tree.names), name)
         && datatype::equal_bytes(datatype::zone(tree.text, zone_start, zone_size), zone)
 }
 
 // Whether a group's table, changed as a case says, gives all that it says.
+#[tactic(auto, unfolding(crate::specs::TableCase::change_alike))]
 fn alike(group: Group, words: &[u32], case: TableCase) -> bool
     ensures { result ≡ change_alike group.entry.sample.now group.entry.table words.now group.entry.other group.entry.others.now case }
 {
     let tree = Tree {
         text: bytes_of(group.sample, group.table.text),
-        list: bytes_of(group.sample, group.table.list),
-        words,
+        names: bytes_of(group.sample, group.table.names),
+        rows: words,
     };
     let name = bytes_of(group.sample, case.name);
     let zone = bytes_of(group.sample, case.zone);
@@ -159,19 +166,20 @@ fn alike(group: Group, words: &[u32], case: TableCase) -> bool
         return false;
     }
     let text2 = bytes_of(group.sample, group.other.text);
-    let list2 = bytes_of(group.sample, group.other.list);
+    let names2 = bytes_of(group.sample, group.other.names);
     let equal = arrow_types::arrow_types_equal(
         tree.text,
-        tree.list,
+        tree.names,
         words,
         text2,
-        list2,
+        names2,
         group.others,
     );
     equal == case.equal
 }
 
 // The tally with the case that stands behind it. The table is left as it was.
+#[tactic(auto, using(crate::proofs::Steps::put_back), unfolding(crate::specs::TableCase::one_change))]
 fn one_case(group: Group, t: Tally, words: &mut [u32]) -> Tally
     ensures tally { result ≡ one_change group.entry.sample.now group.entry.table words.old group.entry.other group.entry.others.now t }
     ensures words { words.new ≡ words.old }
@@ -186,6 +194,7 @@ fn one_case(group: Group, t: Tally, words: &mut [u32]) -> Tally
 }
 
 // The tally with so many cases.
+#[tactic(auto, using(crate::proofs::Times::times_steps))]
 fn cases_of(group: Group, start: Tally, cases: u32, words: &mut [u32]) -> Tally
     ensures { result ≡ changes group.entry.sample.now group.entry.table words.old group.entry.other group.entry.others.now cases start }
 {
@@ -197,6 +206,7 @@ fn cases_of(group: Group, start: Tally, cases: u32, words: &mut [u32]) -> Tally
 }
 
 // The tally with the cases of two tables, the second of so many words.
+#[tactic(auto, unfolding(crate::specs::TableCase::group_cases))]
 fn group_cases(
     sample: &[u8],
     t: Tally,
@@ -223,6 +233,7 @@ fn group_cases(
 }
 
 // The tally with the group of a table of so many words.
+#[tactic(auto, unfolding(crate::specs::TableCase::group_of))]
 fn group_of(sample: &[u8], t: Tally, table: Table, words: &mut [u32], others: &mut [u32]) -> Tally
     ensures { result ≡ group_of sample.now table (length words.old) (length others.old) t }
 {
@@ -233,6 +244,7 @@ fn group_of(sample: &[u8], t: Tally, table: Table, words: &mut [u32], others: &m
 }
 
 // The tally with the group that stands behind it.
+#[tactic(auto, unfolding(crate::specs::TableCase::one_group))]
 fn one_group(sample: &[u8], t: Tally, words: &mut [u32], others: &mut [u32]) -> Tally
     ensures { result ≡ one_group sample.now (length words.old) (length others.old) t }
 {
@@ -244,12 +256,21 @@ fn one_group(sample: &[u8], t: Tally, words: &mut [u32], others: &mut [u32]) -> 
 // The groups, with the words of the two tables of one.
 #[derive(Drop)]
 pub(crate) struct Tables {
-    pub(crate) words: [u32; MOST_WORDS],
-    pub(crate) others: [u32; MOST_WORDS],
+    words: [u32; MOST_WORDS],
+    others: [u32; MOST_WORDS],
+}
+
+impl Tables {
+    pub(crate) fn new() -> Tables {
+        Tables {
+            words: [0; MOST_WORDS],
+            others: [0; MOST_WORDS],
+        }
+    }
 }
 
 impl Sample for Tables {
-    ghost one_of = { λ _ sample. one_group sample most_words most_words };
+    ghost one_of = { λ sample. one_group sample most_words most_words };
 
     fn one(&mut self, sample: &[u8], t: Tally) -> Tally {
         one_group(sample, t, &mut self.words, &mut self.others)

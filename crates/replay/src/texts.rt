@@ -1,5 +1,5 @@
 // Replaying the sample of the reader.
-ghost use Rattle.std.specs.Prelude.{◌≡◌, min, length};
+ghost use Rattle.std.specs.Prelude.{◌≡◌, ℕ, true, false, min, length};
 ghost use Rattle.replay.specs.Sample.{most_words};
 ghost use Rattle.replay.specs.ReadCase.{read_case_at, words_lent, rest_of, left_words, after_case, one_case, read_one};
 ghost use Rattle.replay.specs.ReadCase.{gives as gives_of};
@@ -11,6 +11,7 @@ use crate::{MOST_WORDS, ReadCase, Tally, UNTOUCHED};
 use datatype::rows::ROW_WORDS;
 
 // What stands before the rows' words of a case.
+#[tactic(auto, unfolding(crate::specs::ReadCase::read_case_at))]
 fn case_at(sample: &[u8], at: usize) -> ReadCase
     ensures { result ≡ read_case_at sample.now at }
 {
@@ -28,14 +29,43 @@ fn case_at(sample: &[u8], at: usize) -> ReadCase
     }
 }
 
-// How many words a case is lent: those stored with it, or, read again where it is accepted, those of its rows to lend.
-fn words_lent(case: ReadCase, again: bool) -> usize
-    ensures { result ≡ words_lent again case }
-{
-    if again && case.status == 0 {
-        ROW_WORDS * arrow_types::arrow_types_rows_to_lend(case.size as usize)
-    } else {
+// How many words a case is lent.
+pub(crate) trait Lending: Drop {
+    ghost use Rattle.replay.specs.declared.ReadCase.{ReadCase};
+
+    ghost lent: { ReadCase → ℕ };
+
+    fn words(&self, case: ReadCase) -> usize
+        ensures { result ≡ lent case };
+}
+
+// Those that are stored with it.
+#[derive(Drop)]
+pub(crate) struct Stored;
+
+impl Lending for Stored {
+    ghost lent = { words_lent false };
+
+    #[tactic(auto, unfolding(crate::specs::ReadCase::words_lent))]
+    fn words(&self, case: ReadCase) -> usize {
         case.lent as usize
+    }
+}
+
+// Those of its rows to lend where it is accepted, else those that are stored with it.
+#[derive(Drop)]
+pub(crate) struct RowsToLend;
+
+impl Lending for RowsToLend {
+    ghost lent = { words_lent true };
+
+    #[tactic(auto, using(datatype_parse::proofs::RowsToLend::most_to_lend), unfolding(crate::specs::ReadCase::words_lent))]
+    fn words(&self, case: ReadCase) -> usize {
+        if case.status == 0 {
+            ROW_WORDS * arrow_types::arrow_types_rows_to_lend(case.size as usize)
+        } else {
+            case.lent as usize
+        }
     }
 }
 
@@ -47,6 +77,7 @@ fn rest(status: u32) -> u32
 }
 
 // Fills words with those that the reader is to leave: the place behind those of them that are stored.
+#[tactic(auto, unfolding(crate::specs::ReadCase::left_words, crate::specs::ReadCase::after_case))]
 fn left_words(sample: &[u8], case: ReadCase, left: &mut [u32]) -> usize
     ensures place { result ≡ after_case sample.now case (length left.old) }
     ensures words { left.new ≡ left_words sample.now case (length left.old) }
@@ -57,6 +88,7 @@ fn left_words(sample: &[u8], case: ReadCase, left: &mut [u32]) -> usize
 }
 
 // Whether the reader gives a text the status and the value of a case, and leaves these words of those lent.
+#[tactic(auto, unfolding(crate::specs::ReadCase::gives))]
 fn gives(text: &[u8], case: ReadCase, left: &[u32], rows: &mut [u32]) -> bool
     ensures { result ≡ gives_of text.now (length rows.old) case.status case.value left.now }
 {
@@ -70,6 +102,7 @@ fn gives(text: &[u8], case: ReadCase, left: &[u32], rows: &mut [u32]) -> bool
 }
 
 // The tally with one case more.
+#[tactic(auto, unfolding(crate::specs::ReadCase::one_case))]
 fn one_case(sample: &[u8], t: Tally, case: ReadCase, rows: &mut [u32], left: &mut [u32]) -> Tally
     ensures { result ≡ one_case sample.now t case (length rows.old) (length left.old) }
 {
@@ -80,27 +113,44 @@ fn one_case(sample: &[u8], t: Tally, case: ReadCase, rows: &mut [u32], left: &mu
 }
 
 // The tally with the case that stands behind it.
-fn read_one(sample: &[u8], again: bool, t: Tally, rows: &mut [u32], left: &mut [u32]) -> Tally
-    ensures { result ≡ read_one sample.now again (min (length rows.old) (length left.old)) t }
+#[tactic(auto, unfolding(crate::specs::ReadCase::read_one))]
+fn read_one<L: Lending>(
+    sample: &[u8],
+    lending: &L,
+    t: Tally,
+    rows: &mut [u32],
+    left: &mut [u32],
+) -> Tally
+    ensures { result ≡ read_one sample.now L.lent (min (length rows.old) (length left.old)) t }
 {
     let case = case_at(sample, t.next);
     let most = rows.len().min(left.len());
-    let lent = words_lent(case, again).min(most);
+    let lent = lending.words(case).min(most);
     one_case(sample, t, case, &mut rows[..lent], &mut left[..lent])
 }
 
-// The texts, read for the first time or again, with the words lent and those that are to be left.
+// The texts, with how many words each is lent, and with the words lent and those that are to be left.
 #[derive(Drop)]
-pub(crate) struct Texts {
-    pub(crate) again: bool,
-    pub(crate) rows: [u32; MOST_WORDS],
-    pub(crate) left: [u32; MOST_WORDS],
+pub(crate) struct Texts<L> {
+    lending: L,
+    rows: [u32; MOST_WORDS],
+    left: [u32; MOST_WORDS],
 }
 
-impl Sample for Texts {
-    ghost one_of = { λ texts sample. read_one sample texts.again most_words };
+impl<L> Texts<L> {
+    pub(crate) fn new(lending: L) -> Texts<L> {
+        Texts {
+            lending,
+            rows: [0; MOST_WORDS],
+            left: [0; MOST_WORDS],
+        }
+    }
+}
+
+impl<L: Lending> Sample for Texts<L> {
+    ghost one_of = { λ sample. read_one sample L.lent most_words };
 
     fn one(&mut self, sample: &[u8], t: Tally) -> Tally {
-        read_one(sample, self.again, t, &mut self.rows, &mut self.left)
+        read_one(sample, &self.lending, t, &mut self.rows, &mut self.left)
     }
 }

@@ -100,20 +100,20 @@ module _ (text names table out back : List ℕ) where
   answers r out' back' a o b = (a, (o, (b, demand3 (printed_and_read_means r) out' back' a o b)))
 
   module _ (p : Result ℕ R.Refusal) (out' : List ℕ) (e : answer_of p ≡ print_answer text names table out) (o : out' ≡ print_bytes text names table out) where
-    pub not-printed : (x : R.Refusal) → p ≡ Err x → Answers (Err (NotPrinted x)) out' back
+    pub not-printed : (r : Result PrintedAndRead NotReadBack) → (x : R.Refusal) × (p ≡ Err x) × (r ≡ Err (NotPrinted x)) → Answers r out' back
     unfolding print_answer printed_and_read_means print_and_read_answer print_and_read_rows
-    not-printed x h =
-        let q : print text names table (length out) ≡ refuse (number_of x) = no_text (print text names table (length out)) (number_of x) (sym e ∙ ap answer_of h) in
-        answers (Err (NotPrinted x)) out' back (rw q) o (rw q)
+    not-printed r h =
+        let q : print text names table (length out) ≡ refuse (number_of h.0) = no_text (print text names table (length out)) (number_of h.0) (sym e ∙ ap answer_of h.1) in
+        answers r out' back (rw (h.2, q)) o (rw q)
 
     module _ (n : ℕ) (h : p ≡ Ok n) (q : Result ℕ R.Refusal) (back' : List ℕ) (f : answer_of q ≡ parse_answer (take n out') back)
         (b : back' ≡ parse_rows (take n out') back) where
-      pub not-read : (x : R.Refusal) → q ≡ Err x → Answers (Err (NotRead x)) out' back'
+      pub not-read : (r : Result PrintedAndRead NotReadBack) → (x : R.Refusal) × (q ≡ Err x) × (r ≡ Err (NotRead x)) → Answers r out' back'
       unfolding printed_and_read_means print_and_read_answer print_and_read_rows
-      not-read x k =
+      not-read r k =
           let t = text-printed text names table out p out' e o n h in
-          let g : parse_answer (take n out') back ≡ refuse (number_of x) = sym f ∙ ap answer_of k in
-          answers (Err (NotRead x)) out' back' (rw (t.is, g)) o (rw (t.is, b))
+          let g : parse_answer (take n out') back ≡ refuse (number_of k.0) = sym f ∙ ap answer_of k.1 in
+          answers r out' back' (rw (k.2, t.is, g)) o (rw (t.is, b))
 
       pub read_back : (m : ℕ) → q ≡ Ok m → Answers (Ok (record { bytes = n; rows = m })) out' back'
       unfolding printed_and_read_means print_and_read_answer print_and_read_rows

@@ -11,14 +11,8 @@ use lib.Dec.{T, leb, eqb, leb→le}
 use borrow.Author.Tests.{lt-ltb, le-ltb, eq-eqb, ne_eqb, eqb-true, eqb-false}
 use Rattle.tokenizer.specs.Utf8.{further, utf8_step, utf8_state, is_utf8}
 use Rattle.tokenizer.proofs.Basics.{and_l, and_r, of_true}
-use Rattle.tokenizer.proofs.Utf8Laws.{state_append, utf8_state_lem, step-9}
+use Rattle.tokenizer.proofs.Utf8Laws.{state_append, utf8_state_lem, step-9, state_broken}
 use Rattle.row_table.specs.Internal.Check.{boundary}
-
--- what is broken stays broken
-state_broken : (s : List ℕ) → utf8_state 8 s ≡ 8
-unfolding utf8_state utf8_step
-state_broken [] = refl
-state_broken (b ∷ s) = state_broken s
 
 -- a further byte that is taken is one of 128 to 191
 further_taken : (lo hi b q : ℕ) → (further lo hi b q ≡ 8 → ⊥) → 128 ≤ lo → hi < 192 → (128 ≤ b) × (b < 192)

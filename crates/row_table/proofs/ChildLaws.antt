@@ -1,19 +1,19 @@
 -- What the functions of `children.rt` say of the children of a row.
 use mathlib.Core.Path.{◌≡◌, refl, sym, ◌∙◌}
-use mathlib.Core.Bool.{Bool, true, false, not, ◌&&◌, ◌||◌, and-true, and-false, false≢true}
+use mathlib.Core.Bool.{Bool, true, false, not, ◌&&◌, ◌||◌, and-true, false≢true}
 use mathlib.Core.List.{List, map}
 use Prim.Native.Nat.{ℕ, zero, suc, ◌+◌, ◌-◌, ◌*◌, ◌≤◌, ◌<◌}
 use native.Mathlib.Omega.{arith}
 use Rattle.std.proofs.lemmas.Bool.Decides.{nat_tests}
 use lib.ListN.{length, get_or}
-use lib.Dec.{T, leb, ltb, eqb, eqb→eq, eqb-suc-suc}
-use borrow.Author.Tests.{lt-leb, eq-eqb, ne_eqb, ltb-true, ltb-false}
+use lib.Dec.{leb, eqb, eqb→eq, eqb-suc-suc}
+use borrow.Author.Tests.{eq-eqb, ne_eqb}
 use Rattle.std.specs.Prelude.{if◌then◌else◌, is_ok, Result, Ok, Err}
 use Rattle.tokenizer.specs.declared.refusal.Refusal as R
 use Rattle.tokenizer.specs.declared.refusal.Refusal.TheVariants.{TextTooLong, NotUtf8, TooDeep, TooManyRows, TextEnds, StringNeverEnds, StringEmpty, UnknownWord, UnexpectedToken, NumberOutOfRange, WrongTimeUnit, WrongDecimal, MustBeNonNull, WrongMapEntries, WrongUnionId, TrailingText, NotSound, NotAscii, PrintTooLong}
 use Rattle.tokenizer.specs.Answer.{number_of}
-use Rattle.tokenizer.proofs.Basics.{and_l, and_r, is_true, of_true}
-use Rattle.datatype.specs.Kind.{Shape, leaf, timestamp, time, interval, fixed, list, fixed_list, struct, union, dictionary, decimal, mapping, run_end_encoded, kinds, shape_of, ids_fit}
+use Rattle.tokenizer.proofs.Basics.{is_true, of_true}
+use Rattle.datatype.specs.Kind.{Shape, leaf, timestamp, time, interval, fixed, list, fixed_list, struct, union, dictionary, decimal, mapping, run_end_encoded, shape_of, ids_fit}
 use Rattle.datatype.specs.Tree.{Forest, ∅, node, count, roots, Row}
 use Rattle.datatype.specs.Table.{row_words, rows_at}
 use Rattle.row_table.specs.Sound.{Arity, no_child, one_child, two_children, any_count, arity_fits, rules_of}
@@ -21,8 +21,8 @@ use Rattle.subtrees.specs.Internal.Run.{row_at, run_at, is_run, entries_of, Nest
 use Rattle.row_table.specs.Internal.Check.{trees, entries_ok, first_non_null, over_kids, children_fit}
 use Rattle.subtrees.specs.MapEntries.{refused_with, entries_refusal_at}
 use Rattle.subtrees.specs.UnionFields.{type_ids_fit}
-use Rattle.datatype.proofs.Tests.{iff_eq, all_below, below_at, same_bool, same_bool_lem}
-use Rattle.datatype.proofs.KindLaws.{past_kinds}
+use Rattle.datatype.proofs.Tests.{iff_eq, same_bool, same_bool_lem}
+use Rattle.row_table.proofs.RuleLaws.{by_number}
 use Rattle.subtrees.proofs.EntryLaws.{entries_nest}
 use Rattle.subtrees.proofs.UnionLaws.{type_ids_fit_lem}
 use Rattle.subtrees.proofs.Runs.{Turn, turn, forest_none, count_forest}
@@ -58,10 +58,6 @@ numbered PrintTooLong = refl
 pub ok_is : {A : Type 0} (r : Result A R.Refusal) → is_ok r ≡ eqb (refused_with r) 0
 ok_is (Ok value) = refl
 ok_is (Err e) = sym (numbered e)
-
--- the first tree of a run, and what is behind it
-pub child-turn : (table : List ℕ) (first end : ℕ) → Nests table first (end - first) → first ≤ end → (first ≡ end → ⊥) → Turn table first end
-child-turn table first end h l some = turn table first end h (omega arith)
 
 -- the ghost fields of `Children`, as the walks take them
 pub nests : (table : List ℕ) (first end : ℕ) → first ≤ end → row_words * end ≤ length table → is_run (run_at table first (end - first)) ≡ true → Nests table first (end - first)
@@ -152,47 +148,54 @@ arity_is two_children (suc (suc zero)) h = refl
 arity_is two_children (suc (suc (suc n))) h = sym (ne_eqb (suc (suc (suc n))) 2 (λ e. omega arith))
 arity_is any_count n h = absurd (omega arith)
 
--- the shapes that ask nothing of their children but how many there are
-abbrev plain : Shape → Bool
-plain leaf = true
-plain timestamp = true
-plain time = true
-plain interval = true
-plain fixed = true
-plain list = true
-plain fixed_list = true
-plain struct = true
-plain union = false
-plain dictionary = true
-plain decimal = true
-plain mapping = false
-plain run_end_encoded = false
+arity_alone : (a : Arity) (n : ℕ) → arity_number a < 3 → (arity_fits a n && true) ≡ eqb n (arity_number a)
+arity_alone a n h = rw (arity_is a n h) (and-true _)
 
-plain_over : (s : Shape) (f : Forest Row) → T (plain s) → over_kids s f ≡ true
-plain_over leaf f t = refl
-plain_over timestamp f t = refl
-plain_over time f t = refl
-plain_over interval f t = refl
-plain_over fixed f t = refl
-plain_over list f t = refl
-plain_over fixed_list f t = refl
-plain_over struct f t = refl
-plain_over union f t = absurd t
-plain_over dictionary f t = refl
-plain_over decimal f t = refl
-plain_over mapping f t = absurd t
-plain_over run_end_encoded f t = absurd t
+-- how many children a shape has, where it asks nothing else of them; 3 stands for all others
+abbrev shape_number : Shape → ℕ
+shape_number leaf = 0
+shape_number timestamp = 0
+shape_number time = 0
+shape_number interval = 0
+shape_number fixed = 0
+shape_number list = 1
+shape_number fixed_list = 1
+shape_number struct = 3
+shape_number union = 3
+shape_number dictionary = 2
+shape_number decimal = 0
+shape_number mapping = 3
+shape_number run_end_encoded = 3
 
--- how many children a kind has, where its shape is plain
+count_alone : (s : Shape) (f : Forest Row) → shape_number s < 3 → (arity_fits (rules_of s).children (length (roots f)) && over_kids s f) ≡ eqb (length (roots f)) (shape_number s)
+unfolding rules_of
+count_alone leaf f h = arity_alone no_child (length (roots f)) h
+count_alone timestamp f h = arity_alone no_child (length (roots f)) h
+count_alone time f h = arity_alone no_child (length (roots f)) h
+count_alone interval f h = arity_alone no_child (length (roots f)) h
+count_alone fixed f h = arity_alone no_child (length (roots f)) h
+count_alone list f h = arity_alone one_child (length (roots f)) h
+count_alone fixed_list f h = arity_alone one_child (length (roots f)) h
+count_alone struct f h = absurd (omega arith)
+count_alone union f h = absurd (omega arith)
+count_alone dictionary f h = arity_alone two_children (length (roots f)) h
+count_alone decimal f h = arity_alone no_child (length (roots f)) h
+count_alone mapping f h = absurd (omega arith)
+count_alone run_end_encoded f h = absurd (omega arith)
+
+-- the same by the kind's number
 abbrev child_count : ℕ → ℕ
 child_count k = if leb 27 k && leb k 31 then 1 else (if eqb k 34 then 2 else 0)
 
-counted : T (all_below kinds (λ k. eqb k 32 || eqb k 33 || eqb k 39 || eqb k 40 || (plain (shape_of k) && eqb (arity_number (rules_of (shape_of k)).children) (child_count k))))
-unfolding rules_of shape_of
-counted = tt
+abbrev number_at : ℕ → ℕ
+number_at k = if eqb k 32 || eqb k 33 || eqb k 39 || eqb k 40 then 3 else child_count k
 
 count_few : (k : ℕ) → child_count k < 3
 count_few k = grind (arith, nat_tests)
+
+count_by : (k : ℕ) → shape_number (shape_of k) ≡ number_at k
+unfolding shape_of
+count_by k = by_number eqb eqb→eq shape_number number_at tt (λ k h. grind (arith, nat_tests)) k
 
 module _ (k : ℕ) (f : Forest Row) where
   pub kids_struct : k ≡ 32 → children_fit k f ≡ true
@@ -211,29 +214,11 @@ module _ (k : ℕ) (f : Forest Row) where
   unfolding children_fit rules_of shape_of
   kids_run_ends e = rw (e, arity_is two_children (length (roots f)) (omega arith))
 
-  kids_below : k < kinds → (k ≡ 32 → ⊥) → (k ≡ 33 → ⊥) → (k ≡ 39 → ⊥) → (k ≡ 40 → ⊥) → children_fit k f ≡ eqb (length (roots f)) (child_count k)
+  pub kids_plain : (k ≡ 32 → ⊥) → (k ≡ 33 → ⊥) → (k ≡ 39 → ⊥) → (k ≡ 40 → ⊥) → children_fit k f ≡ eqb (length (roots f)) (child_count k)
   unfolding children_fit
-  kids_below h a b c d =
-      let P : Bool = plain (shape_of k) in
-      let A : ℕ = arity_number (rules_of (shape_of k)).children in
-      let t : T (eqb k 32 || eqb k 33 || eqb k 39 || eqb k 40 || (P && eqb A (child_count k))) = below_at kinds (λ i. eqb i 32 || eqb i 33 || eqb i 39 || eqb i 40 || (plain (shape_of i) && eqb (arity_number (rules_of (shape_of i)).children) (child_count i))) counted k h in
-      let u : T (P && eqb A (child_count k)) = rw (ne_eqb k 32 a, ne_eqb k 33 b, ne_eqb k 39 c, ne_eqb k 40 d) at t in
-      let e : A ≡ child_count k = eqb→eq A (child_count k) (and_r P (eqb A (child_count k)) u) in
-      let few : A < 3 = omega (arith, e, count_few k) in
-      rw (arity_is (rules_of (shape_of k)).children (length (roots f)) few, plain_over (shape_of k) f (and_l P (eqb A (child_count k)) u), e) (and-true _)
-
-  kids_past : kinds ≤ k → children_fit k f ≡ eqb (length (roots f)) 0
-  unfolding children_fit rules_of
-  kids_past h = rw (past_kinds k h, arity_is no_child (length (roots f)) (omega arith)) (and-true _)
-
-  pub kids_plain : (k ≡ 32 → ⊥) → (k ≡ 33 → ⊥) → (k ≡ 39 → ⊥) → (k ≡ 40 → ⊥) → children_fit k f ≡ eqb (length (roots f)) (if leb 27 k && leb k 31 then 1 else (if eqb k 34 then 2 else 0))
-  kids_plain a b c d = go (ltb k kinds) refl
-    where
-      go : (t : Bool) → ltb k kinds ≡ t → children_fit k f ≡ eqb (length (roots f)) (child_count k)
-      go true e = kids_below (ltb-true k kinds e) a b c d
-      go false e =
-          let h = ltb-false k kinds e in
-          kids_past h ∙ sym (rw (lt-leb k 31 (omega arith), and-false (leb 27 k), ne_eqb k 34 (λ e. omega arith)))
+  kids_plain a b c d =
+      let e : shape_number (shape_of k) ≡ child_count k = count_by k ∙ rw (ne_eqb k 32 a, ne_eqb k 33 b, ne_eqb k 39 c, ne_eqb k 40 d) in
+      count_alone (shape_of k) f (omega (arith, e, count_few k)) ∙ rw e
 
 -- what `fit` uses
 pub ruleset kids = (kids_struct, kids_union, kids_map, kids_run_ends, kids_plain, no_child_is, one_some, two_some, ok_is, ids_are, entries_are, first_role_is)
@@ -243,15 +228,9 @@ pub ruleset counts = (none_here, one_is, two_are, behind_from, behind_whole)
 
 -- ---- kinds that may have no children
 
-childless : T (all_below kinds (λ k. same_bool (not ((leb 27 k && leb k 31) || eqb k 34 || eqb k 39 || eqb k 40)) (children_fit k ∅)))
-unfolding same_bool children_fit rules_of shape_of arity_fits ids_fit
-childless = tt
+abbrev childless_at : ℕ → Bool
+childless_at k = not ((leb 27 k && leb k 31) || eqb k 34 || eqb k 39 || eqb k 40)
 
-pub childless_by : (k : ℕ) → children_fit k ∅ ≡ not ((leb 27 k && leb k 31) || eqb k 34 || eqb k 39 || eqb k 40)
-childless_by k = go (ltb k kinds) refl
-  where
-    go : (t : Bool) → ltb k kinds ≡ t → children_fit k ∅ ≡ not ((leb 27 k && leb k 31) || eqb k 34 || eqb k 39 || eqb k 40)
-    go true e = sym (same_bool_lem (not ((leb 27 k && leb k 31) || eqb k 34 || eqb k 39 || eqb k 40)) (children_fit k ∅) (below_at kinds (λ i. same_bool (not ((leb 27 i && leb i 31) || eqb i 34 || eqb i 39 || eqb i 40)) (children_fit i ∅)) childless k (ltb-true k kinds e)))
-    go false e =
-        let h = ltb-false k kinds e in
-        kids_past k ∅ h ∙ sym (rw (lt-leb k 31 (omega arith), and-false (leb 27 k), ne_eqb k 34 (λ e. omega arith), ne_eqb k 39 (λ e. omega arith), ne_eqb k 40 (λ e. omega arith)))
+pub childless_by : (k : ℕ) → children_fit k ∅ ≡ childless_at k
+unfolding same_bool children_fit rules_of shape_of arity_fits ids_fit
+childless_by k = by_number same_bool same_bool_lem (λ s. arity_fits (rules_of s).children 0 && over_kids s ∅) childless_at tt (λ k h. grind (arith, nat_tests)) k

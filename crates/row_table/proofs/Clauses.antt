@@ -1,15 +1,19 @@
--- The clauses of soundness as `is_sound` looks at them (specs/Check.antt) are those of its definition (specs/Sound.antt).
+-- The clauses of soundness as `is_sound` looks at them (specs/Internal/Check.antt) are those of its definition
+-- (specs/Sound.antt).
 use Rattle.std.specs.Prelude.{if◌then◌else◌}
 use mathlib.Core.Path.{◌≡◌, refl, sym, ap}
-use mathlib.Core.Bool.{Bool, true, false, ◌&&◌, ◌||◌, and-true, true≢false}
+use mathlib.Core.Bool.{Bool, true, false, ◌&&◌, ◌||◌, and-true}
 use mathlib.Core.List.{List, [], ◌∷◌, map}
 use mathlib.Core.Option.{some}
-use Prim.Native.Nat.{ℕ, zero, suc, ◌+◌, ◌≤◌}
+use Prim.Native.Nat.{ℕ, suc, ◌+◌, ◌≤◌}
 use native.Mathlib.Omega.{arith}
 use lib.ListN.{length, take, drop, length-drop}
 use lib.Seq.{length-take-le}
 use lib.Dec.{T, leb, ltb, eqb, leb→le, le→leb, ltb→lt, lt→ltb, eqb→eq}
 use borrow.Author.Tests.{le-leb, ne_eqb, eqb-true}
+use Rattle.std.proofs.Math.Facts.{or_yes}
+use Rattle.std.proofs.Math.Logic.{⊎_elim}
+use Rattle.std.proofs.lemmas.Bool.Decides.{nat_tests}
 use Rattle.tokenizer.specs.Text.{is_empty}
 use Rattle.tokenizer.specs.Utf8.{is_utf8, utf8_state, utf8_step}
 use Rattle.tokenizer.proofs.Basics.{and_l, and_r, both, is_true, if_same}
@@ -17,13 +21,10 @@ use Rattle.datatype.specs.Kind.{Shape, leaf, timestamp, time, interval, fixed, l
 use Rattle.datatype.specs.Tree.{Forest, ∅, node, roots, depth, Row, Label, name_list, part, name_of, zone_of, label_of, labels}
 use Rattle.row_table.specs.Sound.{Standing, bare, field, union_field, arity_fits, role_fits, id_fits, is_name, name_fits, rules_of, zone_fits, roles_of, ids_of, entries_fit, run_ends_fit, shape_fits, rows_fit, is_listed, name_placed, zone_placed, placed}
 use Rattle.row_table.specs.Internal.Check.{below_of, part_fits, name_ok, zone_ok, own_shape, numbers_fit, own_fits, entries_ok, first_non_null, over_kids, children_fit, run_fits}
+use Rattle.row_table.proofs.AllPass.{three, all_three, five, all_five}
 use Rattle.row_table.proofs.SoundTree.{RowFits, rows_fit_lem, fits_rows}
 
 -- ---- tests
-
-or_case : (a b : Bool) (P : Type 0) → (T a → P) → (T b → P) → T (a || b) → P
-or_case true b P f g t = f tt
-or_case false b P f g t = g t
 
 or_l : (a b : Bool) → T a → T (a || b)
 or_l true b t = tt
@@ -34,8 +35,7 @@ or_r true b t = tt
 or_r false b t = t
 
 not_zero : (n : ℕ) → eqb n 0 ≡ false → 1 ≤ n
-not_zero zero e = absurd (let z : ◌≡◌ {A = Bool} true false = e in true≢false z)
-not_zero (suc n) e = omega arith
+not_zero n e = grind (arith, nat_tests)
 
 empty_zone : (zoned : Bool) → T (zone_fits zoned [])
 unfolding zone_fits is_utf8 utf8_state
@@ -59,18 +59,15 @@ part_long text start size h = rw (le-leb (start + size) (length text) h) (length
 listed_name : (start size : ℕ) → T (is_listed start size) → T (is_name (part name_list start size))
 unfolding is_utf8 utf8_state utf8_step
 listed_name start size t =
-    or_case ((eqb start 0 && eqb size 4) || (eqb start 4 && eqb size 8)) (eqb start 12 && eqb size 6) (T (is_name (part name_list start size)))
-    (λ u. or_case (eqb start 0 && eqb size 4) (eqb start 4 && eqb size 8) (T (is_name (part name_list start size)))
-    (λ v. at 0 4 v tt) (λ v. at 4 8 v tt) u) (λ u. at 12 6 u tt) t
+    ⊎_elim (λ u. ⊎_elim (λ v. at 0 4 v tt) (λ v. at 4 8 v tt) (or_yes (eqb start 0 && eqb size 4) (eqb start 4 && eqb size 8) u)) (λ u. at 12 6 u tt)
+    (or_yes ((eqb start 0 && eqb size 4) || (eqb start 4 && eqb size 8)) (eqb start 12 && eqb size 6) t)
   where
     at : (i n : ℕ) → T (eqb start i && eqb size n) → T (is_name (part name_list i n)) → T (is_name (part name_list start size))
     at i n w h = rw (eqb→eq start i (and_l (eqb start i) (eqb size n) w), eqb→eq size n (and_r (eqb start i) (eqb size n) w)) h
 
 -- a field's role is not 0
 field_role : (role : ℕ) → T (eqb role 1 || eqb role 2) → eqb role 0 ≡ false
-field_role role t =
-    ne_eqb role 0
-    (or_case (eqb role 1) (eqb role 2) (role ≡ 0 → ⊥) (λ u z. let e = eqb→eq role 1 u in omega arith) (λ u z. let e = eqb→eq role 2 u in omega arith) t)
+field_role role t = ne_eqb role 0 (⊎_elim (λ u z. let e = eqb→eq role 1 u in omega arith) (λ u z. let e = eqb→eq role 2 u in omega arith) (or_yes (eqb role 1) (eqb role 2) t))
 
 module _ (text : List ℕ) (r : Row) where
   abbrev in_text : Bool
@@ -124,16 +121,15 @@ module _ (text : List ℕ) (r : Row) where
   unfolding name_placed
   field_in role t =
       rw (field_role r.role role)
-      (or_case in_text in_list (T (first || in_list) × T (is_name name_at))
+      (⊎_elim
       (λ u. let w = text-name u in (or_l first in_list w.0, w.1))
-      (λ u. (or_r first in_list u, list-name u)) t)
+      (λ u. (or_r first in_list u, list-name u)) (or_yes in_text in_list t))
 
   field_out : T (eqb r.role 1 || eqb r.role 2) → T (name_placed text r) → T (is_name name_at) → T (in_text || in_list)
   unfolding name_placed
   field_out role p n =
-      or_case first in_list (T (in_text || in_list))
-      (λ u. or_l in_text in_list (name-text u n))
-      (λ u. or_r in_text in_list u) (rw (field_role r.role role) at p)
+      ⊎_elim (λ u. or_l in_text in_list (name-text u n)) (λ u. or_r in_text in_list u)
+      (or_yes first in_list (rw (field_role r.role role) at p))
 
   abbrev name_test : Standing → Bool
   name_test standing = name_ok text standing r.role r.home r.name_start r.name_length
@@ -275,8 +271,6 @@ shape_parts text names run_end_encoded r kids = first_same text names kids
 
 -- ---- a row
 
-ruleset split = (and_l, and_r)
-
 -- the clauses of a row alone, and those of its children
 pub record Own (text : List ℕ) (standing : Standing) (r : Row) : Type 0 where
   pub kind : T (ltb r.kind kinds)
@@ -284,18 +278,6 @@ pub record Own (text : List ℕ) (standing : Standing) (r : Row) : Type 0 where
   pub union_id : T (id_fits standing r.union_id)
   pub name : T (name_ok text standing r.role r.home r.name_start r.name_length)
   pub zone : T (zone_ok text (rules_of (shape_of r.kind)).zoned r.zone_start r.zone_length)
-
-five : (a b c d e : Bool) → T (a && b && c && d && e) → T a × T b × T c × T d × T e
-five a b c d e t = (search split depth 6, search split depth 6, search split depth 6, search split depth 6, search split depth 6)
-
-all_five : (a b c d e : Bool) → T a → T b → T c → T d → T e → T (a && b && c && d && e)
-all_five a b c d e p q x y z = both (a && b && c && d) e (both (a && b && c) d (both (a && b) c (both a b p q) x) y) z
-
-three : (a b c : Bool) → T (a && b && c) → T a × T b × T c
-three a b c t = (search split depth 6, search split depth 6, search split depth 6)
-
-all_three : (a b c : Bool) → T a → T b → T c → T (a && b && c)
-all_three a b c p q x = both (a && b) c (both a b p q) x
 
 module _ (text : List ℕ) (standing : Standing) (r : Row) (kids : Forest Row) where
   abbrev label : Label

@@ -1,3 +1,4 @@
+pub mod AllPass
 pub mod SoundTree
 pub mod Boundary
 pub mod Clauses
@@ -6,6 +7,5 @@ pub mod NameLaws
 pub mod ChildLaws
 pub mod SoundLaws
 pub mod DepthLaws
-pub mod LevelWalk
 pub mod Parented
 pub mod Walks

@@ -1,59 +1,77 @@
--- What the methods of `names.rt` look at: parts that cut no character, and zones.
-use mathlib.Core.Path.{◌≡◌, refl, sym}
-use mathlib.Core.Bool.{Bool, true, false, not, ◌&&◌}
+-- What the functions of `names.rt` look at: parts that cut no character, and zones.
+use mathlib.Core.Path.{◌≡◌, sym, ◌∙◌}
+use mathlib.Core.Bool.{true, false, ◌&&◌, and-false, false≢true}
 use mathlib.Core.List.{List}
-use Prim.Native.Nat.{ℕ, ◌+◌, ◌<◌}
+use mathlib.Core.Logic.{inl, inr}
+use Prim.Native.Nat.{ℕ, ◌+◌, ◌≤◌}
 use native.Mathlib.Omega.{arith}
 use lib.ListN.{length, get_or}
-use lib.Dec.{T, leb, ltb, eqb}
-use borrow.Author.Tests.{leb-true, leb-false, ltb-true, ltb-false}
+use lib.Dec.{T, leb, eqb}
+use borrow.Author.Tests.{le-leb, lt-leb}
+use Rattle.std.specs.Str.{IsUtf8, IsCharBoundary}
+use Rattle.std.proofs.lemmas.Bool.{and_parts, cases_lt, false_from_ne_true}
+use Rattle.std.proofs.lemmas.Bool.Decides.{nat_tests}
 use Rattle.tokenizer.specs.Utf8.{is_utf8}
 use Rattle.tokenizer.proofs.Basics.{of_true}
-use Rattle.datatype.specs.Kind.{kinds, shape_of}
-use Rattle.datatype.specs.Tree.{part}
+use Rattle.tokenizer.proofs.RustUtf8.{test_yes}
+use Rattle.datatype.specs.Kind.{shape_of}
 use Rattle.row_table.specs.Sound.{rules_of}
 use Rattle.row_table.specs.Internal.Check.{boundary, part_fits}
-use Rattle.datatype.proofs.Tests.{all_below, below_at, same_bool, same_bool_lem}
+use Rattle.datatype.proofs.Tests.{same_bool, same_bool_lem}
+use Rattle.row_table.proofs.RuleLaws.{by_number}
 use Rattle.row_table.proofs.Boundary.{boundary-low, boundary-high, boundary-inside, boundary_end, part-utf8}
 
 -- ---- places between characters
 
-module _ (text : List ℕ) (at : ℕ) (good : is_utf8 text ≡ true) where
-  pub boundary-last : at ≡ length text → boundary text at ≡ true
-  boundary-last e = boundary_end text (of_true _ good) at (omega arith)
+module _ (text : List ℕ) (good : IsUtf8 text) where
+  good_text : T (is_utf8 text)
+  good_text = of_true _ (test_yes text good)
 
-  -- inside the text, exactly where no byte stands that continues a character
-  pub boundary-at : at < length text → boundary text at ≡ not (leb 128 (get_or text at 0) && ltb (get_or text at 0) 192)
-  boundary-at h = go (leb 128 b) refl (ltb b 192) refl
-    where
-      b : ℕ
-      b = get_or text at 0
+  -- std's places are the automaton's
+  boundary_yes : (at : ℕ) → IsCharBoundary text at → boundary text at ≡ true
+  boundary_yes at h =
+      elim (cases_lt at (length text)) [
+        | inl l ↦ elim (cases_lt (get_or text at 0) 128) [
+          | inl b ↦ boundary-low text good_text at l b
+          | inr b ↦ boundary-high text good_text at l (h.1 l b)
+        ]
+        | inr l ↦ boundary_end text good_text at l
+      ]
 
-      go : (x : Bool) → leb 128 b ≡ x → (y : Bool) → ltb b 192 ≡ y → boundary text at ≡ not (x && y)
-      go true e true f = boundary-inside text (of_true _ good) at h (leb-true 128 b e) (ltb-true b 192 f)
-      go true e false f = boundary-high text (of_true _ good) at h (ltb-false b 192 f)
-      go false e y f = boundary-low text (of_true _ good) at h (leb-false 128 b e)
+  yes_boundary : (at : ℕ) → at ≤ length text → boundary text at ≡ true → IsCharBoundary text at
+  yes_boundary at h e = (
+    h,
+    λ l b. elim (cases_lt (get_or text at 0) 192) [
+      | inl k ↦ absurd (false≢true (sym (boundary-inside text good_text at l b k) ∙ e))
+      | inr k ↦ k
+    ],
+  )
 
--- ---- parts
+  module _ (start size : ℕ) where
+    pub part_empty : size ≡ 0 → part_fits text start size ≡ false
+    unfolding part_fits
+    part_empty e = rw e
 
-pub part_cuts : (text : List ℕ) (start size : ℕ) → is_utf8 text ≡ true → part_fits text start size ≡ (leb 1 size && leb (start + size) (length text) && (boundary text start && boundary text (start + size)))
-unfolding part_fits
-part_cuts text start size good = go (leb 1 size) refl (leb (start + size) (length text)) refl
-  where
-    go : (x : Bool) → leb 1 size ≡ x → (y : Bool) → leb (start + size) (length text) ≡ y → (x && y && is_utf8 (part text start size)) ≡ (x && y && (boundary text start && boundary text (start + size)))
-    go true e true f = rw f (part-utf8 text (of_true _ good) start size (leb-true 1 size e) (leb-true (start + size) (length text) f))
-    go true e false f = refl
-    go false e y f = refl
+    part_is : 1 ≤ size → start + size ≤ length text → part_fits text start size ≡ (boundary text start && boundary text (start + size))
+    unfolding part_fits
+    part_is l h = rw (le-leb 1 size l, le-leb (start + size) (length text) h) (part-utf8 text good_text start size l h)
+
+    pub part_yes : 1 ≤ size → IsCharBoundary text start → IsCharBoundary text (start + size) → part_fits text start size ≡ true
+    part_yes l p q = part_is l q.0 ∙ rw (boundary_yes start p, boundary_yes (start + size) q)
+
+    pub part_no : 1 ≤ size → (IsCharBoundary text start → IsCharBoundary text (start + size) → ⊥) → part_fits text start size ≡ false
+    part_no l n =
+        elim (cases_lt (length text) (start + size)) [
+          | inl f ↦ unfold part_fits in rw (lt-leb (start + size) (length text) f, and-false (leb 1 size))
+          | inr h ↦ part_is l h ∙ false_from_ne_true _ (λ e. let w = and_parts (boundary text start) (boundary text (start + size)) e in n (yes_boundary start (omega arith) w.0) (yes_boundary (start + size) h w.1))
+        ]
+
+-- what `part_fits` uses
+pub ruleset parts = (part_empty, part_yes, part_no)
 
 -- ---- zones
 
-no_zone : T (all_below kinds (λ k. same_bool (eqb k 13) (rules_of (shape_of k)).zoned))
-unfolding same_bool rules_of shape_of
-no_zone = tt
-
 -- exactly a Timestamp may have a zone
-pub zoned : (k : ℕ) → k < kinds → (rules_of (shape_of k)).zoned ≡ eqb k 13
-zoned k h = sym (same_bool_lem (eqb k 13) (rules_of (shape_of k)).zoned (below_at kinds (λ i. same_bool (eqb i 13) (rules_of (shape_of i)).zoned) no_zone k h))
-
--- what `is_char_boundary` uses
-pub ruleset boundaries = (boundary-last, boundary-at)
+pub zoned : (k : ℕ) → (rules_of (shape_of k)).zoned ≡ eqb k 13
+unfolding same_bool rules_of shape_of
+zoned k = by_number same_bool same_bool_lem (λ s. (rules_of s).zoned) (λ i. eqb i 13) tt (λ k h. grind (arith, nat_tests)) k

@@ -1,78 +1,71 @@
--- What the functions of `rules.rt` say of every kind: a rule of the table of shapes is one computed test.
+-- What the functions of `rules.rt` say of every number, whether it is a kind or not: what a shape has is told by the
+-- kind's number, in one computed test.
 use Rattle.std.specs.Prelude.{if◌then◌else◌, ◌^◌}
 use mathlib.Core.Path.{◌≡◌, refl, sym, ap, ◌∙◌}
-use mathlib.Core.Bool.{Bool, true, false, not, ◌&&◌, ◌||◌, and-true, and-false, false≢true}
-use Prim.Native.Nat.{ℕ, zero, suc, ◌+◌, ◌<◌}
+use mathlib.Core.Bool.{Bool, true, false, ◌&&◌, ◌||◌, and-true}
+use Prim.Native.Nat.{ℕ, ◌+◌, ◌≤◌, ◌<◌}
+use native.Mathlib.Decide.{dec_lt}
 use native.Mathlib.Omega.{arith}
 use lib.Dec.{T, leb, ltb, eqb, leb→le, lt→ltb, eqb→eq}
-use borrow.Author.Tests.{le-ltb, ne_eqb, eqb-true, ltb-true, ltb-false}
-use Rattle.tokenizer.proofs.Basics.{and_l, and_r, both, is_false}
-use Rattle.datatype.specs.Kind.{Shape, leaf, timestamp, time, interval, fixed, list, fixed_list, struct, union, dictionary, decimal, mapping, run_end_encoded, kinds, shape_of, unit_fits, max_precision, decimal_fits}
+use borrow.Author.Tests.{eqb-true}
+use Rattle.std.proofs.lemmas.Bool.Decides.{nat_tests}
+use Rattle.tokenizer.proofs.Basics.{and_l, and_r, both, of_true}
+use Rattle.datatype.specs.Kind.{Shape, leaf, timestamp, time, interval, fixed, list, fixed_list, struct, union, dictionary, decimal, mapping, run_end_encoded, kinds, shape_of, is_word, unit_fits, max_precision, decimal_fits}
 use Rattle.row_table.specs.Sound.{Standing, bare, field, union_field, rules_of}
 use Rattle.row_table.specs.Internal.Check.{below_of, is_decimal, own_shape, numbers_fit}
-use Rattle.datatype.proofs.Tests.{iff_eq, all_below, below_at, same_bool, same_bool_lem}
-use Rattle.datatype.proofs.KindLaws.{past_kinds, unit-any}
+use Rattle.datatype.proofs.Tests.{iff_eq, all_below, below_at}
+use Rattle.datatype.proofs.KindLaws.{past_kinds}
+use Rattle.datatype.proofs.ShapeLaws.{word_leaf}
 
--- ---- the four decimals
+-- what a shape has, by the kind's number: a number that is no kind has the shape of a leaf
+module _ {A : Type 0} (same : A → A → Bool) (same_is : (a b : A) → T (same a b) → a ≡ b) (of : Shape → A) (at : ℕ → A) where
+  pub by_number : T (all_below kinds (λ k. same (of (shape_of k)) (at k))) → ((k : ℕ) → kinds ≤ k → of leaf ≡ at k) → (k : ℕ) → of (shape_of k) ≡ at k
+  by_number t past k =
+      elim (dec_lt k kinds) [
+        | yes h ↦ same_is (of (shape_of k)) (at k) (below_at kinds (λ i. same (of (shape_of i)) (at i)) t k h)
+        | no h ↦ ap of (past_kinds k (omega arith)) ∙ past k (omega arith)
+      ]
 
--- exactly the decimals have the shape of a decimal
-abbrev decimal_shape : Shape → Bool
-decimal_shape leaf = false
-decimal_shape timestamp = false
-decimal_shape time = false
-decimal_shape interval = false
-decimal_shape fixed = false
-decimal_shape list = false
-decimal_shape fixed_list = false
-decimal_shape struct = false
-decimal_shape union = false
-decimal_shape dictionary = false
-decimal_shape decimal = true
-decimal_shape mapping = false
-decimal_shape run_end_encoded = false
+-- ---- word 4
 
-decimals : T (all_below kinds (λ k. same_bool (decimal_shape (shape_of k)) (is_decimal k)))
-unfolding same_bool shape_of is_decimal
-decimals = tt
+abbrev params_at : ℕ → ℕ
+params_at k =
+    if eqb k 13 || (leb 16 k && leb k 18) then 4
+    else (if eqb k 19 then 3 else (if eqb k 21 || eqb k 29 then 2 ^ 31 else (if leb 35 k && leb k 38 then 256 else (if eqb k 33 || eqb k 39 then 2 else 1))))
 
-decimal_shape_lem : (k : ℕ) → k < kinds → decimal_shape (shape_of k) ≡ is_decimal k
-decimal_shape_lem k h = same_bool_lem (decimal_shape (shape_of k)) (is_decimal k) (below_at kinds (λ i. same_bool (decimal_shape (shape_of i)) (is_decimal i)) decimals k h)
+pub params_by : (k : ℕ) → (rules_of (shape_of k)).params ≡ params_at k
+unfolding rules_of shape_of
+params_by k = by_number eqb eqb→eq (λ s. (rules_of s).params) params_at tt (λ k h. grind (arith, nat_tests)) k
 
-is_decimal_lem : (s : Shape) → decimal_shape s ≡ true → s ≡ decimal
-is_decimal_lem leaf e = absurd (false≢true e)
-is_decimal_lem timestamp e = absurd (false≢true e)
-is_decimal_lem time e = absurd (false≢true e)
-is_decimal_lem interval e = absurd (false≢true e)
-is_decimal_lem fixed e = absurd (false≢true e)
-is_decimal_lem list e = absurd (false≢true e)
-is_decimal_lem fixed_list e = absurd (false≢true e)
-is_decimal_lem struct e = absurd (false≢true e)
-is_decimal_lem union e = absurd (false≢true e)
-is_decimal_lem dictionary e = absurd (false≢true e)
-is_decimal_lem decimal e = refl
-is_decimal_lem mapping e = absurd (false≢true e)
-is_decimal_lem run_end_encoded e = absurd (false≢true e)
+-- ---- words 4 and 5
+
+abbrev scales_at : ℕ → ℕ
+scales_at k = if is_decimal k then 256 else 1
+
+scales_by : (k : ℕ) → (rules_of (shape_of k)).scales ≡ scales_at k
+unfolding rules_of shape_of is_decimal
+scales_by k = by_number eqb eqb→eq (λ s. (rules_of s).scales) scales_at tt (λ k h. grind (arith, nat_tests)) k
+
+-- decimals alone have scales
+decimal_is : (s : Shape) → (rules_of s).scales ≡ 256 → s ≡ decimal
+unfolding rules_of
+decimal_is leaf e = absurd (omega arith)
+decimal_is timestamp e = absurd (omega arith)
+decimal_is time e = absurd (omega arith)
+decimal_is interval e = absurd (omega arith)
+decimal_is fixed e = absurd (omega arith)
+decimal_is list e = absurd (omega arith)
+decimal_is fixed_list e = absurd (omega arith)
+decimal_is struct e = absurd (omega arith)
+decimal_is union e = absurd (omega arith)
+decimal_is dictionary e = absurd (omega arith)
+decimal_is decimal e = refl
+decimal_is mapping e = absurd (omega arith)
+decimal_is run_end_encoded e = absurd (omega arith)
 
 small_precisions : T (all_below kinds (λ k. leb (max_precision k) 76))
 unfolding max_precision
 small_precisions = tt
-
--- ---- word 4
-
--- how many values word 4 has, by the kind's number
-abbrev values : ℕ → ℕ
-values k =
-    if eqb k 13 || (leb 16 k && leb k 18) then 4
-    else (if eqb k 19 then 3 else (if eqb k 21 || eqb k 29 then 2 ^ 31 else (if leb 35 k && leb k 38 then 256 else (if eqb k 33 || eqb k 39 then 2 else 1))))
-
-all_values : T (all_below kinds (λ k. eqb (rules_of (shape_of k)).params (values k)))
-unfolding rules_of shape_of
-all_values = tt
-
-pub params_by : (k : ℕ) → k < kinds → (rules_of (shape_of k)).params ≡ values k
-params_by k h = eqb→eq (rules_of (shape_of k)).params (values k) (below_at kinds (λ i. eqb (rules_of (shape_of i)).params (values i)) all_values k h)
-
--- ---- words 4 and 5
 
 -- a decimal's numbers have room
 decimal_room : (k p s : ℕ) → k < kinds → T (decimal_fits k p s) → (p < 256) × (s < 256)
@@ -87,7 +80,8 @@ decimal_room k p s h t =
     (omega arith, omega arith)
 
 -- where the unit fits, a shape that is no decimal's asks nothing else of words 4 and 5
-own_true : (sh : Shape) (k p s : ℕ) → decimal_shape sh ≡ false → unit_fits k p ≡ true → own_shape sh k p s ≡ true
+own_true : (sh : Shape) (k p s : ℕ) → (rules_of sh).scales ≡ 1 → unit_fits k p ≡ true → own_shape sh k p s ≡ true
+unfolding rules_of
 own_true leaf k p s e u = refl
 own_true timestamp k p s e u = refl
 own_true time k p s e u = u
@@ -98,11 +92,11 @@ own_true fixed_list k p s e u = refl
 own_true struct k p s e u = refl
 own_true union k p s e u = refl
 own_true dictionary k p s e u = refl
-own_true decimal k p s e u = absurd (false≢true (sym e))
+own_true decimal k p s e u = absurd (omega arith)
 own_true mapping k p s e u = refl
 own_true run_end_encoded k p s e u = refl
 
-own_unit : (k p s : ℕ) → decimal_shape (shape_of k) ≡ false → own_shape (shape_of k) k p s ≡ unit_fits k p
+own_unit : (k p s : ℕ) → (rules_of (shape_of k)).scales ≡ 1 → own_shape (shape_of k) k p s ≡ unit_fits k p
 unfolding unit_fits shape_of
 own_unit k p s e = go (eqb k 16) refl (eqb k 17) refl
   where
@@ -111,61 +105,36 @@ own_unit k p s e = go (eqb k 16) refl (eqb k 17) refl
     go false x true y = rw (eqb-true k 17 y)
     go false x false y = let u : unit_fits k p ≡ true = rw (x, y) in own_true (shape_of k) k p s e u ∙ sym u
 
-one_scales : T (all_below kinds (λ k. is_decimal k || eqb (rules_of (shape_of k)).scales 1))
-unfolding is_decimal rules_of shape_of
-one_scales = tt
-
-one_scale : (k : ℕ) → k < kinds → is_decimal k ≡ false → (rules_of (shape_of k)).scales ≡ 1
-one_scale k h e = eqb→eq (rules_of (shape_of k)).scales 1 (rw e at (below_at kinds (λ i. is_decimal i || eqb (rules_of (shape_of i)).scales 1) one_scales k h))
-
-swap : (a b c : Bool) → (a && b && c) ≡ (b && a && c)
-swap true b c = ap (λ (x : Bool). x && c) (sym (and-true b))
-swap false b c = ap (λ (x : Bool). x && c) (sym (and-false b))
-
 below_one : (s : ℕ) → ltb s 1 ≡ eqb s 0
-below_one zero = refl
-below_one (suc s) = le-ltb (suc s) 1 (omega arith) ∙ sym (ne_eqb (suc s) 0 (λ e. omega arith))
+below_one s = grind (arith, nat_tests)
 
-first_kinds : T (all_below 13 (λ k. not (is_decimal k) && eqb (values k) 1))
-unfolding is_decimal
-first_kinds = tt
+-- the first kinds are leaves
+first_leaves : T (all_below 13 is_word)
+unfolding is_word shape_of
+first_leaves = tt
 
-none_decimal : (k : ℕ) → k < 13 → is_decimal k ≡ false
-none_decimal k l = is_false (is_decimal k) (and_l (not (is_decimal k)) (eqb (values k) 1) (below_at 13 (λ i. not (is_decimal i) && eqb (values i) 1) first_kinds k l))
+module _ (k p s : ℕ) where
+  decimal_kind : is_decimal k ≡ true → k < kinds
+  unfolding is_decimal
+  decimal_kind e = let h = leb→le k 38 (and_r (leb 35 k) (leb k 38) (of_true _ e)) in omega arith
 
-one_value : (k : ℕ) → k < 13 → values k ≡ 1
-one_value k l = eqb→eq (values k) 1 (and_r (not (is_decimal k)) (eqb (values k) 1) (below_at 13 (λ i. not (is_decimal i) && eqb (values i) 1) first_kinds k l))
-
-last : (a b : Bool) → (a && b && true) ≡ (b && a)
-last true true = refl
-last true false = refl
-last false true = refl
-last false false = refl
-
-module _ (k p s : ℕ) (h : k < kinds) where
   pub numbers_decimal : is_decimal k ≡ true → numbers_fit k p s ≡ decimal_fits k p s
   unfolding numbers_fit rules_of
   numbers_decimal e =
-      rw (is_decimal_lem (shape_of k) (decimal_shape_lem k h ∙ e))
+      rw (decimal_is (shape_of k) (scales_by k ∙ rw e))
       (iff_eq (ltb p 256 && ltb s 256 && decimal_fits k p s) (decimal_fits k p s)
       (λ t. and_r (ltb p 256 && ltb s 256) (decimal_fits k p s) t)
-      (λ t. let w = decimal_room k p s h t in both (ltb p 256 && ltb s 256) (decimal_fits k p s) (both (ltb p 256) (ltb s 256) (lt→ltb p 256 w.0) (lt→ltb s 256 w.1)) t))
+      (λ t. let w = decimal_room k p s (decimal_kind e) t in both (ltb p 256 && ltb s 256) (decimal_fits k p s) (both (ltb p 256) (ltb s 256) (lt→ltb p 256 w.0) (lt→ltb s 256 w.1)) t))
 
-  -- no decimal: word 5 is 0, and word 4 one of its values, and a unit that fits
-  pub numbers_plain : is_decimal k ≡ false → numbers_fit k p s ≡ (eqb s 0 && ltb p (rules_of (shape_of k)).params && unit_fits k p)
+  -- no decimal: word 4 is one of its values and a unit that fits, and word 5 is 0
+  pub numbers_plain : is_decimal k ≡ false → numbers_fit k p s ≡ (ltb p (rules_of (shape_of k)).params && eqb s 0 && unit_fits k p)
   unfolding numbers_fit
-  numbers_plain e =
-      let d = decimal_shape_lem k h ∙ e in
-      let P : Bool = ltb p (rules_of (shape_of k)).params in
-      rw (one_scale k h e, below_one s, own_unit k p s d) (swap P (eqb s 0) (unit_fits k p))
+  numbers_plain e = let one : (rules_of (shape_of k)).scales ≡ 1 = scales_by k ∙ rw e in rw (one, below_one s, own_unit k p s one)
 
   -- the first kinds have no numbers
   pub numbers_none : k < 13 → numbers_fit k p s ≡ (eqb p 0 && eqb s 0)
-  numbers_none l =
-      let d : is_decimal k ≡ false = none_decimal k l in
-      let v : (rules_of (shape_of k)).params ≡ 1 = params_by k h ∙ one_value k l in
-      let u : unit_fits k p ≡ true = sym (unit-any k p (λ e. omega arith) (λ e. omega arith)) in
-      numbers_plain d ∙ rw (v, u, below_one p) (last (eqb s 0) (eqb p 0))
+  unfolding numbers_fit rules_of
+  numbers_none l = rw (word_leaf k (below_at 13 is_word first_leaves k l), below_one p, below_one s, and-true (eqb p 0 && eqb s 0))
 
 pub ruleset numbers = (numbers_decimal, numbers_plain, numbers_none)
 
@@ -176,34 +145,20 @@ standing_number bare = 0
 standing_number field = 1
 standing_number union_field = 2
 
-standing_is : (p q : Standing) → standing_number p ≡ standing_number q → p ≡ q
-standing_is bare bare e = refl
-standing_is bare field e = absurd (omega arith)
-standing_is bare union_field e = absurd (omega arith)
-standing_is field bare e = absurd (omega arith)
-standing_is field field e = refl
-standing_is field union_field e = absurd (omega arith)
-standing_is union_field bare e = absurd (omega arith)
-standing_is union_field field e = absurd (omega arith)
-standing_is union_field union_field e = refl
+standing_is : (p q : Standing) → T (eqb (standing_number p) (standing_number q)) → p ≡ q
+standing_is bare bare t = refl
+standing_is bare field t = absurd t
+standing_is bare union_field t = absurd t
+standing_is field bare t = absurd t
+standing_is field field t = refl
+standing_is field union_field t = absurd t
+standing_is union_field bare t = absurd t
+standing_is union_field field t = absurd t
+standing_is union_field union_field t = refl
 
--- the standing, by the kind's number
-abbrev stand : ℕ → Standing
-stand k = if eqb k 34 then bare else (if eqb k 33 then union_field else field)
+abbrev below_at_kind : ℕ → Standing
+below_at_kind k = if eqb k 34 then bare else (if eqb k 33 then union_field else field)
 
-all_stand : T (all_below kinds (λ k. eqb (standing_number (below_of k)) (standing_number (stand k))))
+pub below_by : (k : ℕ) → below_of k ≡ below_at_kind k
 unfolding rules_of shape_of
-all_stand = tt
-
-leaf_below : (rules_of leaf).below ≡ field
-unfolding rules_of
-leaf_below = refl
-
-pub below_by : (k : ℕ) → below_of k ≡ (if eqb k 34 then bare else (if eqb k 33 then union_field else field))
-below_by k = go (ltb k kinds) refl
-  where
-    go : (t : Bool) → ltb k kinds ≡ t → below_of k ≡ stand k
-    go true e = standing_is (below_of k) (stand k) (eqb→eq (standing_number (below_of k)) (standing_number (stand k)) (below_at kinds (λ i. eqb (standing_number (below_of i)) (standing_number (stand i))) all_stand k (ltb-true k kinds e)))
-    go false e =
-        let h = ltb-false k kinds e in
-        ap (λ (sh : Shape). (rules_of sh).below) (past_kinds k h) ∙ leaf_below ∙ sym (rw (ne_eqb k 34 (λ e. omega arith), ne_eqb k 33 (λ e. omega arith)))
+below_by k = by_number (λ a b. eqb (standing_number a) (standing_number b)) standing_is (λ s. (rules_of s).below) below_at_kind tt (λ k h. grind (arith, nat_tests)) k

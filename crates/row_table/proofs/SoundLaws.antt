@@ -1,6 +1,6 @@
 -- The walk of `sound.rt`: each place where it answers, and each turn of its loop.
 use mathlib.Core.Path.{◌≡◌, refl, sym, ap, ◌∙◌, subst}
-use mathlib.Core.Bool.{Bool, true, false, ◌&&◌, and-true, and-false, false≢true}
+use mathlib.Core.Bool.{Bool, true, false, ◌&&◌, and-true, and-false}
 use mathlib.Core.List.{List}
 use mathlib.Core.Option.{Option, none, some}
 use Prim.Native.Nat.{ℕ, suc, ◌+◌, ◌-◌, ◌*◌, ◌/◌, ◌≤◌, ◌<◌}
@@ -10,7 +10,7 @@ use lib.Dec.{T}
 use borrow.Author.Tests.{le-leb, lt-leb}
 use Rattle.tokenizer.specs.Text.{same}
 use Rattle.tokenizer.specs.Utf8.{is_utf8}
-use Rattle.tokenizer.proofs.Basics.{of_true, and_l, and_r, both}
+use Rattle.tokenizer.proofs.Basics.{of_true}
 use Rattle.datatype.specs.Tree.{Forest, ∅, node, count, depth, Row, name_list, labels}
 use Rattle.datatype.specs.Table.{row_words, words_of, table_of, join, view_of, rows_at}
 use Rattle.row_table.specs.Sound.{Standing, bare, rows_fit, placed, is_sound}
@@ -22,20 +22,9 @@ use Rattle.datatype.proofs.Tests.{iff_eq, false_of}
 use Rattle.subtrees.specs.Parents.{parents_fit}
 use Rattle.subtrees.proofs.ParentFit.{view_fits as parents-view}
 use Rattle.subtrees.proofs.Runs.{run_step, run_none, no_rows, forest_none, run_all, run_is, view_rows}
+use Rattle.row_table.proofs.AllPass.{four, all_four}
 use Rattle.row_table.proofs.SoundTree.{SoundTree, sound_tree, tree_sound, sound-count}
 use Rattle.row_table.proofs.Clauses.{Run, run_of, of_run, run_in, run_out}
-
-clash : (b : Bool) → b ≡ false → T b → ⊥
-clash true e t = false≢true (sym e)
-clash false e t = t
-
-ruleset split = (and_l, and_r)
-
-four : (a b c d : Bool) → T (a && b && c && d) → T a × T b × T c × T d
-four a b c d t = (search split depth 6, search split depth 6, search split depth 6, search split depth 6)
-
-all_four : (a b c d : Bool) → T a → T b → T c → T d → T (a && b && c && d)
-all_four a b c d p q x y = both (a && b && c) d (both (a && b) c (both a b p q) x) y
 
 -- ---- a run that is taken apart into its first row and two runs
 
@@ -148,9 +137,9 @@ module _ (text names table : List ℕ) where
   sound_long h = no (λ s. let u = s.short in omega arith)
 
   pub sound_names : same names name_list ≡ false → sound ≡ false
-  sound_names e = no (λ s. clash (same names name_list) e (rw s.listed tt))
+  sound_names e = no (λ s. subst T e (rw s.listed tt))
 
-  pub sound_empty : rows ≡ 0 → sound ≡ false
+  pub sound_empty : length table < row_words * (0 + 1) → sound ≡ false
   sound_empty e = no (λ s. let u = sound-count text names table s in omega arith)
 
   pub sound_many : 1024 < rows → sound ≡ false
@@ -168,10 +157,10 @@ module _ (text names table : List ℕ) where
   sound_root d = no (λ s. let u = sound-count text names table s in let v = root-size s in d (omega arith))
 
   pub sound_utf8 : is_utf8 text ≡ false → sound ≡ false
-  sound_utf8 e = no (λ s. clash (is_utf8 text) e s.utf8)
+  sound_utf8 e = no (λ s. subst T e s.utf8)
 
   pub sound_parents : parents_fit table ≡ false → sound ≡ false
-  sound_parents e = no (λ s. clash (parents_fit table) e (rw (parents-view table (node s.root s.kids ∅) s.view) s.parents))
+  sound_parents e = no (λ s. subst T e (rw (parents-view table (node s.root s.kids ∅) s.view) s.parents))
 
   module _ (short : length text ≤ 16384) (listed : same names name_list ≡ true) (some-rows : rows ≡ 0 → ⊥) (few : rows ≤ 1024) (whole : length table ≡ row_words * rows) (root : rows_at table 0 ≡ rows) (good : is_utf8 text ≡ true) (parents : parents_fit table ≡ true) where
     names-are : names ≡ name_list

@@ -1,9 +1,9 @@
 -- A sound tree, taken apart: what the walks over one, the printer and the round trip start from.
---   sound-tree, tree-sound   `is_sound` and the record `SoundTree` of its clauses
+--   sound_tree, tree_sound   `is_sound` and the record `SoundTree` of its clauses
 --   sound-count, sound-nests, sound-forest, sound-labels   its table, as a run of rows and as what it says
---   RowFits, row_fits, fits-row, rows_fit, fits-rows   the clauses of one row, and of a run
-use mathlib.Core.Path.{◌≡◌, refl, sym, subst}
-use mathlib.Core.Bool.{Bool, true, ◌&&◌}
+--   RowFits, row_fits_lem, fits-row, rows_fit_lem, fits_rows   the clauses of one row, and of a run
+use mathlib.Core.Path.{◌≡◌, refl, subst}
+use mathlib.Core.Bool.{Bool, ◌&&◌}
 use mathlib.Core.List.{List}
 use mathlib.Core.Option.{Option, none, some}
 use Prim.Native.Nat.{ℕ, suc, ◌*◌, ◌≤◌, ◌<◌}
@@ -20,6 +20,7 @@ use Rattle.row_table.specs.Sound.{Rules, Standing, bare, arity_fits, role_fits, 
 use Rattle.subtrees.specs.Parents.{parents_right}
 use Rattle.subtrees.specs.Internal.Run.{forest_at, Nests}
 use Rattle.datatype.proofs.Same.{same_eq, eq_same}
+use Rattle.row_table.proofs.AllPass.{three, all_three, four, all_four, five, all_five, nine, all_nine}
 use Rattle.subtrees.proofs.Runs.{view_rows, nests_all, forest_all}
 
 -- ---- one row
@@ -36,92 +37,32 @@ pub record RowFits (standing : Standing) (l : Label) (kids : Forest Label) : Typ
   pub zone : T (zone_fits (rules_of (shape_of l.kind)).zoned l.zone)
   pub shape : T (shape_fits (shape_of l.kind) l kids)
 
-ruleset split = (and_l, and_r)
-
--- nine tests that all pass, and back
-record Nine (a b c d e f g h i : Bool) : Type 0 where
-  t1 : T a
-  t2 : T b
-  t3 : T c
-  t4 : T d
-  t5 : T e
-  t6 : T f
-  t7 : T g
-  t8 : T h
-  t9 : T i
-
-nine : (a b c d e f g h i : Bool) → T (a && b && c && d && e && f && g && h && i) → Nine a b c d e f g h i
-nine a b c d e f g h i t =
-    record {
-      t1 = search split depth 10;
-      t2 = search split depth 10;
-      t3 = search split depth 10;
-      t4 = search split depth 10;
-      t5 = search split depth 10;
-      t6 = search split depth 10;
-      t7 = search split depth 10;
-      t8 = search split depth 10;
-      t9 = search split depth 10;
-    }
-
-all_nine : (a b c d e f g h i : Bool) → Nine a b c d e f g h i → T (a && b && c && d && e && f && g && h && i)
-all_nine a b c d e f g h i n =
-    both (a && b && c && d && e && f && g && h) i
-    (both (a && b && c && d && e && f && g) h
-    (both (a && b && c && d && e && f) g
-    (both (a && b && c && d && e) f
-    (both (a && b && c && d) e
-    (both (a && b && c) d
-    (both (a && b) c
-    (both a b n.t1 n.t2)
-    n.t3) n.t4) n.t5) n.t6) n.t7) n.t8) n.t9
-
 -- what the shape of a label's kind asks
 abbrev pub rules_at : Label → Rules
 rules_at l = rules_of (shape_of l.kind)
 
 module _ (standing : Standing) (l : Label) (kids : Forest Label) where
-  abbrev Clauses : Type 0
-  Clauses =
-      Nine (ltb l.kind kinds) (arity_fits (rules_at l).children (length (roots kids))) (role_fits standing l.role) (id_fits standing l.union_id)
-      (ltb l.number (rules_at l).params) (ltb l.scale (rules_at l).scales) (name_fits standing l.name)
-      (zone_fits (rules_at l).zoned l.zone) (shape_fits (shape_of l.kind) l kids)
-
-  from-clauses : Clauses → RowFits standing l kids
-  from-clauses n =
-      record {
-        kind = ltb→lt l.kind kinds n.t1;
-        arity = n.t2;
-        role = n.t3;
-        union_id = n.t4;
-        number = ltb→lt l.number (rules_at l).params n.t5;
-        scale = ltb→lt l.scale (rules_at l).scales n.t6;
-        name = n.t7;
-        zone = n.t8;
-        shape = n.t9;
-      }
-
-  to-clauses : RowFits standing l kids → Clauses
-  to-clauses r =
-      record {
-        t1 = lt→ltb l.kind kinds r.kind;
-        t2 = r.arity;
-        t3 = r.role;
-        t4 = r.union_id;
-        t5 = lt→ltb l.number (rules_at l).params r.number;
-        t6 = lt→ltb l.scale (rules_at l).scales r.scale;
-        t7 = r.name;
-        t8 = r.zone;
-        t9 = r.shape;
-      }
-
   pub row_fits_lem : T (row_fits standing l kids) → RowFits standing l kids
   unfolding row_fits
-  row_fits_lem t = from-clauses (nine (ltb l.kind kinds) (arity_fits (rules_at l).children (length (roots kids))) (role_fits standing l.role) (id_fits standing l.union_id) (ltb l.number (rules_at l).params) (ltb l.scale (rules_at l).scales) (name_fits standing l.name) (zone_fits (rules_at l).zoned l.zone) (shape_fits (shape_of l.kind) l kids) t)
+  row_fits_lem t =
+      let w = nine (ltb l.kind kinds) (arity_fits (rules_at l).children (length (roots kids))) (role_fits standing l.role) (id_fits standing l.union_id) (ltb l.number (rules_at l).params) (ltb l.scale (rules_at l).scales) (name_fits standing l.name) (zone_fits (rules_at l).zoned l.zone) (shape_fits (shape_of l.kind) l kids) t in
+      record {
+        kind = ltb→lt l.kind kinds w.0;
+        arity = w.1;
+        role = w.2;
+        union_id = w.3;
+        number = ltb→lt l.number (rules_at l).params w.4;
+        scale = ltb→lt l.scale (rules_at l).scales w.5;
+        name = w.6;
+        zone = w.7;
+        shape = w.8;
+      }
 
   pub fits-row : RowFits standing l kids → T (row_fits standing l kids)
   unfolding row_fits
-  fits-row r = all_nine (ltb l.kind kinds) (arity_fits (rules_at l).children (length (roots kids))) (role_fits standing l.role) (id_fits standing l.union_id) (ltb l.number (rules_at l).params) (ltb l.scale (rules_at l).scales) (name_fits standing l.name) (zone_fits (rules_at l).zoned l.zone) (shape_fits (shape_of l.kind) l kids) (to-clauses r)
+  fits-row r =
+      all_nine (ltb l.kind kinds) (arity_fits (rules_at l).children (length (roots kids))) (role_fits standing l.role) (id_fits standing l.union_id) (ltb l.number (rules_at l).params) (ltb l.scale (rules_at l).scales) (name_fits standing l.name) (zone_fits (rules_at l).zoned l.zone) (shape_fits (shape_of l.kind) l kids)
+      (lt→ltb l.kind kinds r.kind) r.arity r.role r.union_id (lt→ltb l.number (rules_at l).params r.number) (lt→ltb l.scale (rules_at l).scales r.scale) r.name r.zone r.shape
 
 -- ---- a run of rows that fit
 
@@ -130,19 +71,13 @@ pub rows_fit_lem : (standing : Standing) (l : Label) (kids next : Forest Label) 
     → RowFits standing l kids × T (rows_fit (rules_at l).below kids) × T (rows_fit standing next)
 unfolding rows_fit
 rows_fit_lem standing l kids next t =
-    let a = row_fits standing l kids in
-    let b = rows_fit (rules_at l).below kids in
-    let c = rows_fit standing next in
-    (row_fits_lem standing l kids (and_l a b (and_l (a && b) c t)), and_r a b (and_l (a && b) c t), and_r (a && b) c t)
+    let w = three (row_fits standing l kids) (rows_fit (rules_at l).below kids) (rows_fit standing next) t in
+    (row_fits_lem standing l kids w.0, w.1, w.2)
 
 pub fits_rows : (standing : Standing) (l : Label) (kids next : Forest Label) → RowFits standing l kids → T (rows_fit (rules_at l).below kids) → T (rows_fit standing next)
     → T (rows_fit standing (node l kids next))
 unfolding rows_fit
-fits_rows standing l kids next r k n =
-    let a = row_fits standing l kids in
-    let b = rows_fit (rules_at l).below kids in
-    let c = rows_fit standing next in
-    both (a && b) c (both a b (fits-row standing l kids r) k) n
+fits_rows standing l kids next r k n = all_three (row_fits standing l kids) (rows_fit (rules_at l).below kids) (rows_fit standing next) (fits-row standing l kids r) k n
 
 -- ---- a sound tree
 
@@ -159,106 +94,73 @@ pub record SoundTree (text names table : List ℕ) : Type 0 where
   pub fits : T (rows_fit bare (labels text names (node root kids ∅)))
   pub parents : T (parents_right 0 0 (node root kids ∅))
 
--- one root
-one_root : (f : Forest Row) → T (eqb (length (roots f)) 1) → (r : Row) × (k : Forest Row) × (f ≡ node r k ∅)
-one_root ∅ t = absurd t
-one_root (node r k ∅) t = (r, k, refl)
-one_root (node r k (node s m n)) t = absurd (let e = eqb→eq (suc (suc (length (roots n)))) 1 t in omega arith)
+module _ (text names table : List ℕ) where
+  -- the tests of a view
+  module _ (f : Forest Row) where
+    abbrev one : Bool
+    one = eqb (length (roots f)) 1
 
--- what a view that is sound holds
-record Tree (text names : List ℕ) (o : Option (Forest Row)) : Type 0 where
-  root : Row
-  kids : Forest Row
-  view : o ≡ some (node root kids ∅)
-  rows : suc (count kids) ≤ 1024
-  levels : suc (depth kids) ≤ 64
-  places : T (placed text (node root kids ∅))
-  fits : T (rows_fit bare (labels text names (node root kids ∅)))
-  parents : T (parents_right 0 0 (node root kids ∅))
+    abbrev few : Bool
+    few = leb (count f) 1024
 
-view_one : (text names : List ℕ) (r : Row) (k : Forest Row) → T (view_sound text names (some (node r k ∅))) → Tree text names (some (node r k ∅))
-unfolding view_sound
-view_one text names r k t =
-    let f : Forest Row = node r k ∅ in
-    let a : Bool = eqb (length (roots f)) 1 in
-    let b : Bool = leb (count f) 1024 in
-    let c : Bool = leb (depth f) 64 in
-    let d : Bool = placed text f in
-    let e : Bool = rows_fit bare (labels text names f) in
-    let g : Bool = parents_right 0 0 f in
-    let t5 : T (a && b && c && d && e) = and_l (a && b && c && d && e) g t in
-    let t4 : T (a && b && c && d) = and_l (a && b && c && d) e t5 in
-    let t3 : T (a && b && c) = and_l (a && b && c) d t4 in
-    let few = leb→le (count f) 1024 (and_r a b (and_l (a && b) c t3)) in
-    let flat = leb→le (depth f) 64 (and_r (a && b) c t3) in
-    record {
-      root = r;
-      kids = k;
-      view = refl;
-      rows = omega arith;
-      levels = omega arith;
-      places = and_r (a && b && c) d t4;
-      fits = and_r (a && b && c && d) e t5;
-      parents = and_r (a && b && c && d && e) g t;
-    }
+    abbrev flat : Bool
+    flat = leb (depth f) 64
 
-view_tree : (text names : List ℕ) (o : Option (Forest Row)) → T (view_sound text names o) → Tree text names o
-unfolding view_sound
-view_tree text names none t = absurd t
-view_tree text names (some f) t = go (one_root f (first (eqb (length (roots f)) 1) (leb (count f) 1024) (leb (depth f) 64) (placed text f) (rows_fit bare (labels text names f)) (parents_right 0 0 f) t))
-  where
-    first : (a b c d e g : Bool) → T (a && b && c && d && e && g) → T a
-    first a b c d e g t = search split depth 7
+    abbrev fit : Bool
+    fit = rows_fit bare (labels text names f)
 
-    go : (r : Row) × (k : Forest Row) × (f ≡ node r k ∅) → Tree text names (some f)
-    go w = subst (λ (g : Forest Row). Tree text names (some g)) (sym w.2) (view_one text names w.0 w.1 (subst (λ (g : Forest Row). T (view_sound text names (some g))) w.2 t))
+    view_tests : T (view_sound text names (some f)) → T one × T few × T flat × T (placed text f) × T fit × T (parents_right 0 0 f)
+    unfolding view_sound
+    view_tests t =
+        let w = five (one && few) flat (placed text f) fit (parents_right 0 0 f) t in
+        (and_l one few w.0, and_r one few w.0, w.1, w.2, w.3, w.4)
 
-four : (a b c d : Bool) → T (a && b && c && d) → T a × T b × T c × T d
-four a b c d t = (search split depth 6, search split depth 6, search split depth 6, search split depth 6)
+    tests-view : T one → T few → T flat → T (placed text f) → T fit → T (parents_right 0 0 f) → T (view_sound text names (some f))
+    unfolding view_sound
+    tests-view p q r s t u = all_five (one && few) flat (placed text f) fit (parents_right 0 0 f) (both one few p q) r s t u
 
-pub sound_tree : (text names table : List ℕ) → T (is_sound text names table) → SoundTree text names table
-unfolding is_sound
-sound_tree text names table t = go (four (leb (length text) 16384) (is_utf8 text) (same names name_list) (view_sound text names (view_of table)) t)
-  where
-    with-tree : T (leb (length text) 16384) → T (is_utf8 text) → T (same names name_list) → Tree text names (view_of table) → SoundTree text names table
-    with-tree a b c w =
-        record {
-          root = w.root;
-          kids = w.kids;
-          view = w.view;
-          short = leb→le (length text) 16384 a;
-          utf8 = b;
-          listed = same_eq names name_list c;
-          rows = w.rows;
-          levels = w.levels;
-          places = w.places;
-          fits = w.fits;
-          parents = w.parents;
-        }
+  pub sound_tree : T (is_sound text names table) → SoundTree text names table
+  unfolding is_sound
+  sound_tree t = go (view_of table) refl
+    where
+      tests : T (leb (length text) 16384) × T (is_utf8 text) × T (same names name_list) × T (view_sound text names (view_of table))
+      tests = four (leb (length text) 16384) (is_utf8 text) (same names name_list) (view_sound text names (view_of table)) t
 
-    go : T (leb (length text) 16384) × T (is_utf8 text) × T (same names name_list) × T (view_sound text names (view_of table)) → SoundTree text names table
-    go q = with-tree q.0 q.1 q.2 (view_tree text names (view_of table) q.3)
+      go : (o : Option (Forest Row)) → view_of table ≡ o → SoundTree text names table
+      go none e = absurd (let v : T (view_sound text names none) = rw e at tests.3 in unfold view_sound in v)
+      go (some ∅) e = absurd (let v : T (view_sound text names (some ∅)) = rw e at tests.3 in (view_tests ∅ v).0)
+      go (some (node r k (node s m n))) e =
+          absurd (let v : T (view_sound text names (some (node r k (node s m n)))) = rw e at tests.3 in let z = eqb→eq (suc (suc (length (roots n)))) 1 (view_tests (node r k (node s m n)) v).0 in omega arith)
+      go (some (node r k ∅)) e =
+          let f : Forest Row = node r k ∅ in
+          let v : T (view_sound text names (some f)) = rw e at tests.3 in
+          let w = view_tests f v in
+          let c = leb→le (count f) 1024 w.1 in
+          let d = leb→le (depth f) 64 w.2 in
+          record {
+            root = r;
+            kids = k;
+            view = e;
+            short = leb→le (length text) 16384 tests.0;
+            utf8 = tests.1;
+            listed = same_eq names name_list tests.2;
+            rows = omega arith;
+            levels = omega arith;
+            places = w.3;
+            fits = w.4;
+            parents = w.5;
+          }
 
--- the other way round
-tree_view : (text names : List ℕ) (r : Row) (k : Forest Row) → suc (count k) ≤ 1024 → suc (depth k) ≤ 64 → T (placed text (node r k ∅))
-    → T (rows_fit bare (labels text names (node r k ∅))) → T (parents_right 0 0 (node r k ∅)) → T (view_sound text names (some (node r k ∅)))
-unfolding view_sound
-tree_view text names r k p q d e g =
-    let f : Forest Row = node r k ∅ in
-    let b : Bool = leb (count f) 1024 in
-    let c : Bool = leb (depth f) 64 in
-    both (true && b && c && placed text f && rows_fit bare (labels text names f)) (parents_right 0 0 f)
-    (both (true && b && c && placed text f) (rows_fit bare (labels text names f))
-    (both (true && b && c) (placed text f) (both (true && b) c (le→leb (count f) 1024 (omega arith)) (le→leb (depth f) 64 (omega arith))) d) e) g
-
-pub tree_sound : (text names table : List ℕ) → SoundTree text names table → T (is_sound text names table)
-unfolding is_sound
-tree_sound text names table s =
-    let a : Bool = leb (length text) 16384 in
-    let c : Bool = same names name_list in
-    both (a && is_utf8 text && c) (view_sound text names (view_of table))
-    (both (a && is_utf8 text) c (both a (is_utf8 text) (le→leb (length text) 16384 s.short) s.utf8) (eq_same names name_list s.listed))
-    (rw s.view (tree_view text names s.root s.kids s.rows s.levels s.places s.fits s.parents))
+  -- the other way round
+  pub tree_sound : SoundTree text names table → T (is_sound text names table)
+  unfolding is_sound
+  tree_sound s =
+      let f : Forest Row = node s.root s.kids ∅ in
+      let p = s.rows in
+      let q = s.levels in
+      all_four (leb (length text) 16384) (is_utf8 text) (same names name_list) (view_sound text names (view_of table))
+      (le→leb (length text) 16384 s.short) s.utf8 (eq_same names name_list s.listed)
+      (rw s.view (tests-view f tt (le→leb (count f) 1024 (omega arith)) (le→leb (depth f) 64 (omega arith)) s.places s.fits s.parents))
 
 -- ---- the table of a sound tree
 

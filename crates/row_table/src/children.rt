@@ -5,9 +5,9 @@ ghost use Rattle.datatype.specs.Tree.{∅, roots};
 ghost use Rattle.subtrees.specs.Internal.Run.{is_run, run_at};
 ghost use Rattle.row_table.specs.Internal.Check.{trees, children_fit};
 
-use crate::rows::Row;
+use datatype::Row;
 use datatype::kind::{DICTIONARY, LARGE_LIST_VIEW, LIST, MAP, RUN_END_ENCODED, STRUCT, UNION};
-use datatype::rows::{NON_NULL, ROLE};
+use datatype::rows::NON_NULL;
 use subtrees::{check_entries, try_new};
 
 // Whether a row of a kind may have no children.
@@ -21,67 +21,78 @@ pub(crate) fn is_childless(kind: u32) -> bool
     )
 }
 
-// The children of a row: rows first to end of a table, which are whole trees.
+// Rows side by side: start to end of a table.
 #[derive(Clone, Copy)]
-pub(crate) struct Children<'r> {
+pub(crate) struct Run<'r> {
     pub(crate) rows: &'r [u32],
-    pub(crate) first: usize,
+    pub(crate) start: usize,
     pub(crate) end: usize,
-    ghost ordered: { first ≤ end },
+    ghost ordered: { start ≤ end },
     ghost room: { row_words * end ≤ length rows.now },
-    ghost whole: { is_run (run_at rows.now first (end - first)) ≡ true },
 }
 
-impl Children<'_> {
-    // The row of the first child.
+impl Run<'_> {
+    // The first row.
     fn first_row(&self) -> Row<'_>
-        requires { self.now.first < self.now.end }
+        requires { self.now.start < self.now.end }
         ensures rows { result.rows.now ≡ self.now.rows.now }
-        ensures at { result.at ≡ self.now.first }
+        ensures at { result.at ≡ self.now.start }
     {
         Row {
             rows: self.rows,
-            at: self.first,
+            at: self.start,
         }
     }
+}
 
+// The children of a row: rows that are whole trees.
+#[derive(Clone, Copy)]
+pub(crate) struct Children<'r> {
+    pub(crate) run: Run<'r>,
+    ghost whole: { is_run (run_at run.rows.now run.start (run.end - run.start)) ≡ true },
+}
+
+impl Children<'_> {
     // Whether there is one child.
     #[tactic(auto, using(crate::proofs::ChildLaws::counts))]
     fn is_one(self) -> bool
-        ensures { result ≡ eqb (length (roots (trees self.entry.rows.now self.entry.first self.entry.end))) 1 }
+        ensures { result ≡ eqb (length (roots (trees self.entry.run.rows.now self.entry.run.start self.entry.run.end))) 1 }
     {
-        self.first < self.end && self.first + self.first_row().subtree() == self.end
+        let run = self.run;
+        run.start < run.end && run.start + run.first_row().subtree() == run.end
     }
 
     // Whether there are two children.
     #[tactic(auto, using(crate::proofs::ChildLaws::counts))]
     fn are_two(self) -> bool
-        ensures { result ≡ eqb (length (roots (trees self.entry.rows.now self.entry.first self.entry.end))) 2 }
+        ensures { result ≡ eqb (length (roots (trees self.entry.run.rows.now self.entry.run.start self.entry.run.end))) 2 }
     {
-        if self.first == self.end {
+        let Run { rows, start, end } = self.run;
+        if start == end {
             return false;
         }
-        let later = Children {
-            rows: self.rows,
-            first: self.first + self.first_row().subtree(),
-            end: self.end,
+        let later = Run {
+            rows,
+            start: start + self.run.first_row().subtree(),
+            end,
         };
-        later.is_one()
+        (Children { run: later }).is_one()
     }
 
     // Whether they can be the children of a row of a kind.
     #[tactic(auto, using(crate::proofs::ChildLaws::kids))]
     pub(crate) fn fit(self, kind: u32) -> bool
-        ensures { result ≡ children_fit kind (trees self.entry.rows.now self.entry.first self.entry.end) }
+        ensures { result ≡ children_fit kind (trees self.entry.run.rows.now self.entry.run.start self.entry.run.end) }
     {
+        let Run { rows, start, end } = self.run;
         match kind {
             STRUCT => true,
-            UNION => try_new(self.rows, self.first, self.end),
+            UNION => try_new(rows, start, end),
             DICTIONARY => self.are_two(),
             LIST..=LARGE_LIST_VIEW => self.is_one(),
-            MAP => self.is_one() && check_entries(self.rows, self.first).is_ok(),
-            RUN_END_ENCODED => self.are_two() && self.first_row().word(ROLE) == NON_NULL,
-            _ => self.first == self.end,
+            MAP => self.is_one() && check_entries(rows, start).is_ok(),
+            RUN_END_ENCODED => self.are_two() && self.run.first_row().role() == NON_NULL,
+            _ => start == end,
         }
     }
 }

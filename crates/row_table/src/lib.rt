@@ -5,7 +5,6 @@
 mod children;
 mod levels;
 mod names;
-mod rows;
 mod rules;
 mod sound;
 

@@ -1,11 +1,10 @@
 // Where names and zones stand: in the name list, or in the text, where they cut no character.
-ghost use Rattle.std.specs.Prelude.{◌≡◌, ◌&&◌, ◌||◌, ◌≤◌, ◌<◌, true, length, eqb};
+ghost use Rattle.std.specs.Prelude.{◌≡◌, ◌&&◌, ◌||◌, eqb};
 ghost use Rattle.tokenizer.specs.Text.{same};
-ghost use Rattle.tokenizer.specs.Utf8.{is_utf8};
-ghost use Rattle.datatype.specs.Kind.{kinds, shape_of};
+ghost use Rattle.datatype.specs.Kind.{shape_of};
 ghost use Rattle.datatype.specs.Tree.{name_list};
 ghost use Rattle.row_table.specs.Sound.{is_listed, rules_of};
-ghost use Rattle.row_table.specs.Internal.Check.{standing_of, boundary, part_fits, name_ok, zone_ok};
+ghost use Rattle.row_table.specs.Internal.Check.{standing_of, part_fits, name_ok, zone_ok};
 
 use crate::rules::Standing;
 use datatype::kind::TIMESTAMP;
@@ -38,69 +37,47 @@ fn is_bare(role: u32, name: Field) -> bool
     role == 0 && name.home == 0 && name.start == 0 && name.size == 0
 }
 
-// A text that is UTF-8.
-#[derive(Clone, Copy)]
-pub(crate) struct Text<'t> {
-    pub(crate) bytes: &'t [u8],
-    ghost utf8: { is_utf8 bytes.now ≡ true },
+// Whether a part of a text is not empty, lies within the text and cuts no character.
+#[tactic(auto, using(crate::proofs::NameLaws::parts))]
+fn part_fits(text: &str, start: u32, size: u32) -> bool
+    ensures { result ≡ part_fits text.now start size }
+{
+    let from = start as usize;
+    let to = from + size as usize;
+    size != 0 && text.is_char_boundary(from) && text.is_char_boundary(to)
 }
 
-impl Text<'_> {
-    // Whether a place stands between two characters, or at an end.
-    #[tactic(auto, using(crate::proofs::NameLaws::boundaries))]
-    fn is_char_boundary(self, at: usize) -> bool
-        requires { at ≤ length self.bytes.now }
-        ensures { result ≡ boundary self.entry.bytes.now at }
-    {
-        at == self.bytes.len() || !matches!(self.bytes[at], 0x80..0xC0)
+// Whether a name stands in the text, where it fits, or in the name list, as one of the three default names.
+fn is_named(text: &str, name: Field) -> bool
+    ensures { result ≡ (eqb name.home 1 && part_fits text.now name.start name.size || eqb name.home 2 && is_listed name.start name.size) }
+{
+    match name.home {
+        Field::IN_TEXT => part_fits(text, name.start, name.size),
+        Field::IN_NAME_LIST => is_listed(name),
+        _ => false,
     }
+}
 
-    // Whether a part is not empty, lies within the text and cuts no character.
-    #[tactic(auto, using(crate::proofs::NameLaws::part_cuts))]
-    fn part_fits(self, start: u32, size: u32) -> bool
-        ensures { result ≡ part_fits self.entry.bytes.now start size }
-    {
-        let from = start as usize;
-        let to = from + size as usize;
-        size != 0
-            && to <= self.bytes.len()
-            && self.is_char_boundary(from)
-            && self.is_char_boundary(to)
-    }
-
-    // Whether a name stands in the text, where it fits, or in the name list, as one of the three default names.
-    fn is_named(self, name: Field) -> bool
-        ensures { result ≡ (eqb name.home 1 && part_fits self.entry.bytes.now name.start name.size || eqb name.home 2 && is_listed name.start name.size) }
-    {
-        match name.home {
-            Field::IN_TEXT => self.part_fits(name.start, name.size),
-            Field::IN_NAME_LIST => is_listed(name),
-            _ => false,
+// Whether role and name are those of a row of a standing.
+#[tactic(auto, unfolding(crate::specs::Internal::Check::name_ok))]
+pub(crate) fn name_fits(text: &str, standing: Standing, role: u32, name: Field) -> bool
+    ensures { result ≡ name_ok text.now (standing_of standing) role name.home name.start name.size }
+{
+    match standing {
+        Standing::Bare => is_bare(role, name),
+        Standing::Field | Standing::UnionField => {
+            matches!(role, NULLABLE | NON_NULL) && is_named(text, name)
         }
     }
+}
 
-    // Whether role and name are those of a row of a standing.
-    #[tactic(auto, unfolding(crate::specs::Internal::Check::name_ok))]
-    pub(crate) fn name_fits(self, standing: Standing, role: u32, name: Field) -> bool
-        ensures { result ≡ name_ok self.entry.bytes.now (standing_of standing) role name.home name.start name.size }
-    {
-        match standing {
-            Standing::Bare => is_bare(role, name),
-            Standing::Field | Standing::UnionField => {
-                matches!(role, NULLABLE | NON_NULL) && self.is_named(name)
-            }
-        }
+// Whether the zone is one that a row of a kind may have.
+#[tactic(auto, using(crate::proofs::NameLaws::zoned), unfolding(crate::specs::Internal::Check::zone_ok))]
+pub(crate) fn zone_fits(text: &str, kind: u32, start: u32, size: u32) -> bool
+    ensures { result ≡ zone_ok text.now (rules_of (shape_of kind)).zoned start size }
+{
+    if size == 0 {
+        return start == 0;
     }
-
-    // Whether the zone is one that a row of a kind may have.
-    #[tactic(auto, using(crate::proofs::NameLaws::zoned), unfolding(crate::specs::Internal::Check::zone_ok))]
-    pub(crate) fn zone_fits(self, kind: u32, start: u32, size: u32) -> bool
-        requires { kind < kinds }
-        ensures { result ≡ zone_ok self.entry.bytes.now (rules_of (shape_of kind)).zoned start size }
-    {
-        if size == 0 {
-            return start == 0;
-        }
-        kind == TIMESTAMP && self.part_fits(start, size)
-    }
+    kind == TIMESTAMP && part_fits(text, start, size)
 }

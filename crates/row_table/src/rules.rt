@@ -1,6 +1,6 @@
 // What each kind asks of a row's numbers, and where its children stand.
-ghost use Rattle.std.specs.Prelude.{◌≡◌, ◌<◌};
-ghost use Rattle.datatype.specs.Kind.{kinds, shape_of};
+ghost use Rattle.std.specs.Prelude.{◌≡◌};
+ghost use Rattle.datatype.specs.Kind.{shape_of};
 ghost use Rattle.row_table.specs.Sound.{rules_of};
 ghost use Rattle.row_table.specs.Internal.Check.{standing_of, below_of, is_decimal, numbers_fit};
 
@@ -32,7 +32,6 @@ fn is_decimal(kind: u32) -> bool
 // How many values word 4 has in rows of a kind.
 #[tactic(auto, using(crate::proofs::RuleLaws::params_by))]
 fn params(kind: u32) -> u32
-    requires { kind < kinds }
     ensures { result ≡ (rules_of (shape_of kind)).params }
 {
     match kind {
@@ -48,10 +47,10 @@ fn params(kind: u32) -> u32
 // Whether words 4 and 5 are those of a kind.
 #[tactic(auto, using(crate::proofs::RuleLaws::numbers))]
 pub(crate) fn numbers_fit(kind: u32, param: u32, scale: u32) -> bool
-    requires { kind < kinds }
     ensures { result ≡ numbers_fit kind param scale }
 {
-    // Most rows are of the first kinds, which have no numbers: told first, a tree is checked a sixth faster.
+    // Most rows are of the first kinds, which have no numbers: told first, a tree of them takes nearly a fifth fewer
+    // instructions.
     if kind < TIMESTAMP {
         return param == 0 && scale == 0;
     }
@@ -59,7 +58,7 @@ pub(crate) fn numbers_fit(kind: u32, param: u32, scale: u32) -> bool
         let precision = param;
         return Decimal { precision, scale }.fits(kind);
     }
-    scale == 0 && param < params(kind) && unit_fits(kind, param)
+    param < params(kind) && scale == 0 && unit_fits(kind, param)
 }
 
 // The standing of a kind's children.

@@ -1,20 +1,15 @@
 // Soundness of a tree: every clause, in one walk over its rows.
-ghost use Rattle.std.specs.Prelude.{◌≡◌, ◌-◌, ◌*◌, ◌≤◌, length};
-ghost use Rattle.datatype.specs.Table.{row_words};
+ghost use Rattle.std.specs.Prelude.{◌≡◌, ◌-◌, ◌*◌};
 ghost use Rattle.row_table.specs.Sound.{id_fits, is_sound};
 ghost use Rattle.subtrees.specs.Internal.Run.{row_at, run_at};
 ghost use Rattle.row_table.specs.Internal.Check.{standing_of, own_fits, run_fits};
 
-use crate::children::{Children, is_childless};
-use crate::names::{Text, is_name_list};
-use crate::rows::Row;
+use crate::children::{Children, Run, is_childless};
+use crate::names::{is_name_list, name_fits, zone_fits};
 use crate::rules::{Standing, below, numbers_fit};
-use datatype::Field;
 use datatype::kind::KINDS;
-use datatype::rows::{
-    HOME, KIND, MAX_LEVELS, MAX_ROWS, MAX_TEXT, NAME_LENGTH, NAME_START, NUMBER, ROLE, ROW_WORDS,
-    SCALE, UNION_ID, ZONE_LENGTH, ZONE_START,
-};
+use datatype::rows::{MAX_LEVELS, MAX_ROWS, MAX_TEXT, ROW_WORDS};
+use datatype::{Row, Tree};
 use subtrees::parents_fit;
 
 // Whether the union id is one of a row of a standing.
@@ -30,91 +25,83 @@ fn id_fits(standing: Standing, id: u32) -> bool
 
 // Whether a row, of a standing, is sound, but for what its children must be.
 #[tactic(auto, unfolding(crate::specs::Internal::Check::own_fits, subtrees::specs::Internal::Run::row_at))]
-fn row_fits(text: Text, standing: Standing, row: Row) -> bool
-    ensures { result ≡ own_fits text.entry.bytes.now (standing_of standing) (row_at row.entry.rows.now row.entry.at) }
+fn row_fits(text: &str, standing: Standing, row: Row) -> bool
+    ensures { result ≡ own_fits text.now (standing_of standing) (row_at row.entry.rows.now row.entry.at) }
 {
-    let kind = row.word(KIND);
-    let name = Field {
-        home: row.word(HOME),
-        start: row.word(NAME_START),
-        size: row.word(NAME_LENGTH),
-    };
+    let kind = row.kind();
     kind < KINDS
-        && numbers_fit(kind, row.word(NUMBER), row.word(SCALE))
-        && id_fits(standing, row.word(UNION_ID))
-        && text.name_fits(standing, row.word(ROLE), name)
-        && text.zone_fits(kind, row.word(ZONE_START), row.word(ZONE_LENGTH))
+        && numbers_fit(kind, row.number(), row.scale())
+        && id_fits(standing, row.union_id())
+        && name_fits(text, standing, row.role(), row.field())
+        && zone_fits(text, kind, row.zone_start(), row.zone_length())
 }
 
-// A text that is UTF-8, and rows whose names and zones stand in it.
-#[derive(Clone, Copy)]
-struct Tree<'t, 'r> {
-    text: Text<'t>,
-    rows: &'r [u32],
-}
-
-impl Tree<'_, '_> {
-    // Whether rows start to end nest, are sound by a standing and have at most so many levels.
-    #[tactic(auto, using(crate::proofs::SoundLaws::turns))]
-    fn run_fits(self, standing: Standing, level: usize, start: usize, end: usize) -> bool
-        requires room { row_words * end ≤ length self.rows.now }
-        requires ordered { start ≤ end }
-        ensures { result ≡ run_fits self.entry.text.bytes.now (standing_of standing) level (run_at self.entry.rows.now start (end - start)) }
-    {
-        let mut at = start;
-        // No `for`: a turn passes a whole subtree, whose size its first row says.
-        while at < end {
-            let row = Row {
-                rows: self.rows,
-                at,
-            };
-            let size = row.subtree();
-            if level == 0 || size == 0 || end - at < size || !row_fits(self.text, standing, row) {
+// Whether rows nest, are sound by a standing and have at most so many levels.
+#[tactic(auto, using(crate::proofs::SoundLaws::turns))]
+fn run_fits(text: &str, standing: Standing, level: usize, run: Run) -> bool
+    ensures { result ≡ run_fits text.now (standing_of standing) level (run_at run.entry.rows.now run.entry.start (run.entry.end - run.entry.start)) }
+{
+    let Run { rows, start, end } = run;
+    let mut at = start;
+    // No `for`: a turn passes a whole subtree, and whether the subtrees nest is what is checked here.
+    while at < end {
+        let row = Row { rows, at };
+        let size = row.subtree();
+        if level == 0 || size == 0 || end - at < size || !row_fits(text, standing, row) {
+            return false;
+        }
+        let kind = row.kind();
+        let behind = at + size;
+        // A row of one is told apart: to walk over no rows below each takes more than half as many instructions again.
+        if size == 1 {
+            if !is_childless(kind) {
                 return false;
             }
-            let kind = row.word(KIND);
-            let behind = at + size;
-            if size == 1 {
-                if !is_childless(kind) {
-                    return false;
-                }
-            } else {
-                if !self.run_fits(below(kind), level - 1, at + 1, behind) {
-                    return false;
-                }
-                let children = Children {
-                    rows: self.rows,
-                    first: at + 1,
-                    end: behind,
-                };
-                if !children.fit(kind) {
-                    return false;
-                }
+        } else {
+            let run = Run {
+                rows,
+                start: at + 1,
+                end: behind,
+            };
+            if !run_fits(text, below(kind), level - 1, run) {
+                return false;
             }
-            at = behind;
+            let children = Children { run };
+            if !children.fit(kind) {
+                return false;
+            }
         }
-        true
+        at = behind;
     }
+    true
 }
 
-// Whether text, name list and row words are a sound tree. The three stand alone, as C hands them over.
-#[tactic(auto, using(crate::proofs::SoundLaws::sounds))]
-pub fn is_sound(text: &[u8], names: &[u8], rows: &[u32]) -> bool
-    ensures { result ≡ is_sound text.now names.now rows.now }
+// Whether text, name list and row words are a sound tree.
+#[tactic(auto, using(crate::proofs::SoundLaws::sounds, tokenizer::proofs::RustUtf8::test_yes, tokenizer::proofs::RustUtf8::test_no))]
+pub fn is_sound(tree: Tree<'_>) -> bool
+    ensures { result ≡ is_sound tree.entry.text.now tree.entry.names.now tree.entry.rows.now }
 {
+    let rows = tree.rows;
     let n = rows.len() / ROW_WORDS;
-    if MAX_TEXT < text.len() || !is_name_list(names) || n == 0 || MAX_ROWS < n {
+    let Some(root) = Row::of(rows, 0) else {
         return false;
-    }
-    if rows.len() != ROW_WORDS * n || (Row { rows, at: 0 }).subtree() != n {
-        return false;
-    }
-    if !tokenizer::is_utf8(text) || !parents_fit(rows) {
-        return false;
-    }
-    let tree = Tree {
-        text: Text { bytes: text },
-        rows,
     };
-    tree.run_fits(Standing::Bare, MAX_LEVELS, 0, n)
+    if MAX_TEXT < tree.text.len() || !is_name_list(tree.names) || MAX_ROWS < n {
+        return false;
+    }
+    if rows.len() != ROW_WORDS * n || root.subtree() != n {
+        return false;
+    }
+    let Ok(text) = str::from_utf8(tree.text) else {
+        return false;
+    };
+    if !parents_fit(rows) {
+        return false;
+    }
+    let all = Run {
+        rows,
+        start: 0,
+        end: n,
+    };
+    run_fits(text, Standing::Bare, MAX_LEVELS, all)
 }

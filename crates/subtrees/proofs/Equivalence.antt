@@ -1,5 +1,5 @@
 -- Equality of trees is an equivalence, and on tables that nest it says exactly that the trees say the same.
---   equal-refl, equal-sym, equal-trans   on all texts, name lists and words
+--   equal_refl, equal_sym, equal_trans   on all texts, name lists and words
 --   equal-labels, labels-equal           equal tables are tables of equal labels, and the other way round
 use mathlib.Core.Path.{◌≡◌, refl, sym, ap, ◌∙◌}
 use mathlib.Core.Bool.{Bool, ◌&&◌}
@@ -112,10 +112,6 @@ kids_of (node a k n) = k
 next_of : Forest Label → Forest Label
 next_of ∅ = ∅
 next_of (node a k n) = n
-
-row_of_lem : (r : Row) (c : ℕ) → row_of (words_of r c) ≡ r
-unfolding row_of words_of
-row_of_lem r c = refl
 
 -- two rows with their subtrees' sizes
 module _ (text names text' names' : List ℕ) (r r' : Row) (c c' : ℕ) where

@@ -1,5 +1,6 @@
 pub mod Runs
 pub mod ParentClimb
+pub mod RangeCalls
 pub mod ParentSet
 pub mod ParentTree
 pub mod ParentFit

@@ -1,18 +1,18 @@
 -- The climb to a row's parent: from the row before, through parents that are right already.
 --   holder-yes, holder-no   the row passed last holds row i, or it does not
 --   climb                   what holds no row j before row i holds no row i either: go on from row j's parent
---   holder-same             only words 1 count
-use mathlib.Core.Path.{◌≡◌, refl, sym, ap, ◌∙◌}
+--   holder_same             only words 1 count
+--   climbs                  what the loop of `parent_of` goes by
+use mathlib.Core.Path.{◌≡◌, refl, ◌∙◌}
 use mathlib.Core.List.{List}
-use Prim.Native.Nat.{ℕ, zero, suc, ◌+◌, ◌-◌, ◌≤◌, ◌<◌}
+use Prim.Native.Nat.{ℕ, zero, suc, ◌+◌, ◌≤◌, ◌<◌}
 use native.Mathlib.Omega.{arith}
 use native.Mathlib.Decide.{dec_lt}
 use lib.Dec.{ltb}
 use borrow.Author.Tests.{lt-ltb, le-ltb}
 use Rattle.tokenizer.proofs.Basics.{if_same}
 use Rattle.subtrees.specs.Parents.{holder, parent_at}
-use Rattle.subtrees.specs.Internal.Climb.{Climbs}
-use Rattle.datatype.specs.Table.{rows_at, parent_word_at}
+use Rattle.datatype.specs.Table.{rows_at}
 
 module _ (table : List ℕ) (i : ℕ) where
   pub holder-none : holder table i 0 ≡ 0
@@ -59,32 +59,14 @@ pub record ClimbSo (table : List ℕ) (i p : ℕ) : Type 0 where
   pub below : p < i
   pub so : parent_at table i ≡ holder table i (suc p)
 
-module _ (table : List ℕ) (i : ℕ) where
-  pub climb-root : i ≡ 0 → 0 ≡ parent_at table i
-  climb-root e = rw (e, holder-none table 0)
+module _ (table : List ℕ) where
+  -- a row's parent stands before it
+  pub parent_before : (p : ℕ) → 0 < p → holder table p p < p
+  parent_before zero h = absurd (omega arith)
+  parent_before (suc p) h = omega (arith, holder-low table (suc p) p)
 
-  module _ (p : ℕ) (c : ClimbSo table i p) where
-    pub climb-end : p ≤ 0 → 0 ≡ parent_at table i
-    climb-end h = let e : p ≡ 0 = omega arith in sym (c.so ∙ ap (λ (n : ℕ). holder table i (suc n)) e ∙ holder-first table i)
+  -- and is asked next
+  pub climb_on : (i p : ℕ) → p + rows_at table p ≤ i → holder table i (suc p) ≡ holder table i (suc (holder table p p))
+  climb_on i p h = holder-no table i p h ∙ climb table i p p (omega arith)
 
-    pub climb-found : (size : ℕ) → size ≡ rows_at table p → i - p < size → p ≡ parent_at table i
-    climb-found size is h =
-        let b = c.below in
-        sym (c.so ∙ holder-yes table i p (omega arith))
-
-    module _ (ready : Climbs table i) (q : ℕ) (is : q ≡ parent_word_at table p) where
-      is-parent : q ≡ parent_at table p
-      is-parent = is ∙ ready.right p c.below
-
-      pub climb-less : 0 < p → q < p
-      climb-less h =
-          let e : suc (p - 1) ≡ p = omega arith in
-          let low : holder table p p ≤ p - 1 = rw e at (holder-low table p (p - 1)) in
-          omega (arith, is-parent)
-
-      pub climb-on : 0 < p → (size : ℕ) → size ≡ rows_at table p → size ≤ i - p → ClimbSo table i q
-      climb-on h size s l =
-          let b = c.below in
-          let e : holder table i (suc p) ≡ holder table i (suc q) =
-          holder-no table i p (omega arith) ∙ climb table i p p (omega arith) ∙ ap (λ (n : ℕ). holder table i (suc n)) (sym is-parent) in
-          record { below = omega (arith, climb-less h); so = c.so ∙ e }
+pub ruleset climbs = (holder-none, holder-low, holder-yes, parent_before, climb_on)

@@ -1,6 +1,6 @@
 -- The other words fix the parents: why equality of trees does not look at them.
 --   words-fix     in two tables whose parents fit, equal words 1 make equal words 11
---   labels-fix    two trees that say the same, with their parents right, have the same parents row by row
+--   labels_fix    two trees that say the same, with their parents right, have the same parents row by row
 --   labels-parented   setting parents changes nothing that a tree says
 use mathlib.Core.Path.{◌≡◌, refl, sym, ap, ◌∙◌}
 use mathlib.Core.Bool.{Bool}
@@ -16,6 +16,7 @@ use Rattle.datatype.specs.Table.{row_words, rows_at, parent_word_at}
 use Rattle.subtrees.specs.Parents.{parent_column, parents_from, parents_of, parented_from, parented, with_parent, parents_right, parent_at, fit_from, parents_fit}
 use Rattle.subtrees.proofs.ParentClimb.{holder_same}
 use Rattle.subtrees.proofs.ParentFit.{right_node}
+use Rattle.subtrees.proofs.RowList.{count_map}
 
 -- ---- any two tables
 
@@ -41,10 +42,6 @@ module _ (table table' : List ℕ) (fit : T (parents_fit table)) (fit' : T (pare
       ∙ sym (fit_at table' (length table' / row_words) 0 k (unfold parents_fit in fit') (omega arith) (rw (← e) (omega arith)))
 
 -- ---- two trees
-
-count_map : {A B : Type 0} (g : A → B) (f : Forest A) → count (map_forest g f) ≡ count f
-count_map g ∅ = refl
-count_map g (node a kids next) = λ j. suc (count_map g kids j) + count_map g next j
 
 -- a run's parents are fixed by its shape
 pub parents_map : {A B : Type 0} (g : A → B) (f : Forest A) (p i : ℕ) → parents_from p i (map_forest g f) ≡ parents_from p i f

@@ -2,19 +2,20 @@
 --   row-size, row-kids, row_next   a run of trees that stands in a table from row i on: its first row's word 1, its
 --                                  children, the run behind
 --   past                           no row of a run holds a row behind the run
---   inside                         the parent's row holds the rows of a run, and no row between does
+--   Inside                         the parent's row holds the rows of a run, and no row between does
 use mathlib.Core.Path.{◌≡◌, refl, sym, ap, ◌∙◌}
-use mathlib.Core.List.{List, [], ◌∷◌, ◌++◌, append_assoc, append-nil}
+use mathlib.Core.List.{List, [], ◌++◌, append_assoc, append-nil}
 use mathlib.Core.Option.{some}
-use Prim.Native.Nat.{ℕ, suc, ◌+◌, ◌*◌, ◌≤◌, ◌<◌, min}
+use Prim.Native.Nat.{ℕ, suc, ◌+◌, ◌-◌, ◌*◌, ◌≤◌, ◌<◌, min}
 use native.Mathlib.Omega.{arith}
 use lib.ListN.{length, drop, get_or, set, length-append}
 use lib.Seq.{get_or-drop}
+use Rattle.std.proofs.lemmas.List.{set-append_right}
 use Rattle.tokenizer.proofs.Basics.{skip, skip_word}
 use Rattle.datatype.specs.Tree.{Forest, ∅, node, count, Row}
 use Rattle.datatype.specs.Table.{row_words, words_of, table_of, view_of, rows_lent, rows_at, parent_word_at}
-use Rattle.subtrees.specs.Parents.{parented_from, parented, with_parent, table_with, holder, parent_at, parents_set, with_parents}
-use Rattle.datatype.proofs.Table.{length_table, view_table, table_view}
+use Rattle.subtrees.specs.Parents.{parented_from, with_parent, table_with, holder, parent_at, parents_set, with_parents}
+use Rattle.datatype.proofs.Table.{length_table, table_view}
 use Rattle.subtrees.proofs.ParentClimb.{holder-none, holder-yes, holder-no}
 
 -- from row i on a table holds a run of trees, and then some words
@@ -81,19 +82,13 @@ unfolding parented_from
 count_parented p i ∅ = refl
 count_parented p i (node r kids next) = λ j. suc (count_parented i (suc i) kids j) + count_parented p (i + suc (count kids)) next j
 
-set_behind : (xs ys : List ℕ) (n a : ℕ) → set (xs ++ ys) (length xs + n) a ≡ xs ++ set ys n a
-set_behind [] ys n a = let e : 0 + n ≡ n = omega arith in rw e
-set_behind (x ∷ xs) ys n a =
-    let e : suc (length xs) + n ≡ suc (length xs + n) = omega arith in
-    rw e (ap (λ (l : List ℕ). x ∷ l) (set_behind xs ys n a))
-
 -- word 11 of a row that stands behind so many words
 set_row : (front : List ℕ) (i p : ℕ) (r : Row) (n : ℕ) (rest : List ℕ) → length front ≡ row_words * i
     → set (front ++ (words_of r n ++ rest)) (row_words * i + 11) p ≡ front ++ (words_of (with_parent p r) n ++ rest)
 unfolding words_of with_parent
 set_row front i p r n rest l =
-    let e : row_words * i + 11 ≡ length front + 11 = omega arith in
-    ap (λ (k : ℕ). set (front ++ (words_of r n ++ rest)) k p) e ∙ set_behind front (words_of r n ++ rest) 11 p
+    let e : row_words * i + 11 - row_words * i ≡ 11 = omega arith in
+    set-append_right front (words_of r n ++ rest) (row_words * i) (row_words * i + 11) p l (omega arith) ∙ rw e
 
 length_words : (r : Row) (n : ℕ) → length (words_of r n) ≡ row_words
 unfolding words_of
@@ -208,7 +203,3 @@ with_parents_lem f h =
 -- so does any table that nests
 pub view_with_parents : (t : List ℕ) (f : Forest Row) → view_of t ≡ some f → count f ≤ 1024 → with_parents t ≡ table_with f
 view_with_parents t f e h = ap with_parents (sym (table_view t f e)) ∙ with_parents_lem f h
-
--- and it nests as before
-pub view_parented : (t : List ℕ) (f : Forest Row) → view_of t ≡ some f → count f ≤ 1024 → view_of (with_parents t) ≡ some (parented f)
-view_parented t f e h = ap view_of (view_with_parents t f e h) ∙ view_table (parented f)

@@ -4,7 +4,7 @@ use mathlib.Core.List.{List, [], ◌∷◌, ◌++◌, append_assoc, append-nil}
 use Prim.Native.Nat.{ℕ, suc, ◌+◌, ◌/◌}
 use native.Mathlib.Omega.{arith}
 use lib.ListN.{length}
-use Rattle.datatype.specs.Tree.{Forest, ∅, node, count, Row, labels}
+use Rattle.datatype.specs.Tree.{Forest, ∅, node, count, map_forest, Row, label_of, labels}
 use Rattle.datatype.specs.Table.{row_words, words_of, table_of}
 use Rattle.subtrees.specs.Equal.{first_rows, whole_rows}
 use Rattle.datatype.proofs.Table.{length_table}
@@ -41,7 +41,10 @@ whole_rows_lem f =
     ∙ append-nil (rows_of f)
 
 -- what a run says has as many rows
+pub count_map : {A B : Type 0} (g : A → B) (f : Forest A) → count (map_forest g f) ≡ count f
+count_map g ∅ = refl
+count_map g (node a kids next) = λ j. suc (count_map g kids j) + count_map g next j
+
 pub count_labels : (text names : List ℕ) (f : Forest Row) → count (labels text names f) ≡ count f
 unfolding labels
-count_labels text names ∅ = refl
-count_labels text names (node r k n) = λ j. suc (count_labels text names k j) + count_labels text names n j
+count_labels text names f = count_map (label_of text names) f

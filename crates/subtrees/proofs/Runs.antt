@@ -2,19 +2,21 @@
 --   run_step     the run at a row: its row, the run of its children and the run behind it, or none
 --   split        of a run that nests and is not empty the same, with both parts nesting
 --   Turn, turn   the same for a loop that goes from tree to tree, by where it is and where it ends
---   no_rows, forest-none   the run of no rows
---   Is, is-run, run_is, nests-is, forest-is    rows i to i + n are the table of a forest, and what that says of the run
---   nests-all, forest-all                      the whole table
+--   no_rows, forest_none   the run of no rows
+--   Is, is_run_lem, run_is, nests_is, forest_is    rows i to i + n are the table of a forest, and what that says of the run
+--   nests_all, forest_all                          the whole table
 use Rattle.std.specs.Prelude.{if◌then◌else◌}
 use mathlib.Core.Path.{◌≡◌, refl, sym, ap, ◌∙◌, subst}
-use mathlib.Core.Bool.{Bool, true, false, ◌&&◌, true≢false}
+use mathlib.Core.Bool.{Bool, true, false, ◌&&◌}
 use mathlib.Core.List.{List, [], ◌∷◌}
 use mathlib.Core.Option.{Option, none, some}
-use Prim.Native.Nat.{ℕ, zero, suc, ◌+◌, ◌*◌, ◌-◌, ◌≤◌, ◌<◌}
+use Prim.Native.Nat.{ℕ, ◌+◌, ◌*◌, ◌-◌, ◌≤◌, ◌<◌}
 use native.Mathlib.Omega.{arith}
 use lib.ListN.{length, take, drop, get_or, length-take, length-drop}
-use lib.Seq.{drop-drop, take-take, take_all, take-nil, get_or-take, get_or-drop, length-take-le}
+use lib.Seq.{drop-drop, take-take, take_all, get_or-take, get_or-drop, length-take-le}
 use lib.Dec.{T, leb, leb→le}
+use Rattle.std.proofs.lemmas.List.{drop-take}
+use Rattle.std.proofs.lemmas.Bool.Decides.{nat_tests}
 use borrow.Author.Tests.{le-leb}
 use Rattle.tokenizer.proofs.Basics.{and_l, and_r, of_true}
 use Rattle.datatype.specs.Tree.{Forest, ∅, node, count, Row}
@@ -24,20 +26,15 @@ use Rattle.datatype.proofs.Table.{length_table, view_table, table_view, view_eno
 
 -- ---- parts of parts of lists
 
-drop_take : (m n : ℕ) (l : List ℕ) → drop m (take n l) ≡ take (n - m) (drop m l)
-drop_take zero n l = let e : n - 0 ≡ n = omega arith in rw e
-drop_take (suc m) zero [] = sym (take-nil (0 - suc m))
-drop_take (suc m) zero (x ∷ l) = let e : 0 - suc m ≡ 0 = omega arith in rw e
-drop_take (suc m) (suc n) [] = sym (take-nil (suc n - suc m))
-drop_take (suc m) (suc n) (x ∷ l) = let e : suc n - suc m ≡ n - m = omega arith in rw e (drop_take m n l)
+-- a stretch that runs to the end of one
+stretch_end : (a m b : ℕ) (l : List ℕ) → b ≤ m → drop b (take m (drop a l)) ≡ take (m - b) (drop (a + b) l)
+stretch_end a m b l h =
+    let e : m ≡ b + (m - b) = omega arith in
+    ap (λ (k : ℕ). drop b (take k (drop a l))) e ∙ drop-take b (m - b) (drop a l) ∙ ap (take (m - b)) (drop-drop b a l)
 
 -- a stretch of a stretch of a list
 stretch : (a m b n : ℕ) (l : List ℕ) → b + n ≤ m → take n (drop b (take m (drop a l))) ≡ take n (drop (a + b) l)
-stretch a m b n l h = rw (drop_take b m (drop a l), drop-drop b a l) (take-take n (m - b) (drop (a + b) l) (omega arith))
-
--- a stretch that runs to the end of one
-stretch_end : (a m b : ℕ) (l : List ℕ) → drop b (take m (drop a l)) ≡ take (m - b) (drop (a + b) l)
-stretch_end a m b l = rw (drop_take b m (drop a l), drop-drop b a l)
+stretch a m b n l h = ap (take n) (stretch_end a m b l (omega arith)) ∙ take-take n (m - b) (drop (a + b) l) (omega arith)
 
 -- ---- the run at a row
 
@@ -59,11 +56,7 @@ view_fits [] s e l h = absurd (omega arith)
 view_fits (w ∷ ws) s e l h = view_step w ws ∙ rw (e, le-leb 1 s l, le-leb (row_words * s) (length (w ∷ ws)) h)
 
 not_both : (a b : ℕ) (c d : ℕ) → (a ≤ b → c ≤ d → ⊥) → (leb a b && leb c d) ≡ false
-not_both a b c d h = go (leb a b && leb c d) refl
-  where
-    go : (t : Bool) → (leb a b && leb c d) ≡ t → (leb a b && leb c d) ≡ false
-    go true e = absurd (h (leb→le a b (and_l (leb a b) (leb c d) (of_true _ e))) (leb→le c d (and_r (leb a b) (leb c d) (of_true _ e))))
-    go false e = e
+not_both a b c d h = grind (arith, nat_tests)
 
 view_unfit : (ws : List ℕ) (s : ℕ) → rows_word ws ≡ s → 1 ≤ length ws → (1 ≤ s → row_words * s ≤ length ws → ⊥) → view_of ws ≡ none
 view_unfit [] s e l h = absurd (omega arith)
@@ -110,7 +103,7 @@ module _ (table : List ℕ) (i n : ℕ) (room : row_words * (i + n) ≤ length t
   behind-is s l h =
       let e : row_words * (i + s) ≡ row_words * i + (row_words + row_words * (s - 1)) = omega arith in
       let d : row_words * (n - s) ≡ row_words * n - (row_words + row_words * (s - 1)) = omega arith in
-      rw (e, d, drop-drop (row_words * (s - 1)) row_words (words table i n), stretch_end (row_words * i) (row_words * n) (row_words + row_words * (s - 1)) table)
+      rw (e, d, drop-drop (row_words * (s - 1)) row_words (words table i n), stretch_end (row_words * i) (row_words * n) (row_words + row_words * (s - 1)) table (omega arith))
 
   -- the first row's subtree fits: the run is its row over the run of its children, and the run behind it
   pub run_step : 1 ≤ rows_at table i → rows_at table i ≤ n
@@ -187,10 +180,7 @@ split table i n h p = go (leb 1 (rows_at table i) && leb (rows_at table i) n) re
     go true e =
         let t = of_true _ e in
         split_fits table i n h p (leb→le 1 (rows_at table i) (and_l (leb 1 (rows_at table i)) (leb (rows_at table i) n) t)) (leb→le (rows_at table i) n (and_r (leb 1 (rows_at table i)) (leb (rows_at table i) n) t))
-    go false e = absurd (subst (λ (o : Option (Forest Row)). T (is_run o)) (run_none table i n h.room p (λ l k. clash l k e)) h.whole)
-      where
-        clash : 1 ≤ rows_at table i → rows_at table i ≤ n → (leb 1 (rows_at table i) && leb (rows_at table i) n) ≡ false → ⊥
-        clash l k e = let z : true ≡ false = sym (rw (le-leb 1 (rows_at table i) l, le-leb (rows_at table i) n k)) ∙ e in true≢false z
+    go false e = absurd (subst (λ (o : Option (Forest Row)). T (is_run o)) (run_none table i n h.room p (λ l k. grind (arith, nat_tests, e))) h.whole)
 
 -- the same in a loop's terms: a run from row at to row end, and its first tree, from row at to row at + its size
 pub record Turn (table : List ℕ) (at end : ℕ) : Type 0 where

@@ -1,5 +1,6 @@
 pub mod Run
+pub mod Levels
 pub mod Climb
 pub mod Ids
-pub mod Behind
+pub mod Beside
 pub mod Computed

@@ -2,23 +2,24 @@
 ghost use Rattle.std.specs.Prelude.{◌≡◌, ◌+◌, ◌-◌, ◌*◌, ◌≤◌, length, IfSome};
 ghost use Rattle.datatype.specs.Limits.{max_levels};
 ghost use Rattle.datatype.specs.Table.{row_words};
-ghost use Rattle.subtrees.specs.Levels.{levels_up_to, levels_of};
-ghost use Rattle.subtrees.specs.Internal.Run.{run_at, levels_or};
+ghost use Rattle.subtrees.specs.Levels.{levels_of};
+ghost use Rattle.subtrees.specs.Internal.Levels.{levels_in, levels_or};
 
-use crate::rows::subtree;
+use datatype::Row;
 use datatype::rows::{MAX_LEVELS, ROW_WORDS};
 
 // How many levels rows start to end have, where they nest and have at most so many.
+#[tactic(auto, using(crate::proofs::LevelLaws::levels))]
 fn levels(rows: &[u32], most: usize, start: usize, end: usize) -> Option<usize>
     requires { (row_words * end ≤ length rows.now) × (start ≤ end) × (most ≤ max_levels) }
-    ensures are { levels_or most result ≡ levels_up_to most (run_at rows.now start (end - start)) }
+    ensures are { levels_or most result ≡ levels_in most rows.now start end }
     ensures few { IfSome result (λ n. n ≤ most) }
 {
     let mut deepest = 0usize;
     let mut at = start;
-    // No range steps by the size of a subtree.
+    // No range steps by the size of a subtree, and an iterator would have to say besides where rows do not nest.
     while at < end {
-        let size = subtree(rows, at);
+        let size = Row { rows, at }.subtree();
         if most == 0 || size == 0 || end - at < size {
             return None;
         }
@@ -30,7 +31,9 @@ fn levels(rows: &[u32], most: usize, start: usize, end: usize) -> Option<usize>
 }
 
 // How many levels the rows of a table have, by their subtrees alone: 0 where they do not nest, or have more than 64. A
-// number and no `Option`, since the definition has 0 for them, and callers have checked both.
+// number and no `Option`, since the definition has 0 for them, and no caller asks which it is: `row_table::depth_of` has
+// checked its rows, and `answer_line` counts the levels of rows as they are.
+#[tactic(auto, using(crate::proofs::LevelLaws::tables))]
 pub fn levels_of(rows: &[u32]) -> usize
     ensures { result ≡ levels_of rows.now }
 {

@@ -7,7 +7,6 @@ mod equality;
 mod levels;
 mod map_entries;
 mod parents;
-mod rows;
 mod union_fields;
 
 pub use equality::equal_trees;

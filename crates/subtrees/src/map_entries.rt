@@ -1,40 +1,38 @@
 // Map's entries: a non-null Struct of two fields, the first of them, the key, non-null.
-ghost use Rattle.std.specs.Prelude.{◌≡◌, ◌+◌, ◌*◌, ◌≤◌, length, eqb};
-ghost use Rattle.datatype.specs.Table.{row_words};
-ghost use Rattle.subtrees.specs.MapEntries.{field_roles, refused_with, entries_refusal_at};
-ghost use Rattle.subtrees.specs.Internal.Behind.{behind_at};
+ghost use Rattle.std.specs.Prelude.{◌≡◌, length, eqb};
+ghost use Rattle.subtrees.specs.MapEntries.{listed, refused_with, entries_refusal_at};
+ghost use Rattle.subtrees.specs.Internal.Beside.{behind_at, beside};
 
-use crate::rows::{subtree, word};
+use datatype::Row;
 use datatype::kind::STRUCT;
-use datatype::rows::{KIND, NON_NULL, ROLE, ROW_WORDS};
+use datatype::rows::NON_NULL;
 use tokenizer::Refusal;
 
 // The row behind the subtree of row `at`, which stands before row `end`: none where it does not, is not in the table or
 // has no rows in its subtree.
-#[tactic(auto, unfolding(crate::specs::Internal::Behind::behind_at))]
+#[tactic(auto, unfolding(crate::specs::Internal::Beside::behind_at))]
 fn behind(rows: &[u32], at: usize, end: usize) -> Option<usize>
     ensures { result ≡ behind_at rows.now at end }
 {
-    if end <= at || rows.len() / ROW_WORDS <= at {
+    if end <= at {
         return None;
     }
-    let size = subtree(rows, at);
+    let size = Row::of(rows, at)?.subtree();
     if size == 0 {
         return None;
     }
     Some(at + size)
 }
 
-// Whether a row has two fields.
-fn has_two_fields(rows: &[u32], row: usize) -> bool
-    requires { row_words * (row + 1) ≤ length rows.now }
-    ensures { result ≡ eqb (length (field_roles rows.now row)) 2 }
+// Whether two rows stand side by side from row `first` up to row `end`.
+#[tactic(auto, using(crate::proofs::SiblingLaws::beside_steps), unfolding(crate::specs::Internal::Beside::behind_at))]
+fn are_two(rows: &[u32], first: usize, end: usize) -> bool
+    ensures { result ≡ eqb (length (listed (beside 2 rows.now first end))) 2 }
 {
-    let end = row + subtree(rows, row);
-    let Some(value) = behind(rows, row + 1, end) else {
+    let Some(second) = behind(rows, first, end) else {
         return false;
     };
-    let Some(third) = behind(rows, value, end) else {
+    let Some(third) = behind(rows, second, end) else {
         return false;
     };
     end <= third
@@ -45,16 +43,15 @@ fn has_two_fields(rows: &[u32], row: usize) -> bool
 pub fn check_entries(rows: &[u32], row: usize) -> Result<(), Refusal>
     ensures { refused_with result ≡ entries_refusal_at rows.now row }
 {
-    if rows.len() / ROW_WORDS <= row {
-        return Err(Refusal::WrongMapEntries);
-    }
-    if word(rows, row, ROLE) != NON_NULL {
+    let entries = Row::of(rows, row).ok_or(Refusal::WrongMapEntries)?;
+    if entries.role() != NON_NULL {
         return Err(Refusal::MustBeNonNull);
     }
-    if word(rows, row, KIND) != STRUCT || !has_two_fields(rows, row) {
+    if entries.kind() != STRUCT || !are_two(rows, row + 1, row + entries.subtree()) {
         return Err(Refusal::WrongMapEntries);
     }
-    if word(rows, row + 1, ROLE) != NON_NULL {
+    let key = Row { rows, at: row + 1 };
+    if key.role() != NON_NULL {
         return Err(Refusal::MustBeNonNull);
     }
     Ok(())

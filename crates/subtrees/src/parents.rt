@@ -1,35 +1,33 @@
 // Parents of rows: set once for a whole table, and checked.
 ghost use Rattle.std.specs.Prelude.{◌≡◌, ◌+◌, ◌*◌, ◌≤◌, min, length};
-ghost use Rattle.datatype.specs.Table.{row_words, rows_lent, parent_word_at};
+ghost use Rattle.datatype.specs.Table.{row_words, rows_lent};
 ghost use Rattle.subtrees.specs.Parents.{parent_at, parents_set, with_parents, parents_fit};
 ghost use Rattle.subtrees.specs.Internal.Climb.{Climbs};
 
-use crate::rows::{subtree, word};
+use datatype::Row;
 use datatype::rows::{MAX_ROWS, PARENT, ROW_WORDS, rows_lent};
 
-// The parent that row i has in the table.
-fn parent(rows: &[u32], i: usize) -> usize
-    requires { row_words * (i + 1) ≤ length rows.now }
-    ensures { result ≡ parent_word_at rows.now i }
+// The row that a row stands under, where the rows before it have their parents: the row before it, or the first row up
+// from that one whose subtree holds it.
+#[tactic(auto, using(crate::proofs::ParentClimb::climbs))]
+fn parent_of(row: Row<'_>) -> usize
+    requires { Climbs row.rows.now row.at }
+    ensures { result ≡ parent_at row.entry.rows.now row.entry.at }
 {
-    word(rows, i, PARENT) as usize
-}
-
-// The row that row i stands under, where the rows before it have their parents: the row before it, or the first row up
-// from that one whose subtree holds row i.
-fn parent_of(rows: &[u32], i: usize) -> usize
-    requires { Climbs rows.now i }
-    ensures { result ≡ parent_at rows.now i }
-{
-    if i == 0 {
+    if row.at == 0 {
         return 0;
     }
-    let mut p = i - 1;
+    let mut p = row.at - 1;
+    // It climbs from parent to parent, and no range has their places.
     while 0 < p {
-        if i - p < subtree(rows, p) {
+        let above = Row {
+            rows: row.rows,
+            at: p,
+        };
+        if row.at - p < above.subtree() {
             return p;
         }
-        p = parent(rows, p);
+        p = above.parent();
     }
     0
 }
@@ -41,11 +39,12 @@ pub fn set_first_parents(rows: &mut [u32], n: usize)
     ensures { rows.new ≡ parents_set rows.old (min n (rows_lent (length rows.old))) }
 {
     for i in 0..n.min(rows_lent(rows.len())) {
-        rows[ROW_WORDS * i + PARENT] = parent_of(rows, i) as u32;
+        rows[ROW_WORDS * i + PARENT] = parent_of(Row { rows, at: i }) as u32;
     }
 }
 
 // Sets the parents of all rows that a table holds, up to 1,024.
+#[tactic(auto, using(crate::proofs::ParentSet::lent_small), unfolding(crate::specs::Parents::with_parents))]
 pub fn set_parents(rows: &mut [u32])
     ensures { rows.new ≡ with_parents rows.old }
 {
@@ -56,10 +55,13 @@ pub fn set_parents(rows: &mut [u32])
 pub fn parents_fit(rows: &[u32]) -> bool
     ensures { result ≡ parents_fit rows.now }
 {
-    for i in 0..rows.len() / ROW_WORDS {
-        if parent(rows, i) != parent_of(rows, i) {
-            return false;
-        }
-    }
-    true
+    // A row is asked only where the rows before it have their parents.
+    (0..rows.len() / ROW_WORDS).all(
+        |i|
+            requires { (row_words * (i + 1) ≤ length rows.now) × Climbs rows.now i }
+        {
+            let row = Row { rows, at: i };
+            row.parent() == parent_of(row)
+        },
+    )
 }

@@ -2,29 +2,29 @@
 ghost use Rattle.std.specs.Prelude.{◌≡◌};
 ghost use Rattle.subtrees.specs.UnionFields.{type_ids_fit};
 
-use crate::rows::word;
-use datatype::rows::{ROW_WORDS, ROWS, UNION_ID};
+use datatype::Row;
 
 // Union ids are below this.
 const TYPE_IDS: u32 = 128;
 
 // Whether the union ids of the rows that stand side by side from row `first` up to row `end` are 0 to 127 and distinct.
+#[tactic(auto, using(crate::proofs::UnionLaws::lefts))]
 pub fn try_new(rows: &[u32], first: usize, end: usize) -> bool
     ensures { result ≡ type_ids_fit rows.now first end }
 {
     // The ids met so far, a bit each.
     let mut seen = 0u128;
     let mut at = first;
-    // No range steps by the size of a subtree.
+    // No range steps by the size of a subtree, and an iterator would have to say besides where rows do not nest.
     while at < end {
-        if rows.len() / ROW_WORDS <= at {
+        let Some(row) = Row::of(rows, at) else {
             return false;
-        }
-        let size = word(rows, at, ROWS);
+        };
+        let size = row.subtree();
         if size == 0 {
             return false;
         }
-        let id = word(rows, at, UNION_ID);
+        let id = row.union_id();
         if TYPE_IDS <= id {
             return false;
         }
@@ -32,7 +32,7 @@ pub fn try_new(rows: &[u32], first: usize, end: usize) -> bool
             return false;
         }
         seen |= 1 << id;
-        at += size as usize;
+        at += size;
     }
     true
 }

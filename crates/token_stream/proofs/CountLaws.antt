@@ -1,25 +1,23 @@
 -- Tokens that are read one behind another: the place behind each, and what the loop that counts them meets.
-use mathlib.Core.Path.{◌≡◌, refl, sym, ap, ◌∙◌, subst}
-use mathlib.Core.Bool.{Bool, true, false, not}
+use mathlib.Core.Path.{◌≡◌, refl, sym, ap, ◌∙◌}
+use mathlib.Core.Bool.{true, false, not}
 use mathlib.Core.List.{List, [], ◌∷◌}
-use mathlib.Core.Option.{Option, none, some}
 use Prim.Native.Nat.{ℕ, zero, suc, ◌+◌, ◌≤◌, ◌<◌}
 use native.Mathlib.Omega.{arith}
-use lib.ListN.{length, drop, get_or}
-use lib.Dec.{T, eqb, eqb→eq}
+use lib.ListN.{length}
+use lib.Dec.{eqb}
 use Rattle.std.specs.declared.result.Result.{Result}
 use Rattle.std.specs.declared.result.Result.TheVariants.{Ok, Err}
-use Rattle.tokenizer.specs.Answer.{Out, refused, done, refuse, number_of, answer_of}
+use Rattle.tokenizer.specs.Answer.{Refusal, Out, refused, done, refuse, number_of, answer_of}
 use Rattle.tokenizer.specs.declared.refusal.Refusal as R
 use Rattle.tokenizer.specs.declared.refusal.Refusal.TheVariants.{TextTooLong, NotUtf8, TooDeep, TooManyRows, TextEnds, StringNeverEnds, StringEmpty, UnknownWord, UnexpectedToken, NumberOutOfRange, WrongTimeUnit, WrongDecimal, MustBeNonNull, WrongMapEntries, WrongUnionId, TrailingText, NotSound, NotAscii, PrintTooLong}
-use Rattle.tokenizer.specs.Internal.Ends.{word_end}
-use Rattle.tokenizer.specs.Places.{after_spaces}
-use Rattle.tokenizer.specs.Words.{words}
-use Rattle.tokenizer.specs.Token.{Standing, token, token_or_refusal, no_token, sort_of, value_of, is_separator, word_of, word_kind, until_quote, string_token, token_at}
+use Rattle.tokenizer.specs.Places.{after_spaces, word_end}
+use Rattle.tokenizer.specs.Token.{Standing, token_or_refusal, no_token, sort_of, value_of, token_at}
 use Rattle.tokenizer.specs.declared.Token.{Token}
 use Rattle.tokenizer.specs.declared.TokenKind.{TokenKind}
 use Rattle.tokenizer.specs.declared.TokenKind.TheVariants.{LParen, RParen, Comma, Colon, Integer, DoubleQuotedString, SingleQuotedString, DataType, TimeUnit, IntervalUnit, UnionMode, MapSorted, Nullability, Field, Some, None, X}
-use Rattle.tokenizer.proofs.Marks.{is_mark, mark_kind, marks, by_cases, word_first, word_holds, bounds}
+use Rattle.tokenizer.proofs.Marks.{bounds}
+use Rattle.tokenizer.proofs.Places.{refused_next}
 use Rattle.token_stream.specs.Count.{is_read, tokens_from, tokens_of, place_behind, count_tokens}
 
 -- ---- what is answered, and what stands there
@@ -44,48 +42,6 @@ module _ (s : Standing) (r : Result Token R.Refusal) (e : answer_of r ≡ token_
 
 -- ---- the place behind what is refused
 
--- an unknown word is passed; all else that is refused would begin behind the spaces
-abbrev Behind : ℕ → ℕ → Standing → Type 0
-Behind p word s = (n : ℕ) → s.kind ≡ refuse n → (n ≡ 8 → s.next ≡ p + word) × ((n ≡ 8 → ⊥) → s.next ≡ p)
-
-abbrev number_or_zero : Out TokenKind → ℕ
-number_or_zero (refused r) = r.number
-number_or_zero (done k) = 0
-
-same_number : (n m : ℕ) → ◌≡◌ {A = Out TokenKind} (refuse n) (refuse m) → n ≡ m
-same_number n m e = ap number_or_zero e
-
-begins : (p word r : ℕ) → (r ≡ 8 → ⊥) → Behind p word (token (refuse r) p 0)
-begins p word r h = λ n e. let q = same_number r n e in (λ k. absurd (h (q ∙ k)), λ _. omega arith)
-
-read_here : (p word : ℕ) (s : Standing) (k : TokenKind) → s.kind ≡ done k → Behind p word s
-read_here p word s k h = λ n e. let q : ◌≡◌ {A = Out TokenKind} (done k) (refuse n) = sym h ∙ e in absurd (let z : ◌≡◌ {A = ℕ} 0 1 = cc in omega arith)
-
-string-behind : (p word : ℕ) (k : TokenKind) (o : Option ℕ) → Behind p word (string_token k p o)
-string-behind p word k none = begins p word 6 (λ e. omega arith)
-string-behind p word k (some zero) = begins p word 7 (λ e. omega arith)
-string-behind p word k (some (suc n)) = read_here p word (string_token k p (some (suc n))) k refl
-
-mark-behind : (p word m : ℕ) → T (is_mark m) → Behind p word (token (mark_kind m) p 1)
-mark-behind p word =
-    marks (λ m. Behind p word (token (mark_kind m) p 1))
-    (read_here p word (token (done LParen) p 1) LParen refl)
-    (read_here p word (token (done RParen) p 1) RParen refl)
-    (read_here p word (token (done Comma) p 1) Comma refl)
-    (read_here p word (token (done Colon) p 1) Colon refl)
-
--- a word is refused as unknown, and as nothing else
-abbrev only_unknown : List ℕ → Out TokenKind → Bool
-only_unknown w (refused r) = eqb r.number 8
-only_unknown w (done k) = true
-
-unknown : (w : List ℕ) (n : ℕ) (k : Out TokenKind) → T (only_unknown w k) → k ≡ refuse n → n ≡ 8
-unknown w n k t e = eqb→eq n 8 (subst (λ x. T (only_unknown w x)) e t)
-
-word-unknown : (c : ℕ) (w : List ℕ) → T (only_unknown (c ∷ w) (word_kind (c ∷ w)))
-unfolding words
-word-unknown = word_holds only_unknown (λ w negative v h. tt) (λ w. tt) tt
-
 -- only an unknown word has the number 8
 eight : (n : R.Refusal) → (n ≡ UnknownWord → ⊥) → number_of n ≡ 8 → ⊥
 eight TextTooLong o e = omega arith
@@ -108,38 +64,16 @@ eight NotSound o e = omega arith
 eight NotAscii o e = omega arith
 eight PrintTooLong o e = omega arith
 
-module _ (text : List ℕ) (at : ℕ) where
-  abbrev start : ℕ
-  start = after_spaces text at
+module _ (text : List ℕ) (at : ℕ) (r : Result Token R.Refusal) (e : answer_of r ≡ token_or_refusal (token_at text at)) where
+  pub next-token : (t : Token) → r ≡ Ok t → t.next ≡ (token_at text at).next
+  next-token t h = (token-is (token_at text at) r e t h).1
 
-  word-behind : start < length text → is_separator (get_or text start 0) ≡ false
-      → Behind start (length (word_of (drop start text))) (token (word_kind (word_of (drop start text))) start (length (word_of (drop start text))))
-  word-behind h s =
-      let w : word_of (drop start text) ≡ get_or text start 0 ∷ word_of (drop (suc start) text) = word_first text start h s in
-      let t : T (only_unknown (word_of (drop start text)) (word_kind (word_of (drop start text)))) =
-      subst (λ (x : List ℕ). T (only_unknown x (word_kind x))) (sym w) (word-unknown (get_or text start 0) (word_of (drop (suc start) text))) in
-      λ n e. (λ _. refl, λ f. absurd (f (unknown (word_of (drop start text)) n (word_kind (word_of (drop start text))) t e)))
+  pub next-word : r ≡ Err UnknownWord → word_end text (after_spaces text at) ≡ (token_at text at).next
+  unfolding word_end
+  next-word h = sym ((refused_next text at 8 (refusal-is (token_at text at) r e _ h)).0 refl)
 
-  behind : Behind start (length (word_of (drop start text))) (token_at text at)
-  behind =
-      by_cases text at (Behind start (length (word_of (drop start text)))) (record {
-        over = λ _. begins start _ 5 (λ e. omega arith);
-        mark = λ m t h e. mark-behind start _ m t;
-        double = λ h e. string-behind start _ DoubleQuotedString (until_quote 34 false (drop (start + 1) text));
-        single = λ h e. string-behind start _ SingleQuotedString (until_quote 39 false (drop (start + 1) text));
-        word = λ h s. word-behind h s;
-      })
-
-  module _ (r : Result Token R.Refusal) (e : answer_of r ≡ token_or_refusal (token_at text at)) where
-    pub next-token : (t : Token) → r ≡ Ok t → t.next ≡ (token_at text at).next
-    next-token t h = (token-is (token_at text at) r e t h).1
-
-    pub next-word : r ≡ Err UnknownWord → word_end text start ≡ (token_at text at).next
-    unfolding word_end
-    next-word h = sym ((behind 8 (refusal-is (token_at text at) r e _ h)).0 refl)
-
-    pub next-refused : (n : R.Refusal) → r ≡ Err n → (n ≡ UnknownWord → ⊥) → start ≡ (token_at text at).next
-    next-refused n h o = sym ((behind (number_of n) (refusal-is (token_at text at) r e n h)).1 (eight n o))
+  pub next-refused : (n : R.Refusal) → r ≡ Err n → (n ≡ UnknownWord → ⊥) → after_spaces text at ≡ (token_at text at).next
+  next-refused n h o = sym ((refused_next text at (number_of n) (refusal-is (token_at text at) r e n h)).1 (eight n o))
 
 -- ---- one turn of the loop
 
@@ -162,6 +96,11 @@ token-read Field = refl
 token-read Some = refl
 token-read None = refl
 token-read X = refl
+
+-- every kind but a refusal is that of a token that is read
+pub other_kind : (k : Out TokenKind) → ((r : Refusal) → k ≡ refused r → ⊥) → is_read k ≡ true
+other_kind (done k) o = token-read k
+other_kind (refused r) o = absurd (o r refl)
 
 some-sort : (k : Out TokenKind) → is_read k ≡ true → sort_of k ≡ no_token → ⊥
 some-sort k h e = let z : true ≡ false = sym h ∙ ap (λ n. not (eqb n no_token)) e in let y : ◌≡◌ {A = ℕ} 0 1 = cc in omega arith

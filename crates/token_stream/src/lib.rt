@@ -6,11 +6,10 @@
 ghost use Rattle.std.specs.Prelude.{◌≡◌};
 ghost use Rattle.tokenizer.specs.Answer.{answer_of};
 ghost use Rattle.tokenizer.specs.Token.{token_or_refusal, token_at};
-ghost use Rattle.tokenizer.specs.Internal.Ends.{word_end};
 ghost use Rattle.token_stream.specs.Stream.{start_of, token_of, moved_on};
 ghost use Rattle.token_stream.specs.Count.{count_of, count_tokens};
 
-use tokenizer::{Refusal, Token, is_separator, next_token, skip_spaces};
+use tokenizer::{Refusal, Token, next_token, skip_spaces, word_end};
 
 #[derive(Clone, Copy)]
 pub struct Tokenizer<'a> {
@@ -55,18 +54,6 @@ impl<'a> Tokenizer<'a> {
     }
 }
 
-// The place behind the word that starts at `from`.
-fn word_end(text: &[u8], from: usize) -> usize
-    ensures { result ≡ word_end text.now from }
-{
-    for i in from..text.len() {
-        if is_separator(text[i]) {
-            return i;
-        }
-    }
-    from.max(text.len())
-}
-
 // The place behind the token that is read at a place, or behind a word that is none; else where it would begin.
 fn place_behind(text: &[u8], at: usize, token: Result<Token, Refusal>) -> usize
     requires { answer_of token ≡ token_or_refusal (token_at text.now at) }
@@ -103,6 +90,7 @@ pub fn count_tokens(text: &[u8]) -> TokenCount
 {
     let mut at = 0;
     let mut tokens = 0;
+    // No iterator: it counts until the first refusal, which it hands back beside the count.
     loop {
         match token_from(text, at) {
             Ok(token) => {

@@ -6,6 +6,7 @@ pub mod Listed
 pub mod Tokens
 pub mod StringLaws
 pub mod Marks
+pub mod Places
 pub mod Walks
 pub mod WordTokens
 pub mod Utf8Laws

@@ -9,7 +9,7 @@ use native.Mathlib.Omega.{arith}
 use native.Mathlib.Decide.{dec_lt}
 use lib.ListN.{length, drop, get_or, length-drop}
 use lib.Seq.{drop-cons}
-use lib.Dec.{T, leb, ltb, eqb, ltb→lt, leb→le, eqb→eq}
+use lib.Dec.{T, leb, ltb, eqb, leb→le, eqb→eq}
 use borrow.Author.Tests.{eqb-true, eqb-false, eq-eqb, ne_eqb, le-leb}
 use Rattle.tokenizer.specs.Answer.{Out, done, refuse}
 use Rattle.tokenizer.specs.Text.{all, same}
@@ -213,12 +213,6 @@ module _ (text : List ℕ) (at : ℕ) where
   pub no-colon : (get_or text (after_spaces text at) 0 ≡ 58 → ⊥) → eqb (sort_of (token_at text at).kind) colon ≡ false
   no-colon = other_byte colon 58 (λ c. refl)
 
-  pub no-double : (get_or text (after_spaces text at) 0 ≡ 34 → ⊥) → eqb (sort_of (token_at text at).kind) double_quoted ≡ false
-  no-double = other_byte double_quoted 34 (λ c. refl)
-
-  pub no-single : (get_or text (after_spaces text at) 0 ≡ 39 → ⊥) → eqb (sort_of (token_at text at).kind) single_quoted ≡ false
-  no-single = other_byte single_quoted 39 (λ c. refl)
-
   pub no-nullability : (get_or text (after_spaces text at) 0 ≡ 110 → ⊥) → eqb (sort_of (token_at text at).kind) nullability ≡ false
   no-nullability = other_byte nullability 110 (λ c. refl)
 
@@ -351,21 +345,6 @@ module _ (text : List ℕ) (at : ℕ) where
   pub value-range : (sort : ℕ) → sort_of (token_at text at).kind ≡ sort → T (in_range sort (value_of (token_at text at).kind))
   value-range sort e = subst (λ (s : ℕ). T (in_range s (value_of (token_at text at).kind))) e values
 
-  pub type-value : sort_of (token_at text at).kind ≡ type_word → value_of (token_at text at).kind < 41
-  type-value e = ltb→lt (value_of (token_at text at).kind) 41 (value-range type_word e)
-
-  pub time-unit-value : sort_of (token_at text at).kind ≡ time_unit → value_of (token_at text at).kind < 4
-  time-unit-value e = ltb→lt (value_of (token_at text at).kind) 4 (value-range time_unit e)
-
-  pub interval-unit-value : sort_of (token_at text at).kind ≡ interval_unit → value_of (token_at text at).kind < 3
-  interval-unit-value e = ltb→lt (value_of (token_at text at).kind) 3 (value-range interval_unit e)
-
-  pub union-mode-value : sort_of (token_at text at).kind ≡ union_mode → value_of (token_at text at).kind < 2
-  union-mode-value e = ltb→lt (value_of (token_at text at).kind) 2 (value-range union_mode e)
-
-  pub map-sorted-value : sort_of (token_at text at).kind ≡ map_sorted → value_of (token_at text at).kind < 2
-  map-sorted-value e = ltb→lt (value_of (token_at text at).kind) 2 (value-range map_sorted e)
-
   pub nullability-least : sort_of (token_at text at).kind ≡ nullability → 1 ≤ value_of (token_at text at).kind
   nullability-least e =
       let v = value_of (token_at text at).kind in
@@ -375,6 +354,3 @@ module _ (text : List ℕ) (at : ℕ) where
   nullability-most e =
       let v = value_of (token_at text at).kind in
       leb→le v 2 (and_r (leb 1 v) (leb v 2) (value-range nullability e))
-
-  pub integer-value : sort_of (token_at text at).kind ≡ integer → value_of (token_at text at).kind ≤ 9223372036854775808
-  integer-value e = leb→le (value_of (token_at text at).kind) 9223372036854775808 (value-range integer e)

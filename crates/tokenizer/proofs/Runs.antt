@@ -1,14 +1,18 @@
 -- Spaces, words and quoted strings at a place of a text: what a loop meets there.
-use Rattle.std.specs.Prelude.{if◌then◌else◌}
+use Rattle.std.specs.Prelude.{if◌then◌else◌, cond}
+use Rattle.std.specs.Option.{unwrap_or}
+use Rattle.std.specs.List.{position_or_len}
+use Rattle.std.proofs.lemmas.Grind.{common_steps}
+use Rattle.std.proofs.lemmas.List.Sums.{prefix_len-le-length}
 use mathlib.Core.Path.{◌≡◌, refl, sym, ap, ◌∙◌}
-use mathlib.Core.Bool.{Bool, true, false}
+use mathlib.Core.Bool.{Bool, true, false, not}
 use mathlib.Core.List.{List, [], ◌∷◌}
 use mathlib.Core.Option.{Option, none, some, map}
 use Prim.Native.Nat.{ℕ, zero, suc, ◌+◌, ◌-◌, ◌≤◌, ◌<◌, max}
 use native.Mathlib.Omega.{arith}
 use native.Mathlib.Numerals.{add-one}
 use lib.ListN.{length, take, drop, get_or, drop_of_length-le, length-drop}
-use lib.Seq.{drop-cons}
+use lib.Seq.{take_all, drop-cons}
 use native.Mathlib.Decide.{dec_lt}
 use lib.Dec.{eqb, ltb, ltb→lt}
 use borrow.Author.Tests.{eq-eqb, ne_eqb, eqb-false, lt-ltb, le-ltb}
@@ -16,8 +20,8 @@ use Rattle.std.specs.declared.option.Option as S
 use Rattle.std.specs.declared.option.Option.TheVariants.{Some, None}
 use Rattle.tokenizer.specs.Answer.{done, refuse}
 use Rattle.tokenizer.specs.Token.{Standing, token, is_separator, word_of, escaped_after, until_quote, string_token}
-use Rattle.tokenizer.specs.Places.{spaces_from, after_spaces}
-use Rattle.tokenizer.specs.Internal.Ends.{word_end, closes, place_or, quote_end, mark_place}
+use Rattle.tokenizer.specs.Places.{spaces_from, after_spaces, word_end}
+use Rattle.tokenizer.specs.Internal.Ends.{closes, place_or, quote_end, mark_place}
 use Rattle.tokenizer.specs.declared.TokenKind.{TokenKind}
 use Rattle.tokenizer.proofs.Basics.{skip, of_true}
 
@@ -43,6 +47,17 @@ at_end end l from at out e h k =
       | yes m ↦ (let t : max from l ≡ from = omega arith in t ∙ sym (out from (omega arith)))
       | no m ↦ (let t : max from l ≡ at = let q = k (omega arith) in omega arith in t ∙ sym (e ∙ out at h))
     ]
+
+-- the first byte of a kind, as `position` looks for it from a place on
+or_end : (a n : ℕ) → a ≤ n → unwrap_or (cond (ltb a n) (Some a) None) n ≡ a
+or_end a n h = grind (arith, common_steps)
+
+pub found_at : (test : ℕ → Bool) (text : List ℕ) (from : ℕ) (rest : List ℕ) (place : S.Option ℕ) → from ≤ length text → rest ≡ take (length text - from) (drop from text)
+    → place ≡ cond (ltb (position_or_len test rest) (length rest)) (Some (position_or_len test rest)) None
+    → from + unwrap_or place (length rest) ≡ from + position_or_len test (drop from text)
+found_at test text from rest place h e p =
+    let all : rest ≡ drop from text = e ∙ take_all (length text - from) (drop from text) (omega (arith, length-drop from text)) in
+    ap (λ (o : S.Option ℕ). from + unwrap_or o (length rest)) p ∙ ap (λ (n : ℕ). from + n) (or_end _ _ (prefix_len-le-length (λ c. not (test c)) rest)) ∙ ap (λ (s : List ℕ). from + position_or_len test s) all
 
 -- where the spaces end: at or behind the place, inside the text or at its end, and at no space
 pub record Skipped (text : List ℕ) (at p : ℕ) : Type 0 where
@@ -89,6 +104,17 @@ module _ (text : List ℕ) (i : ℕ) where
   unfolding word_end word_of
   word-go h e = rw (drop-cons text i 0 h, e, add-one i) (omega arith)
 
+-- a word ends at the first separator
+pub word_position : (s : List ℕ) → length (word_of s) ≡ position_or_len is_separator s
+unfolding word_of
+word_position [] = refl
+word_position (c ∷ s) = go (is_separator c) (word_position s)
+  where
+    go : (b : Bool) → length (word_of s) ≡ position_or_len is_separator s
+        → length (if b then [] else c ∷ word_of s) ≡ cond (not b) (1 + position_or_len is_separator s) 0
+    go true e = refl
+    go false e = omega arith
+
 -- the word that a list begins with is a part of it
 pub record Part (w s : List ℕ) : Type 0 where
   pub cut : take (length w) s ≡ w
@@ -127,9 +153,9 @@ shift end i none = refl
 shift end i (some n) = omega arith
 
 module _ (text : List ℕ) (quote : ℕ) (escaped : Bool) (i : ℕ) where
-  pub quote-out : length text ≤ i → i ≤ length text → quote_end text quote escaped i ≡ i
+  pub quote-out : length text ≤ i → quote_end text quote escaped i ≡ length text
   unfolding quote_end until_quote
-  quote-out h k = rw (drop_of_length-le text h) (omega arith)
+  quote-out h = rw (drop_of_length-le text h)
 
   pub quote-stop : i < length text → closes quote escaped (get_or text i 0) ≡ true → quote_end text quote escaped i ≡ i
   unfolding quote_end until_quote

@@ -2,10 +2,10 @@
 use Rattle.std.proofs.Common.{◌≡◌, ℕ, zero, suc, ◌+◌, ◌-◌, ◌*◌, ◌<◌, ◌≤◌, ◌⊎◌, true, false, List, [], ◌∷◌, ◌++◌, length, length-append, ◌∙◌, refl, sym, ap, subst, inl, inr, arith, le-leb, ne_eqb}
 use Rattle.std.proofs.lemmas.Bool.{cases_lt, cases_eq, and_parts, lt-leb}
 use Rattle.std.proofs.lemmas.Bool.Decides.{nat_tests}
-use Rattle.std.proofs.lemmas.Str.{IsUtf8-nil, IsUtf8-append, encode_ascii}
+use Rattle.std.proofs.lemmas.Str.{IsUtf8-nil, IsUtf8-append, IsUtf8-from_ascii, encode_ascii}
 use Rattle.std.proofs.str.Laws.{two, three, four}
 use Rattle.std.proofs.str.Valid.{of_one, of_two, of_three, of_four}
-use Rattle.std.specs.Str.{IsUtf8}
+use Rattle.std.specs.Str.{IsUtf8, IsAscii}
 use lib.Utf8.{scalar, scalars, encode, encodes, scalar_cases}
 use Rattle.tokenizer.specs.Utf8.{further, utf8_step, utf8_state, is_utf8}
 use Rattle.tokenizer.proofs.Utf8Laws.{state_append, step_ascii, state_broken}
@@ -242,7 +242,7 @@ is_chars (suc n) (x ∷ bs) l e =
     let s = begun x bs e in
     subst IsUtf8 (sym s.is) (IsUtf8-append s.front s.rest s.utf8 (is_chars n s.rest (omega (arith, ap length s.is, length-append s.front s.rest)) s.ends))
 
--- ---- the two tests
+-- ---- the tests
 
 pub test_yes : (bs : List ℕ) → IsUtf8 bs → is_utf8 bs ≡ true
 unfolding is_utf8
@@ -251,3 +251,6 @@ test_yes bs u = let e : utf8_state 0 bs ≡ 0 = rw (← u.1.1) (state_chars u.0 
 pub test_no : (bs : List ℕ) → ¬ (IsUtf8 bs) → is_utf8 bs ≡ false
 unfolding is_utf8
 test_no bs n = ne_eqb (utf8_state 0 bs) 0 (λ e. n (is_chars (length bs) bs (omega arith) e))
+
+pub test_ascii : (bs : List ℕ) → IsAscii bs → is_utf8 bs ≡ true
+test_ascii bs a = test_yes bs (IsUtf8-from_ascii bs a)

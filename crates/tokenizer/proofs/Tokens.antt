@@ -3,8 +3,6 @@ use mathlib.Core.Path.{◌≡◌, refl, sym, ◌∙◌, subst}
 use mathlib.Core.Bool.{Bool, true, false}
 use mathlib.Core.List.{List, [], ◌∷◌}
 use Prim.Native.Nat.{ℕ, suc, ◌+◌, ◌≤◌, ◌<◌}
-use native.Mathlib.Omega.{arith}
-use native.Mathlib.Decide.{dec_lt}
 use native.Mathlib.Numerals.{add-one}
 use lib.ListN.{length, drop, get_or, drop_of_length-le}
 use lib.Seq.{drop-cons}
@@ -15,7 +13,7 @@ use Rattle.tokenizer.specs.Token.{token, word_of, word_kind, until_quote, string
 use Rattle.tokenizer.specs.Places.{spaces_from, after_spaces}
 use Rattle.tokenizer.specs.declared.TokenKind.TheVariants.{LParen, RParen, Comma, Colon, DoubleQuotedString, SingleQuotedString}
 use Rattle.tokenizer.proofs.Basics.{skip}
-use Rattle.tokenizer.proofs.Runs.{spaces-out, spaces-stop, spaces-end}
+use Rattle.tokenizer.proofs.Runs.{spaces-end}
 
 -- ---- spaces
 
@@ -35,14 +33,6 @@ module _ (text : List ℕ) where
   pub token-spaces : (at : ℕ) → token_at text at ≡ token_at text (after_spaces text at)
   unfolding after_spaces token_at
   token-spaces at = from-space (drop at text) at refl
-
-  -- behind the spaces no more are skipped
-  pub spaces-twice : (at : ℕ) → after_spaces text (after_spaces text at) ≡ after_spaces text at
-  spaces-twice at =
-      elim (dec_lt (after_spaces text at) (length text)) [
-        | yes h ↦ spaces-stop text (after_spaces text at) h ((spaces-end text at).no_space h)
-        | no h ↦ spaces-out text (after_spaces text at) (omega arith)
-      ]
 
 -- ---- the token at a place that holds no space
 

@@ -10,12 +10,12 @@ use lib.ListN.{length, take, drop, get_or, drop_of_length-le, length-drop}
 use lib.Seq.{drop-cons}
 use lib.Dec.{T, eqb}
 use borrow.Author.Tests.{eq-eqb, ne_eqb, lt-ltb, le-ltb}
+use Rattle.std.specs.Char.{is_ascii_digit}
 use Rattle.tokenizer.specs.Answer.{Out, refuse}
 use Rattle.tokenizer.specs.Token.{Standing, token, token_or_refusal, is_separator, word_of, is_digit, word_kind, token_at}
-use Rattle.tokenizer.specs.Places.{after_spaces}
+use Rattle.tokenizer.specs.Places.{after_spaces, word_end}
 use Rattle.tokenizer.specs.Edges.{places, edges}
 use Rattle.tokenizer.specs.WordTable.{edge_of, step, ending, walk, token_of_number, walk_kind, word_kind_by, begins_word, token_by}
-use Rattle.tokenizer.specs.Internal.Ends.{word_end}
 use Rattle.tokenizer.specs.Internal.Digits.{begins_number}
 use Rattle.tokenizer.specs.declared.TokenKind.{TokenKind}
 use Rattle.tokenizer.proofs.Runs.{word_out, word-stop, word-go, word_part, spaces-end}
@@ -167,7 +167,8 @@ module _ (text : List ℕ) (at : ℕ) (h : at < length text) (n : is_separator (
   pub minus_begins : get_or text at 0 ≡ 45 → T (begins_number (word_of (drop at text)))
   minus_begins e = rw (word_first text at h n, e) tt
 
-  pub digit_begins : is_digit (get_or text at 0) ≡ true → T (begins_number (word_of (drop at text)))
+  pub digit_begins : is_ascii_digit (get_or text at 0) ≡ true → T (begins_number (word_of (drop at text)))
+  unfolding is_digit
   digit_begins d = rw (word_first text at h n, d, or_true (eqb (get_or text at 0) 45)) tt
 
 module _ (t text : List ℕ) (at : ℕ) (h : at < length text) (n : is_separator (get_or text at 0) ≡ false) where
@@ -179,12 +180,12 @@ module _ (t text : List ℕ) (at : ℕ) (h : at < length text) (n : is_separator
   word-minus e = rw (first, eq-eqb (get_or text at 0) 45 e)
 
   module _ (m : get_or text at 0 ≡ 45 → ⊥) where
-    pub word-digits : is_digit (get_or text at 0) ≡ true → word_token (word_kind (word_of (drop at text))) text at ≡ word_token (word_kind_by t (word_of (drop at text))) text at
-    unfolding word_kind_by word_kind
+    pub word-digits : is_ascii_digit (get_or text at 0) ≡ true → word_token (word_kind (word_of (drop at text))) text at ≡ word_token (word_kind_by t (word_of (drop at text))) text at
+    unfolding word_kind_by word_kind is_digit
     word-digits d = rw (first, ne_eqb (get_or text at 0) 45 m, d)
 
-    pub word-walked : is_digit (get_or text at 0) ≡ false → word_token (walk_kind t (word_of (drop at text))) text at ≡ word_token (word_kind_by t (word_of (drop at text))) text at
-    unfolding word_kind_by
+    pub word-walked : is_ascii_digit (get_or text at 0) ≡ false → word_token (walk_kind t (word_of (drop at text))) text at ≡ word_token (word_kind_by t (word_of (drop at text))) text at
+    unfolding word_kind_by is_digit
     word-walked d = rw (first, ne_eqb (get_or text at 0) 45 m, d)
 
 -- ---- the token at a place

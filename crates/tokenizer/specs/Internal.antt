@@ -1,4 +1,3 @@
 pub mod Ends
 pub mod Digits
-pub mod Keys
 pub mod Computed

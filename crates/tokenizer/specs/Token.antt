@@ -8,7 +8,7 @@ use Rattle.tokenizer.specs.declared.Token.{Token}
 use Rattle.tokenizer.specs.declared.TokenKind.{TokenKind}
 use Rattle.tokenizer.specs.declared.TokenKind.TheVariants.{LParen, RParen, Comma, Colon, Integer, DoubleQuotedString, SingleQuotedString, DataType, TimeUnit, IntervalUnit, UnionMode, MapSorted, Nullability, Field, Some, None, X}
 
--- ---- the sorts of tokens, and what each case of `TokenKind` says; no token is a refusal
+-- ---- the sorts of tokens, and what each case of `TokenKind` says; what is no token is a refusal
 
 abbrev pub lparen : ℕ
 lparen = 1

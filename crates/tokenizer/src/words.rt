@@ -6,7 +6,7 @@ ghost use Rattle.tokenizer.specs.WordTable.{ending, token_of_number, walk_kind, 
 ghost use Rattle.tokenizer.specs.Internal.Digits.{BeginsNumber};
 
 use crate::edges::{PLACES, WordTable};
-use crate::number::{is_digit, parse_integer};
+use crate::number::parse_integer;
 use crate::tokenizer::{is_separator, token_of, word_end};
 use crate::{Refusal, Token, TokenKind};
 
@@ -60,7 +60,9 @@ fn state_behind(e: u16, b: u8) -> usize
     (e / HALF) as usize + (b as usize)
 }
 
-// The word at a place by a walk through the table: on to the separator behind it, or to a byte that no edge takes.
+// The word at a place by a walk through the table: on to the separator behind it, or to a byte that no edge takes. That the
+// place is inside the text stands in four contracts here: a struct that says so would be made at one place, in
+// `next_token_by`, and taken apart in each of the four.
 fn walk_word(table: &WordTable, text: &[u8], at: usize) -> Result<Token, Refusal>
     requires { at < length text.now }
     ensures { answer_of result ≡ token_or_refusal (token (walk_kind table.now (word_of (drop at text.now))) at (length (word_of (drop at text.now)))) }
@@ -103,7 +105,7 @@ pub(crate) fn word_token(table: &WordTable, text: &[u8], at: usize) -> Result<To
     if first == b'-' {
         return number_token(text, at);
     }
-    if is_digit(first) {
+    if first.is_ascii_digit() {
         return number_token(text, at);
     }
     walk_word(table, text, at)

@@ -389,3 +389,25 @@ module _ (line out : List ℕ) where
         behind = w.behind;
         answers = w.answers ∙ sym (ap (λ (b : Bool). output_from b line) e ∙ only-line (omega arith) k);
       }
+
+-- ---- what the functions use
+
+module _ (input : List ℕ) (from : ℕ) where
+  pub line-within : line_end input from ≤ length input
+  unfolding line_end
+  line-within = omega arith
+
+  module _ (inside : from ≤ length input) where
+    pub line-from : from ≤ line_end input from
+    line-from = from-before input from _ inside refl
+
+    pub line-partial : line_end input from ≡ length input → before_newline (drop from input) ≡ length (drop from input)
+    line-partial h = no_end input from _ inside refl h
+
+pub ruleset part_steps = (goes-nowhere, left_short)
+
+pub ruleset whole_steps = (line-within, line-from, line-partial, reached-start, halts_short)
+
+pub ruleset lines_steps = (line-within, skips-inside, goes-from)
+
+pub ruleset last_steps = (ends-skipped, ends-empty, ends-line)

@@ -1,8 +1,8 @@
 -- Turns of the program: what each asks of the buffers, what it leaves for the next, and all of them together.
---   turns-print   what all turns wrote and what is still to be printed is what is printed for all that they read, and for
+--   turns_print   what all turns wrote and what is still to be printed is what is printed for all that they read, and for
 --                 what follows
 --   turns_move    there are no more turns than bytes read and written
---   ended-prints  where the input ends, all that was written is what is printed for all that was read
+--   ended_prints  where the input ends, all that was written is what is printed for all that was read
 use Rattle.std.specs.Prelude.{Option, Some, None, Result, Ok, Err, IsErr}
 use mathlib.Core.Path.{◌≡◌, refl, sym, ap, ◌∙◌, subst}
 use mathlib.Core.Bool.{Bool, false}
@@ -53,6 +53,15 @@ module _ (input : List ℕ) (left : ℕ) (skip : Bool) (wrote : ℕ) (input' : L
     read-end h = (reads_so, h)
 
 -- ---- a turn
+
+-- the output is no shorter than it was
+pub no_shorter : (out : List ℕ) (wrote next : ℕ) (out' : List ℕ) → Behind out wrote next out' → length out ≤ length out'
+no_shorter out wrote next out' b =
+    let c = length-drop next out in
+    let d = length-drop next out' in
+    let e = ap (λ (l : List ℕ). length l) b.rest in
+    let f = b.fits in
+    omega arith
 
 abbrev pub place_of : Turn → Progress
 place_of t = record { from = t.from; wrote = 0; skip = t.skip }
@@ -105,7 +114,12 @@ module _ (t : Turn) (input out : List ℕ) (r : Running input t) where
     )
 
     -- a turn that reads on
-    module _ (left : ℕ) (input₁ : List ℕ) (v : Moved input q.from t.filled left input₁) (u : Unfinished (drop q.from (take t.filled input))) where
+    module _ (left : ℕ) (input₁ : List ℕ) (v : Moved input q.from t.filled left input₁) (h : Halts (take t.filled input) q out')
+        (wrote : ℕ) (e : wrote ≡ q.wrote) (room : wrote + answer_bytes ≤ length out) where
+      -- the output has room for another answer, so that only an unfinished line is left
+      u : Unfinished (drop q.from (take t.filled input))
+      u = h.left (let l = no_shorter out 0 q.wrote out' g.behind in omega arith)
+
       left-length : length (drop q.from (take t.filled input)) ≡ left
       left-length =
           let c = counted t.filled input r.fits in
@@ -117,9 +131,9 @@ module _ (t : Turn) (input out : List ℕ) (r : Running input t) where
       front = ap (take left) v.is ∙ take_at (drop q.from (take t.filled input)) (drop (t.filled - q.from) input) left left-length
 
       pub left-fits : 16384 < length input₁ → left < length input₁
-      left-fits h = let s = u.short in let l = left-length in omega arith
+      left-fits z = let s = u.short in let l = left-length in omega arith
 
-      module _ (wrote : ℕ) (e : wrote ≡ q.wrote) (input₂ : List ℕ) (t' : Turn) (d : Reads input₁ left q.skip wrote t' input₂) where
+      module _ (input₂ : List ℕ) (t' : Turn) (d : Reads input₁ left q.skip wrote t' input₂) where
         module _ (n : ℕ) (k : left + n ≤ length input₂) (kept : take left input₂ ≡ take left input₁) where
           now : Turn
           now = read_turn left q.skip wrote n
@@ -148,7 +162,7 @@ module _ (t : Turn) (input out : List ℕ) (r : Running input t) where
                 behind = subst (λ (i : ℕ). Behind out 0 i out') (sym e) g.behind;
                 gone = q.from;
                 left = kept-left;
-                waits = λ h. subst Unfinished (sym kept-left) u;
+                waits = λ z. subst Unfinished (sym kept-left) u;
                 reads = omega arith;
                 fits = k;
                 place = omega arith;
@@ -158,30 +172,16 @@ module _ (t : Turn) (input out : List ℕ) (r : Running input t) where
         unfolding now
         turned = let f = d.is in let k = d.fits in subst (λ (x : Turn). Turned t input out x input₂ out') (sym f) (turned-now t'.read (subst (λ (x : Turn). x.filled ≤ length input₂) f k) d.kept)
 
-      pub turn-read : (wrote : ℕ) → wrote ≡ q.wrote → (input₂ : List ℕ) (a : Result (ControlFlow Turn Turn) Failure) → ReadOn a input₁ left q.skip wrote input₂ → GoesOn t input out a input₂ out'
-      turn-read wrote e input₂ (Ok (Continue t')) d = (turned wrote e input₂ t' d.0, let h = d.1 in omega arith)
-      turn-read wrote e input₂ (Ok (Break t')) d =
+      pub turn-read : (input₂ : List ℕ) (a : Result (ControlFlow Turn Turn) Failure) → ReadOn a input₁ left q.skip wrote input₂ → GoesOn t input out a input₂ out'
+      turn-read input₂ (Ok (Continue t')) d = (turned input₂ t' d.0, let h = d.1 in omega arith)
+      turn-read input₂ (Ok (Break t')) d =
           let f = d.0.is in
           let z : t'.from ≡ 0 = ap (λ (x : Turn). x.from) f in
           let l : t'.filled ≡ left + t'.read = ap (λ (x : Turn). x.filled) f in
           let n = d.1 in
           let same : t'.filled ≡ left = omega arith in
-          (turned wrote e input₂ t' d.0, n, z, subst Unfinished (sym (ap (λ (i : ℕ). take i input₂) same ∙ d.0.kept ∙ front)) u)
-      turn-read wrote e input₂ (Err _) d = tt
-
--- the output has room for another answer, so that only an unfinished line is left
-pub halts_unfinished : (input : List ℕ) (p : Progress) (out : List ℕ) → Halts input p out → (wrote : ℕ) → wrote ≡ p.wrote → wrote + answer_bytes ≤ length out
-    → Unfinished (drop p.from input)
-halts_unfinished input p out h wrote e l = h.left (omega arith)
-
--- the output is no shorter than it was
-pub no_shorter : (out : List ℕ) (wrote next : ℕ) (out' : List ℕ) → Behind out wrote next out' → length out ≤ length out'
-no_shorter out wrote next out' b =
-    let c = length-drop next out in
-    let d = length-drop next out' in
-    let e = ap (λ (l : List ℕ). length l) b.rest in
-    let f = b.fits in
-    omega arith
+          (turned input₂ t' d.0, n, z, subst Unfinished (sym (ap (λ (i : ℕ). take i input₂) same ∙ d.0.kept ∙ front)) u)
+      turn-read input₂ (Err _) d = tt
 
 -- ---- the last line
 
@@ -291,3 +291,8 @@ module _ (turns : ℕ) (t : Turn) (input : List ℕ) (r : Runs turns t input) wh
               rest = l ∙ sym (ap (output_from t'.skip) (append-nil (drop t'.from (take t'.filled input')) ∙ ap (λ (i : ℕ). drop i (take t'.filled input')) z));
             },
           )
+
+-- what the functions use
+pub ruleset turn_steps = (inside-filled)
+
+pub ruleset run_steps = (runs-start)

@@ -8,14 +8,17 @@ ghost use Rattle.std.specs.Prelude.{◌<◌, ◌≤◌, length};
 ghost use Rattle.type_lines.specs.Run.{Unfinished};
 ghost use Rattle.type_lines.specs.Turns.{Handed, ReadOn, Running, GoesOn, LastLine, Ran};
 
-use answer_line::{ANSWER_BYTES, LINE_WORDS};
+use answer_line::ANSWER_BYTES;
+use lines::Output;
 use std::io;
 use std::io::{Cursor, Read, Write};
 use std::ops::ControlFlow;
 
 mod lines;
 
-// The bytes of the input that are held at a time, and of the output.
+// The bytes of the input that are held at a time, and of the output. No heap, so no `Vec`, and an `ArrayVec` lends no
+// place past its bytes to be read or answered into: each buffer is an array, and how many of its bytes count stands in
+// `Progress` and `Turn`.
 const BUFFER_BYTES: usize = 65_536;
 
 // Where the lines have got to: the place in the bytes read, how many bytes of answers are in the output, and whether
@@ -27,9 +30,9 @@ struct Progress {
     skip: bool,
 }
 
-// What a turn of the program leaves: how many bytes of the input are in the buffer, the place in them, and whether what
-// comes next is the rest of a line that is answered already; how many bytes of answers it wrote, which stand in the
-// output; and how many it read, the last of those in the buffer.
+// What a turn of the program leaves: how many bytes of the input are in the buffer, the place in them, and, as in
+// `Progress`, whether what comes next is the rest of a line that is answered already; how many bytes of answers it
+// wrote, which stand in the output; and how many it read, the last of those in the buffer.
 #[derive(Drop)]
 struct Turn {
     filled: usize,
@@ -113,15 +116,15 @@ fn read_on(
 }
 
 // One turn: answers what can be answered and writes the answers; then reads more, unless the output was short of room.
+#[tactic(auto, using(crate::proofs::Turns::turn_steps))]
 fn take_turn(
     rt: &HostRuntime,
     input: &mut [u8; BUFFER_BYTES],
     t: Turn,
-    rows: &mut [u32; LINE_WORDS],
-    out: &mut [u8; BUFFER_BYTES],
+    output: &mut Output,
 ) -> Result<ControlFlow<Turn, Turn>, Failure>
     requires { Running input.old t }
-    ensures { GoesOn t input.old out.old result input.new out.new }
+    ensures { GoesOn t input.old output.old.bytes result input.new output.new.bytes }
 {
     let filled = t.filled;
     let p = Progress {
@@ -129,9 +132,9 @@ fn take_turn(
         wrote: 0,
         skip: t.skip,
     };
-    let q = lines::answer_lines(&input[..filled], p, rows, out);
-    let wrote = flush(rt, out, q.wrote)?;
-    if wrote <= out.len() - ANSWER_BYTES {
+    let q = output.answer_lines(&input[..filled], p);
+    let wrote = flush(rt, &output.bytes, q.wrote)?;
+    if wrote <= output.bytes.len() - ANSWER_BYTES {
         let left = lines::move_left(input, q.from, filled);
         return read_on(rt, input, left, q.skip, wrote);
     }
@@ -145,29 +148,23 @@ fn take_turn(
 }
 
 // Answers what is left at the end of the input, and writes the answer: how many bytes.
-fn finish(
-    rt: &HostRuntime,
-    line: &[u8],
-    skip: bool,
-    rows: &mut [u32; LINE_WORDS],
-    out: &mut [u8; BUFFER_BYTES],
-) -> Result<usize, Failure>
+fn finish(rt: &HostRuntime, line: &[u8], skip: bool, output: &mut Output) -> Result<usize, Failure>
     requires { Unfinished line.now }
-    ensures { LastLine line.now skip result out.new }
+    ensures { LastLine line.now skip result output.new.bytes }
 {
-    let n = lines::answer_last(line, skip, rows, out);
-    flush(rt, out, n)
+    let n = output.answer_last(line, skip);
+    flush(rt, &output.bytes, n)
 }
 
 // Turns until the input ends, and how many bytes were written last; none where so many turns were all, which cannot run
 // out, since each reads or writes a byte.
+#[tactic(auto, using(crate::proofs::Turns::run_steps))]
 fn run(
     rt: &HostRuntime,
     input: &mut [u8; BUFFER_BYTES],
-    rows: &mut [u32; LINE_WORDS],
-    out: &mut [u8; BUFFER_BYTES],
+    output: &mut Output,
 ) -> Result<Option<usize>, Failure>
-    ensures { Ran result out.new }
+    ensures { Ran result output.new.bytes }
 {
     let mut t = Turn {
         filled: 0,
@@ -177,11 +174,11 @@ fn run(
         read: 0,
     };
     for _ in 0..u64::MAX {
-        match take_turn(rt, input, t, rows, out)? {
+        match take_turn(rt, input, t, output)? {
             ControlFlow::Continue(next) => t = next,
             ControlFlow::Break(last) => {
                 let left = last.filled;
-                return Ok(Some(finish(rt, &input[..left], last.skip, rows, out)?));
+                return Ok(Some(finish(rt, &input[..left], last.skip, output)?));
             }
         }
     }
@@ -190,9 +187,8 @@ fn run(
 
 fn main(rt: HostRuntime) {
     let mut input = [0; BUFFER_BYTES];
-    let mut rows = [0; LINE_WORDS];
-    let mut out = [0; BUFFER_BYTES];
-    if let Err(failure) = run(&rt, &mut input, &mut rows, &mut out) {
+    let mut output = Output::new();
+    if let Err(failure) = run(&rt, &mut input, &mut output) {
         let _ = report(&rt, failure);
     }
 }

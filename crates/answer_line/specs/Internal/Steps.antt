@@ -1,6 +1,5 @@
 -- What the private functions promise; nothing here has to be believed, since no public function's contract cites it.
 use Rattle.std.specs.Prelude.{◌≡◌, List, ◌∷◌, ◌++◌, ℕ, ◌+◌, ◌/◌, ◌≤◌, length, take, drop}
-use Rattle.std.proofs.lemmas.List.Edits.{sets}
 use Rattle.tokenizer.specs.Text.{bytes}
 use Rattle.tokenizer.specs.Answer.{Out, refused, done}
 use Rattle.datatype.specs.Limits.{max_text}
@@ -9,11 +8,6 @@ use Rattle.datatype.specs.Table.{row_words, tree_of}
 use Rattle.output.specs.Digits.{digits}
 use Rattle.datatype_display.specs.Print.{print}
 use Rattle.answer_line.specs.Line.{no_line}
-
--- The bytes s stand at a place of the buffer, `next` is the place behind them, and nothing else has changed.
-pub record Put (before : List ℕ) (at : ℕ) (s : List ℕ) (next : ℕ) (after : List ℕ) : Type 0 where
-  pub place : next ≡ at + length s
-  pub stored : after ≡ sets before at s
 
 -- The bytes s stand at the start of the buffer, and past them what it held before.
 pub record Answers (s before : List ℕ) (size : ℕ) (after : List ℕ) : Type 0 where

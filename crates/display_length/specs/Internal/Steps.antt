@@ -1,12 +1,12 @@
 -- What private functions of this crate promise; nothing here has to be believed, since no public function's contract
 -- cites it.
-use Rattle.std.specs.Prelude.{◌≡◌, Bool, true, false, not, ◌&&◌, ◌||◌, List, ℕ, ◌+◌, ◌-◌, ◌*◌, ◌≤◌, ◌<◌, length, get_or, T, leb, ltb, eqb, if◌then◌else◌}
+use Rattle.std.specs.Prelude.{◌≡◌, Bool, true, false, not, ◌&&◌, ◌||◌, List, ℕ, ◌+◌, ◌-◌, ◌≤◌, length, T, leb, ltb, eqb, if◌then◌else◌}
 use Rattle.tokenizer.specs.Text.{all}
-use Rattle.datatype.specs.Limits.{max_text, max_rows}
+use Rattle.datatype.specs.Limits.{max_text}
 use Rattle.datatype.specs.Kind.{Shape, leaf, timestamp, time, interval, fixed, list, fixed_list, struct, union, dictionary, decimal, mapping, run_end_encoded, shape_of}
-use Rattle.datatype.specs.Tree.{Forest, ∅, node, roots, depth, Label, zone_of, label_of, labels}
-use Rattle.datatype.specs.Table.{row_words, rows_at}
-use Rattle.subtrees.specs.Internal.Run.{row_at, forest_at, Nests}
+use Rattle.datatype.specs.Tree.{Forest, ∅, node, roots, depth, Label, label_of, labels}
+use Rattle.datatype.specs.Table.{rows_at}
+use Rattle.subtrees.specs.Internal.Run.{row_at, forest_at}
 use Rattle.output.specs.Digits.{digits}
 use Rattle.display_length.specs.Display.{kind_text, unit_text, interval_text, mode_text, sorted_text, scale_text, quoted, list_name_text, zone_text}
 use Rattle.display_length.specs.PrintedLength.{quotes_names, is_ascii, names_ascii}
@@ -14,10 +14,10 @@ use Rattle.display_length.specs.PrintedLength.{quotes_names, is_ascii, names_asc
 -- ---- rows
 
 -- What row i says, and its children.
-unfoldable pub label_at : List ℕ → List ℕ → List ℕ → ℕ → Label
+abbrev pub label_at : List ℕ → List ℕ → List ℕ → ℕ → Label
 label_at text names table i = label_of text names (row_at table i)
 
-unfoldable pub kids_at : List ℕ → List ℕ → List ℕ → ℕ → Forest Label
+abbrev pub kids_at : List ℕ → List ℕ → List ℕ → ℕ → Forest Label
 kids_at text names table i = labels text names (forest_at table (i + 1) (i + rows_at table i - (i + 1)))
 
 -- The trees of the rows from start to end.
@@ -27,14 +27,6 @@ labels_of text names table start end = labels text names (forest_at table start 
 -- How many levels stand below row i.
 abbrev pub depth_below : List ℕ → ℕ → ℕ
 depth_below table i = depth (forest_at table (i + 1) (i + rows_at table i - (i + 1)))
-
--- Row i is there with its subtree, which nests and has fewer than so many levels below it.
-pub record Subtree (table : List ℕ) (level i : ℕ) : Type 0 where
-  pub some-rows : 1 ≤ rows_at table i
-  pub room : row_words * (i + rows_at table i) ≤ length table
-  pub nests : Nests table (i + 1) (i + rows_at table i - (i + 1))
-  pub few : i + rows_at table i ≤ max_rows
-  pub flat : depth_below table i < level
 
 -- ---- refusal 18
 
@@ -68,29 +60,23 @@ word_length k = length (kind_text k)
 
 -- What stands behind a kind's word, but for what stands around its children's types: the marks, and what words 4 and 5
 -- and the zone say.
-unfoldable pub behind_length : Shape → ℕ → ℕ → List ℕ → ℕ
-behind_length leaf number scale zone = 0
-behind_length timestamp number scale zone = 2 + length (unit_text number) + length (zone_text zone)
-behind_length time number scale zone = 2 + length (unit_text number)
-behind_length interval number scale zone = 2 + length (interval_text number)
-behind_length fixed number scale zone = 2 + length (digits number)
-behind_length list number scale zone = 2
-behind_length fixed_list number scale zone = 5 + length (digits number)
-behind_length struct number scale zone = 2
-behind_length union number scale zone = 2 + length (mode_text number)
-behind_length dictionary number scale zone = 2
-behind_length decimal number scale zone = 4 + length (digits number) + length (scale_text scale)
-behind_length mapping number scale zone = 4 + length (sorted_text number)
-behind_length run_end_encoded number scale zone = 2
+unfoldable pub behind_length : Shape → Label → ℕ
+behind_length leaf l = 0
+behind_length timestamp l = 2 + length (unit_text l.number) + length (zone_text l.zone)
+behind_length time l = 2 + length (unit_text l.number)
+behind_length interval l = 2 + length (interval_text l.number)
+behind_length fixed l = 2 + length (digits l.number)
+behind_length list l = 2
+behind_length fixed_list l = 5 + length (digits l.number)
+behind_length struct l = 2
+behind_length union l = 2 + length (mode_text l.number)
+behind_length dictionary l = 2
+behind_length decimal l = 4 + length (digits l.number) + length (scale_text l.scale)
+behind_length mapping l = 4 + length (sorted_text l.number)
+behind_length run_end_encoded l = 2
 
-unfoldable pub row_length : ℕ → ℕ → ℕ → List ℕ → ℕ
-row_length kind number scale zone = word_length kind + behind_length (shape_of kind) number scale zone
-
--- The same of row i, by its words.
-unfoldable pub own_at : List ℕ → List ℕ → ℕ → ℕ
-own_at text table i =
-    row_length (get_or table (row_words * i + 0) 0) (get_or table (row_words * i + 4) 0) (get_or table (row_words * i + 5) 0)
-    (zone_of text (get_or table (row_words * i + 9) 0) (get_or table (row_words * i + 10) 0))
+unfoldable pub row_length : Label → ℕ
+row_length l = word_length l.kind + behind_length (shape_of l.kind) l
 
 -- A comma and a space before each child but the first.
 abbrev pub comma_length : Bool → ℕ
@@ -101,38 +87,36 @@ unfoldable pub nullity_length : ℕ → ℕ
 nullity_length role = if eqb role 2 then 9 else 0
 
 -- A field without its type: its name, where names print in double quotes, and its nullability.
-unfoldable pub field_length : Bool → List ℕ → ℕ → ℕ
-field_length true name role = length (quoted name) + 2 + nullity_length role
-field_length false name role = nullity_length role
+unfoldable pub field_length : Bool → Label → ℕ
+field_length true l = length (quoted l.name) + 2 + nullity_length l.role
+field_length false l = nullity_length l.role
 
 -- What stands around a child's type, by the parent's shape.
-unfoldable pub around_length : Shape → Bool → Bool → ℕ → ℕ → List ℕ → ℕ
-around_length leaf quotes first role id name = 0
-around_length timestamp quotes first role id name = 0
-around_length time quotes first role id name = 0
-around_length interval quotes first role id name = 0
-around_length fixed quotes first role id name = 0
-around_length list quotes first role id name = nullity_length role + length (list_name_text name)
-around_length fixed_list quotes first role id name = nullity_length role + length (list_name_text name)
-around_length struct quotes first role id name = comma_length first + field_length quotes name role
-around_length union quotes first role id name = 6 + length (digits id) + field_length quotes name role
-around_length dictionary quotes first role id name = comma_length first
-around_length decimal quotes first role id name = 0
-around_length mapping quotes first role id name = field_length quotes name role
-around_length run_end_encoded quotes first role id name = comma_length first + field_length quotes name role
+unfoldable pub around_length : Shape → Bool → Bool → Label → ℕ
+around_length leaf quotes first l = 0
+around_length timestamp quotes first l = 0
+around_length time quotes first l = 0
+around_length interval quotes first l = 0
+around_length fixed quotes first l = 0
+around_length list quotes first l = nullity_length l.role + length (list_name_text l.name)
+around_length fixed_list quotes first l = nullity_length l.role + length (list_name_text l.name)
+around_length struct quotes first l = comma_length first + field_length quotes l
+around_length union quotes first l = 6 + length (digits l.union_id) + field_length quotes l
+around_length dictionary quotes first l = comma_length first
+around_length decimal quotes first l = 0
+around_length mapping quotes first l = field_length quotes l
+around_length run_end_encoded quotes first l = comma_length first + field_length quotes l
 
 -- The types of a run of children, with what stands around them.
 unfoldable pub children_length : Shape → Bool → Bool → Forest Label → ℕ
 children_length s quotes first ∅ = 0
 children_length s quotes first (node l kids next) =
-    around_length s quotes first l.role l.union_id l.name
-    + (row_length l.kind l.number l.scale l.zone + children_length (shape_of l.kind) (quotes_names (shape_of l.kind) (roots kids)) true kids)
+    around_length s quotes first l + (row_length l + children_length (shape_of l.kind) (quotes_names (shape_of l.kind) (roots kids)) true kids)
     + children_length s quotes false next
 
 -- A row's type.
 unfoldable pub type_length : Label → Forest Label → ℕ
-type_length l kids =
-    row_length l.kind l.number l.scale l.zone + children_length (shape_of l.kind) (quotes_names (shape_of l.kind) (roots kids)) true kids
+type_length l kids = row_length l + children_length (shape_of l.kind) (quotes_names (shape_of l.kind) (roots kids)) true kids
 
 unfoldable pub length_at : List ℕ → List ℕ → List ℕ → ℕ → ℕ
 length_at text names table i = type_length (label_at text names table i) (kids_at text names table i)

@@ -1,5 +1,5 @@
--- How `verdict` finds its way: one scan over the rows in their order, with what is asked of the next row. Contracts of
--- private functions cite these; nothing here has to be believed, since `verdict`'s own contract does not.
+-- How `verdict_of` finds its way: one scan over the rows in their order, with what is asked of the next row. Contracts
+-- of private functions cite these; nothing here has to be believed, since `verdict_of`'s own contract does not.
 use Rattle.std.specs.Prelude.{Option, Some, None, List, [], ◌∷◌, ℕ, suc, get_or, if◌then◌else◌}
 use Rattle.datatype.specs.Kind.{shape_of}
 use Rattle.layout.specs.declared.Asked.{Asked as Code}

@@ -1,19 +1,18 @@
 -- What the reader's own functions keep of an answer, and how answers and rows match the definitions. This is how the
 -- code finds its way; what must be believed is in Parse.antt.
-use Rattle.std.specs.Prelude.{◌≡◌, Option, Some, None, Result, Ok, Bool, ◌||◌, List, [], ◌∷◌, ℕ, ◌+◌, ◌*◌, ◌≤◌, length, eqb, if◌then◌else◌}
+use Rattle.std.specs.Prelude.{◌≡◌, Option, Some, None, Result, Ok, Bool, ◌||◌, List, [], ◌∷◌, ◌++◌, ℕ, ℤ, ◌+◌, ◌*◌, ◌/◌, ◌≤◌, ◌<◌, length, drop, eqb, if◌then◌else◌}
 use Rattle.std.proofs.lemmas.List.Edits.{sets}
 use Rattle.tokenizer.specs.Answer.{Out, refused, done, answer_of}
 use Rattle.tokenizer.specs.declared.refusal.Refusal as R
 use Rattle.tokenizer.specs.Token.{Standing, value_of, is_negative, signed, lparen, rparen, comma, colon}
-use Rattle.datatype.specs.Limits.{max_text, max_rows}
-use Rattle.datatype.specs.Tree.{Forest, ∅, node, count, Row}
+use Rattle.datatype.specs.Limits.{max_rows}
+use Rattle.datatype.specs.Tree.{Forest, count, Row}
 use Rattle.datatype.specs.Table.{row_words, words_of, table_of}
-use Rattle.parser.specs.Parse.{Tree, Fields, Zone, single, rows_in}
-use Rattle.parser.specs.declared.Word.{Word}
-use Rattle.parser.specs.declared.Number.{Number}
-use Rattle.parser.specs.declared.Signed.{Signed}
+use Rattle.parser.specs.Parse.{Tree, Fields, Zone, bare_row, single, rows_in}
+use Rattle.parser.specs.declared.ReadValue.{ReadValue}
 use Rattle.parser.specs.declared.Span.{Span}
 use Rattle.parser.specs.declared.Extent.{Extent}
+use Rattle.parser.specs.declared.rows.Head.{Head}
 
 -- ---- tokens
 
@@ -33,17 +32,13 @@ unfoldable pub look_of : Out Standing → Option ℕ
 look_of (refused r) = None
 look_of (done t) = Some t.next
 
-unfoldable pub word_of : Out Standing → Out Word
+unfoldable pub word_of : Out Standing → Out (ReadValue ℕ)
 word_of (refused r) = refused r
 word_of (done t) = done (record { value = value_of t.kind; next = t.next })
 
-unfoldable pub integer_of : Out Standing → Out Number
+unfoldable pub integer_of : Out Standing → Out (ReadValue ℤ)
 integer_of (refused r) = refused r
 integer_of (done t) = done (record { value = signed (is_negative t.kind) (value_of t.kind); next = t.next })
-
-unfoldable pub signed_of : Out Standing → Out Signed
-signed_of (refused r) = refused r
-signed_of (done t) = done (record { value = signed (is_negative t.kind) (value_of t.kind); next = t.next })
 
 unfoldable pub span_of : Out Standing → Out Span
 span_of (refused r) = refused r
@@ -56,47 +51,51 @@ zone_of (done z) = done (record { start = z.start; size = z.size; next = z.next 
 
 -- ---- rows
 
--- What a reader of types asks of its buffers: so many rows are left from the row on.
-pub record Room (text rows : List ℕ) (row left : ℕ) : Type 0 where
-  pub short : length text ≤ max_text
-  pub small : row + left ≤ max_rows
-  pub fits : row_words * (row + left) ≤ length rows
+-- What a reader of types asks of the rows from the next free one on: a whole buffer has 1,024 rows at the most. A slice's
+-- type says no length, and a struct that held its loan would be taken apart at each call.
+abbrev pub Room : List ℕ → Type 0
+Room rows = length rows ≤ row_words * max_rows
 
--- The rows of a run of trees stand from a row on, within the rows left, and the rest is as it was.
-pub record Stored (f : Forest Row) (row left : ℕ) (before after : List ℕ) : Type 0 where
-  pub room : count f ≤ left
-  pub rows : after ≡ sets before (row_words * row) (table_of f)
+-- The same of the rows behind a type's own.
+abbrev pub RoomBelow : List ℕ → Type 0
+RoomBelow below = length below < row_words * max_rows
+
+-- How many rows there are in such words.
+abbrev pub rows_left : List ℕ → ℕ
+rows_left rows = length rows / row_words
+
+-- The rows of a run of trees stand first, and the rest is as it was.
+pub record Stored (f : Forest Row) (before after : List ℕ) : Type 0 where
+  pub room : row_words * count f ≤ length before
+  pub rows : after ≡ table_of f ++ drop (row_words * count f) before
 
 -- A place behind, and so many rows.
 abbrev pub extent : ℕ → ℕ → Extent
 extent next used = record { next = next; used = used }
 
 -- A type or a field. The rows are left open on a refusal: the public function clears them.
-unfoldable pub Meets : Out Tree → ℕ → ℕ → List ℕ → Result Extent R.Refusal → List ℕ → Type 0
-Meets (refused x) row left before r after = answer_of r ≡ refused x
-Meets (done t) row left before r after = (r ≡ Ok (extent t.next (rows_in t))) × Stored (single t) row left before after
-
--- A row that is written in front of the rows of its children, and where the type ends.
-abbrev pub Put : ℕ → ℕ → ℕ → Row → List ℕ → Extent → List ℕ → Type 0
-Put next row used r before a after = (a ≡ extent next (used + 1)) × (after ≡ sets before (row_words * row) (words_of r (used + 1)))
-
--- The same, behind the mark that closes the type.
-unfoldable pub Closed : Out Standing → ℕ → ℕ → Row → List ℕ → Result Extent R.Refusal → List ℕ → Type 0
-Closed (refused x) row used r before a after = answer_of a ≡ refused x
-Closed (done t) row used r before a after = (a ≡ Ok (extent t.next (used + 1))) × (after ≡ sets before (row_words * row) (words_of r (used + 1)))
-
--- The words that make a row a field's, as they are written.
-abbrev pub FieldWords : List ℕ → ℕ → ℕ → ℕ → ℕ → ℕ → ℕ → List ℕ → Type 0
-FieldWords before row role id home start size after = after ≡ sets (sets before (row_words * row + 2) (role ∷ id ∷ [])) (row_words * row + 6) (home ∷ start ∷ size ∷ [])
+unfoldable pub Meets : Out Tree → List ℕ → Result Extent R.Refusal → List ℕ → Type 0
+Meets (refused x) before r after = answer_of r ≡ refused x
+Meets (done t) before r after = (r ≡ Ok (extent t.next (rows_in t))) × Stored (single t) before after
 
 -- Some fields.
-unfoldable pub MeetsFields : Out Fields → ℕ → ℕ → List ℕ → Result Extent R.Refusal → List ℕ → Type 0
-MeetsFields (refused x) row left before r after = answer_of r ≡ refused x
-MeetsFields (done fs) row left before r after = (r ≡ Ok (extent fs.next (count fs.trees))) × Stored fs.trees row left before after
+unfoldable pub MeetsFields : Out Fields → List ℕ → Result Extent R.Refusal → List ℕ → Type 0
+MeetsFields (refused x) before r after = answer_of r ≡ refused x
+MeetsFields (done fs) before r after = (r ≡ Ok (extent fs.next (count fs.trees))) × Stored fs.trees before after
 
--- ---- rows read back
+-- The row that a head is written as.
+abbrev pub head_row : Head → Row
+head_row h = bare_row h.kind h.number h.scale h.zone_start h.zone_length
 
--- The role of the first tree of a run.
-unfoldable pub role_of : Forest Row → ℕ
-role_of ∅ = 0
-role_of (node r kids next) = r.role
+-- A row of a type whose children fill so many rows, and where the type ends.
+abbrev pub Put : ℕ → ℕ → Row → Extent → List ℕ → Type 0
+Put next used r a row = (a ≡ extent next (used + 1)) × (row ≡ words_of r (used + 1))
+
+-- The same, behind the mark that closes the type.
+unfoldable pub Closed : Out Standing → ℕ → Row → Result Extent R.Refusal → List ℕ → Type 0
+Closed (refused x) used r a row = answer_of a ≡ refused x
+Closed (done t) used r a row = (a ≡ Ok (extent t.next (used + 1))) × (row ≡ words_of r (used + 1))
+
+-- The words that make the first row a field's, as they are written.
+abbrev pub FieldWords : List ℕ → ℕ → ℕ → ℕ → ℕ → ℕ → List ℕ → Type 0
+FieldWords before role id home start size after = after ≡ sets (sets before 2 (role ∷ id ∷ [])) 6 (home ∷ start ∷ size ∷ [])

@@ -1,9 +1,7 @@
 -- How the code finds its way through a table: the run of whole trees in a stretch of rows, i to i + n. Contracts of
 -- private functions cite these; nothing here has to be believed, since no public function's contract does.
-use Rattle.std.specs.Prelude.{Bool, true, false, List, map, ℕ, suc, ◌+◌, ◌*◌, ◌≤◌, length, take, drop, get_or, T}
+use Rattle.std.specs.Prelude.{Bool, true, false, List, map, ℕ, ◌+◌, ◌*◌, ◌≤◌, length, take, drop, get_or, T}
 use Rattle.std.proofs.Math.Option.{Option, none, some}
-use Rattle.std.specs.declared.option.Option as std
-use Rattle.std.specs.declared.option.Option.TheVariants.{None, Some}
 use Rattle.datatype.specs.Kind.{entries_refusal}
 use Rattle.datatype.specs.Tree.{Forest, ∅, node, roots, Row}
 use Rattle.datatype.specs.Table.{row_words, view_of}
@@ -49,11 +47,6 @@ forest_at table i n = run_or (run_at table i n)
 pub record Nests (table : List ℕ) (i n : ℕ) : Type 0 where
   pub room : row_words * (i + n) ≤ length table
   pub whole : T (is_run (run_at table i n))
-
--- Levels that were found, and one more than are allowed where there are more, or the rows do not nest.
-abbrev pub levels_or : ℕ → std.Option ℕ → ℕ
-levels_or most None = suc most
-levels_or most (Some n) = n
 
 -- The number that Map's entries are refused with where they are the first tree of a run, 0 where they are not.
 abbrev pub entries_of : Forest Row → ℕ

@@ -1,6 +1,6 @@
 use mathlib.Core.Path.{ap, ◌∙◌}
 use Rattle.std.specs.declared.result.Result.TheVariants.{Err}
-use Rattle.tokenizer.specs.Internal.Ends.{word_end}
+use Rattle.tokenizer.specs.Places.{word_end}
 use Rattle.token_stream.proofs.CountLaws.{next-token, next-word, next-refused}
 use Rattle.token_stream.proofs.place_behind.Goals as goal
 

@@ -1,14 +1,10 @@
--- Where a word and a quoted string end: how the code finds its way. Contracts of private functions cite these; nothing
+-- Where a quoted string ends: how the code finds its way. Contracts of private functions cite these; nothing
 -- here has to be believed.
 use Rattle.std.specs.Prelude.{Bool, not, ◌&&◌, List, ℕ, ◌+◌, length, drop, ltb, eqb, if◌then◌else◌}
 use Rattle.std.proofs.Math.Option.{Option, none, some}
 use Rattle.std.specs.declared.option.Option as S
 use Rattle.std.specs.declared.option.Option.TheVariants.{Some, None}
-use Rattle.tokenizer.specs.Token.{word_of, until_quote}
-
--- The place behind the word that starts at a place.
-unfoldable pub word_end : List ℕ → ℕ → ℕ
-word_end text at = at + length (word_of (drop at text))
+use Rattle.tokenizer.specs.Token.{until_quote}
 
 -- A byte ends the string.
 abbrev pub closes : ℕ → Bool → ℕ → Bool

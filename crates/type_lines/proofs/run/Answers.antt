@@ -1,14 +1,8 @@
-use Rattle.type_lines.proofs.Turns.{runs-start, counted, last_fits, last_line, ran-ended, ran-failed, runs_on, ran_out}
+use Rattle.type_lines.proofs.Turns.{counted, last_fits, last_line, ran-ended, ran-failed, runs_on, ran_out}
 use Rattle.std.specs.Prelude.{Ok}
 use mathlib.Core.Path.{ap, ◌∙◌}
 use native.Mathlib.Omega.{arith}
 use Rattle.type_lines.proofs.run.Goals as goal
-
-pub loop-init : goal.loop-init
-loop-init c = runs-start _
-
-pub take_turn-requires : goal.take_turn-requires
-take_turn-requires c = c.loop.invariant.running
 
 pub returns-in_err-next : goal.returns-in_err-next
 returns-in_err-next c = ran-failed _ _ _ c.loop.invariant _ c.from_residual.ensures.0 _
@@ -31,4 +25,4 @@ returns-in-Break c =
     ran-ended _ _ _ c.loop.invariant _ _ _ c.in-Break.last _ c.take_turn.ensures (c.in_ok-next.was ∙ ap Ok c.in-Break.is) _ _ l
 
 pub returns : goal.returns
-returns c = ran_out _ _ _ c.loop.invariant (omega (arith, c.loop-test.false, c.loop.auto.counter-end)) c.loop.out
+returns c = ran_out _ _ _ c.loop.invariant (omega (arith, c.loop-test.false, c.loop.auto.counter-end)) c.loop.output.bytes

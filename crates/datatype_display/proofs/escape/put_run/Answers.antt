@@ -1,15 +1,9 @@
-use Rattle.datatype_display.proofs.Escapes.{ran-start, ran-room, ran-more, ran-end}
+use Rattle.datatype_display.proofs.Escapes.{ran-room, ran-more, ran-end}
 use Rattle.tokenizer.proofs.Basics.{of_true}
 use borrow.Author.Tests.{not-false}
 use mathlib.Core.Path.{sym, ◌∙◌}
 use native.Mathlib.Omega.{arith}
 use Rattle.datatype_display.proofs.escape.put_run.Goals as goal
-
-pub loop-i-init : goal.loop-i-init
-loop-i-init c = ran-start _ _ _
-
-pub returns-then-not-is_itself : goal.returns-then-not-is_itself
-returns-then-not-is_itself c = c.loop-i.invariant
 
 pub bounds-out-at : goal.bounds-out-at
 bounds-out-at c = ran-room _ _ _ _ _ c.loop-i.invariant (omega arith) (of_true _ (sym c.is_itself.ensures ∙ not-false _ c.if-not-is_itself.false-raw)) c.requires

@@ -1,16 +1,9 @@
+use native.Mathlib.Omega.{arith}
 use Rattle.parser.specs.Parse.{length_at, fixed_size_binary_at}
-use Rattle.parser.proofs.Answers.{got_next, lost_next, got_word, lost_word}
-use Rattle.parser.proofs.Readers.{meets-handed, value-1, value-2, value-3}
+use Rattle.parser.proofs.Answers.{got_next}
+use Rattle.parser.proofs.Readers.{value-3}
 use Rattle.parser.proofs.Parser.parse_fixed_size_binary.Goals as goal
-
-pub returns-in_err-open : goal.returns-in_err-open
-unfolding fixed_size_binary_at
-returns-in_err-open c = meets-handed _ _ _ _ _ _ c.in_err-open.field-0.0 c.from_residual.ensures.1 (value-1 _ (length_at _) _ _ _ (lost_next _ _ c.in_err-open.ensures))
-
-pub returns-in_err-length : goal.returns-in_err-length
-unfolding fixed_size_binary_at
-returns-in_err-length c = let o = got_next _ _ c.in_ok-open.ensures in meets-handed _ _ _ _ _ _ c.in_err-length.field-0.0 c.from_residual-in_err-length.ensures.1 (value-2 _ (length_at _) _ _ o.0 _ o.1 _ (lost_word _ _ c.in_err-length.ensures))
 
 pub returns : goal.returns
 unfolding fixed_size_binary_at
-returns c = let o = got_next _ _ c.in_ok-open.ensures in value-3 _ (length_at _) _ _ o.0 _ o.1 _ _ _ _ _ _ (got_word _ _ c.in_ok-length.ensures) c.close.ensures
+returns c = let o = got_next _ _ c.in_ok-open.ensures in value-3 _ (length_at _) _ _ o.0 _ o.1 _ _ _ _ (omega arith) c.in_ok-length.ensures c.close.ensures

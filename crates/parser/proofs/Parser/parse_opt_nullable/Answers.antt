@@ -1,7 +1,6 @@
 use native.Mathlib.Omega.{arith}
-use borrow.Enum.Refused.{opened}
 use borrow.Author.Tests.{not-true}
-use Rattle.parser.proofs.TokenLaws.{but, null-other, null-lost, null-not, null-here}
+use Rattle.parser.proofs.TokenLaws.{null-other, null-lost, null-not, null-here}
 use Rattle.parser.proofs.Parser.parse_opt_nullable.Goals as goal
 
 pub returns-then-not-starts : goal.returns-then-not-starts
@@ -11,7 +10,7 @@ pub returns-in_default : goal.returns-in_default
 returns-in_default c = let r = null-lost _ _ _ c.skip_spaces-from.ensures _ c.in_default.ensures in record { role = r.0; next = r.1 }
 
 pub returns-in_default-kind : goal.returns-in_default-kind
-returns-in_default-kind c = let r = null-not _ _ _ c.skip_spaces-from.ensures _ c.in-Ok.ensures (but 12) tt (opened c.in_default-kind.in_default-kind-own.keys2) in record { role = r.0; next = r.1 }
+returns-in_default-kind c = let r = null-not _ _ _ c.skip_spaces-from.ensures _ c.in-Ok.ensures (c.in_default-kind.not-Nullability _) in record { role = r.0; next = r.1 }
 
 pub returns : goal.returns
 returns c = let r = null-here _ _ _ c.skip_spaces-from.ensures _ c.in-Ok.ensures _ c.in-Nullability.is in record { role = r.0; next = r.1 }

@@ -2,13 +2,10 @@ use borrow.Author.Rules.{rules}
 use mir.Syntax.{w64}
 use Rattle.std.specs.Int.RustNames.{FitsSigned}
 use Rattle.std.proofs.Common.{to_z-of_z}
-use Rattle.parser.proofs.Answers.{handed, got_integer, lost_integer}
+use Rattle.parser.proofs.Answers.{got_integer}
 use Rattle.parser.proofs.TokenLaws.{word-refused}
-use Rattle.parser.proofs.ZoneLaws.{number_lost, positive-out, positive-large, positive-in}
+use Rattle.parser.proofs.ZoneLaws.{positive-out, positive-large, positive-in}
 use Rattle.parser.proofs.Parser.parse_unsigned.Goals as goal
-
-pub returns-in_err-number : goal.returns-in_err-number
-returns-in_err-number c = handed _ _ c.in_err-number.field-0.0 c.from_residual.ensures.1 (word-refused _ _ (number_lost _ _ _ _ _ (lost_integer _ _ c.in_err-number.ensures)))
 
 pub returns-in_default : goal.returns-in_default
 returns-in_default c =

@@ -3,7 +3,7 @@ use lib.Dec.{eqb}
 use Rattle.std.proofs.Common.{rules, tests}
 use Rattle.std.proofs.lemmas.Iterator.{YieldsList-from_slice}
 use Rattle.std.proofs.lemmas.Iterator.Search.{all_from_yields_List}
-use Rattle.replay.proofs.PrintCases.{list_all_is}
+use Rattle.replay.proofs.Steps.{list_all_is}
 use Rattle.replay.proofs.prints.all_are.Goals as goal
 
 pub returns : goal.returns

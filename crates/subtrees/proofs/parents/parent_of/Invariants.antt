@@ -2,7 +2,7 @@ use Rattle.subtrees.proofs.ParentClimb.{ClimbSo}
 use Rattle.subtrees.proofs.parents.parent_of.Given as goal
 
 abbrev pub invariant-loop-p : goal.invariant-loop-p
-invariant-loop-p l = ClimbSo l.rows l.i l.p
+invariant-loop-p l = ClimbSo l.row.rows.now l.row.at l.p
 
 abbrev pub decreases-loop-p : goal.decreases-loop-p
 decreases-loop-p l = l.p

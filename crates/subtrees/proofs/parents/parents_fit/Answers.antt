@@ -1,14 +1,14 @@
-use Rattle.subtrees.proofs.ParentSet.{fit-start, fit-end, fit-not, fit-more}
+use Rattle.std.proofs.Common.{◌≡◌, ◌∙◌, refl, arith, rules, tests}
+use Rattle.std.proofs.lemmas.Iterator.{YieldsList-from_range}
+use Rattle.std.proofs.lemmas.Iterator.Search.{all_from_yields_List}
+use Rattle.datatype.specs.Table.{parent_word_at}
+use Rattle.subtrees.specs.Parents.{parent_at}
+use Rattle.subtrees.proofs.RangeCalls.{serves_after}
+use Rattle.subtrees.proofs.ParentSet.{has_parent, table_fit}
 use Rattle.subtrees.proofs.parents.parents_fit.Goals as goal
 
-pub loop-i-init : goal.loop-i-init
-loop-i-init c = fit-start _
-
-pub returns-then-parent-parent_of : goal.returns-then-parent-parent_of
-returns-then-parent-parent_of c = fit-not _ _ c.loop-i.invariant c.loop-i-test.true _ _ c.parent.ensures c.parent_of.ensures c.if-parent-parent_of.true
-
-pub loop-i-preserved : goal.loop-i-preserved
-loop-i-preserved c = fit-more _ _ c.loop-i.invariant c.loop-i-test.true _ _ c.parent.ensures c.parent_of.ensures c.if-parent-parent_of.false
+pub all-requires-clause-callable : goal.all-requires-clause-callable
+all-requires-clause-callable c = serves_after _ _ (λ k. parent_word_at c.args.rows.now k ≡ parent_at c.args.rows.now k) (λ k f g. search (rules, tests)) _ _ (λ k l h. search (rules, tests))
 
 pub returns : goal.returns
-returns c = fit-end _ _ c.loop-i.invariant c.loop-i-test.false
+returns c = all_from_yields_List (has_parent c.args.rows.now) _ _ c.all.result c.all.ensures.ran (YieldsList-from_range 0 _ _ refl (omega arith)) (λ x r q k. search (rules, tests)) ∙ table_fit c.args.rows.now

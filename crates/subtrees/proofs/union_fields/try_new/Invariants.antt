@@ -1,9 +1,11 @@
 use Prim.Native.Nat.{◌-◌}
-use Rattle.subtrees.proofs.UnionLaws.{Met}
+use mathlib.Core.Path.{◌≡◌}
+use Rattle.subtrees.specs.UnionFields.{type_ids_fit}
+use Rattle.subtrees.specs.Internal.Ids.{left_fit}
 use Rattle.subtrees.proofs.union_fields.try_new.Given as goal
 
 abbrev pub invariant-loop-at : goal.invariant-loop-at
-invariant-loop-at l = Met l.rows l.first l.end l.seen l.at
+invariant-loop-at l = type_ids_fit l.rows l.first l.end ≡ left_fit l.rows l.seen l.at l.end
 
 abbrev pub decreases-loop-at : goal.decreases-loop-at
 decreases-loop-at l = l.end - l.at

@@ -12,5 +12,5 @@ loop-at-preserved c = rw c.escaped_after-escaped.ensures (c.loop-at.invariant �
 
 pub returns : goal.returns
 returns c =
-    let e = c.loop-at.invariant ∙ quote-out _ _ _ _ c.loop-at-test.false (c.loop-at.auto.at-end c.requires) in
-    mark-none _ _ _ _ (let t = c.loop-at-test.false in omega arith)
+    let e = c.loop-at.invariant ∙ quote-out _ _ _ _ c.loop-at-test.false in
+    mark-none _ _ _ _ (omega arith)

@@ -1,0 +1,122 @@
+// A row of a table, read by the names of its words.
+ghost use Rattle.std.specs.Prelude.{◌≡◌, ◌+◌, ◌*◌, ◌≤◌, ◌<◌, length, MatchOption};
+ghost use Rattle.datatype.specs.Tree.{name_of, zone_of};
+ghost use Rattle.datatype.specs.Table.{row_words, rows_at, parent_word_at, word_at};
+
+use crate::field::{Field, zone};
+use crate::rows::{
+    HOME, KIND, NAME_LENGTH, NAME_START, NUMBER, PARENT, ROLE, ROW_WORDS, ROWS, SCALE, UNION_ID,
+    ZONE_LENGTH, ZONE_START,
+};
+
+// Row `at` of a table, which the table has.
+#[derive(Clone, Copy)]
+pub struct Row<'r> {
+    pub rows: &'r [u32],
+    pub at: usize,
+    ghost there: { row_words * (at + 1) ≤ length rows.now },
+}
+
+impl<'r> Row<'r> {
+    // Row i of a table, if the table has it.
+    pub fn of(rows: &'r [u32], i: usize) -> Option<Row<'r>>
+        ensures { MatchOption result (length rows.now < row_words * (i + 1)) (λ row. (row.rows.now ≡ rows.now) × (row.at ≡ i)) }
+    {
+        if rows.len() / ROW_WORDS <= i {
+            return None;
+        }
+        Some(Row { rows, at: i })
+    }
+
+    // Word k.
+    fn word(self, k: usize) -> u32
+        requires { k < row_words }
+        ensures { result ≡ word_at self.entry.rows.now self.entry.at k }
+    {
+        self.rows[ROW_WORDS * self.at + k]
+    }
+
+    pub fn kind(self) -> u32
+        ensures { result ≡ word_at self.entry.rows.now self.entry.at 0 }
+    {
+        self.word(KIND)
+    }
+
+    // How many rows the row's subtree has, itself included.
+    pub fn subtree(self) -> usize
+        ensures { result ≡ rows_at self.entry.rows.now self.entry.at }
+    {
+        self.word(ROWS) as usize
+    }
+
+    pub fn role(self) -> u32
+        ensures { result ≡ word_at self.entry.rows.now self.entry.at 2 }
+    {
+        self.word(ROLE)
+    }
+
+    pub fn union_id(self) -> u32
+        ensures { result ≡ word_at self.entry.rows.now self.entry.at 3 }
+    {
+        self.word(UNION_ID)
+    }
+
+    // A unit, a length, a precision, a mode, or sorted or not.
+    pub fn number(self) -> u32
+        ensures { result ≡ word_at self.entry.rows.now self.entry.at 4 }
+    {
+        self.word(NUMBER)
+    }
+
+    // A decimal's scale plus 128.
+    pub fn scale(self) -> u32
+        ensures { result ≡ word_at self.entry.rows.now self.entry.at 5 }
+    {
+        self.word(SCALE)
+    }
+
+    // Where the row's name stands, as its words have it.
+    pub fn field(self) -> Field
+        ensures home { result.home ≡ word_at self.entry.rows.now self.entry.at 6 }
+        ensures start { result.start ≡ word_at self.entry.rows.now self.entry.at 7 }
+        ensures size { result.size ≡ word_at self.entry.rows.now self.entry.at 8 }
+    {
+        Field {
+            home: self.word(HOME),
+            start: self.word(NAME_START),
+            size: self.word(NAME_LENGTH),
+        }
+    }
+
+    pub fn zone_start(self) -> u32
+        ensures { result ≡ word_at self.entry.rows.now self.entry.at 9 }
+    {
+        self.word(ZONE_START)
+    }
+
+    pub fn zone_length(self) -> u32
+        ensures { result ≡ word_at self.entry.rows.now self.entry.at 10 }
+    {
+        self.word(ZONE_LENGTH)
+    }
+
+    pub fn parent(self) -> usize
+        ensures { result ≡ parent_word_at self.entry.rows.now self.entry.at }
+    {
+        self.word(PARENT) as usize
+    }
+
+    // The row's name, from whichever of text and name list is its home: empty where its words do not fit.
+    pub fn name<'a>(self, text: &'a [u8], names: &'a [u8]) -> &'a [u8]
+        ensures { result.now ≡ name_of text.now names.now (word_at self.entry.rows.now self.entry.at 6) (word_at self.entry.rows.now self.entry.at 7) (word_at self.entry.rows.now self.entry.at 8) }
+    {
+        self.field().name(text, names)
+    }
+
+    // The row's zone, as a part of the text: empty where its words do not fit.
+    pub fn zone(self, text: &[u8]) -> &[u8]
+        ensures { result.now ≡ zone_of text.now (word_at self.entry.rows.now self.entry.at 9) (word_at self.entry.rows.now self.entry.at 10) }
+    {
+        zone(text, self.zone_start(), self.zone_length())
+    }
+}

@@ -1,5 +1,0 @@
-use Rattle.datatype_display.proofs.Escapes.{ran_then}
-use Rattle.datatype_display.proofs.escape.put_between.Goals as goal
-
-pub returns : goal.returns
-returns c = ran_then _ _ _ _ _ c.put_run-n.ensures _ _ c.put_escaped.ensures

@@ -1,0 +1,50 @@
+-- What the goals of each function cite: the laws of what it reads and calls, and of what it answers.
+use Rattle.std.proofs.lemmas.Bool.Decides.{nat_tests}
+use Rattle.tokenizer.proofs.Basics.{of_true}
+use Rattle.display_length.proofs.AsciiLaws.{clean_greatest, greatest-go, greatest-end, ascii_is, row_ascii_is, pair_none, pair_one, pair_two, levels_left, levels_first, names_none, names_first, quoted_none, quoted_first, tree-clean, tree-ascii}
+use Rattle.display_length.proofs.KindShapes.{shape_by}
+use Rattle.display_length.proofs.NodeLaws.{role_said, id_said, number_said, scale_said, name_said, zone_said, all_labels, all_nest, all_levels}
+use Rattle.display_length.proofs.PrintedLaws.{printed-17, printed-18, printed-length}
+use Rattle.display_length.proofs.StringLaws.{sum_few, quoted-counted, quoted-clean, quoted_few, zone-none, zone-some, zone_few, list_name_few}
+use Rattle.display_length.proofs.TreeLaws.{single_length, single_word, tree-length, root_levels}
+use Rattle.display_length.proofs.WordLaws.{word_few, unit_few, interval_few, mode_few, sorted_few, digits_few, scale_few, comma_few, nullity_few}
+
+-- ---- strings
+
+pub ruleset is_clean_steps = (clean_greatest, greatest-go, greatest-end)
+
+pub ruleset quoted_steps = (quoted-counted, quoted-clean, sum_few)
+
+pub ruleset zone_steps = (zone-none, zone-some, quoted_few)
+
+-- ---- a row's own bytes
+
+pub ruleset part_steps = (name_said, zone_said)
+
+pub ruleset behind_steps = (shape_by, nat_tests, number_said, scale_said, unit_few, interval_few, mode_few, sorted_few, digits_few, scale_few, zone_few)
+
+pub ruleset field_steps = (role_said, quoted_few, nullity_few)
+
+pub ruleset around_steps = (shape_by, nat_tests, role_said, id_said, comma_few, nullity_few, digits_few, list_name_few)
+
+-- ---- what prints in double quotes
+
+pub ruleset pair_steps = (pair_none, pair_one, pair_two)
+
+pub ruleset by_shape = (shape_by, nat_tests)
+
+pub ruleset names_ascii_steps = (ascii_is, names_none, names_first)
+
+pub ruleset row_ascii_steps = (ascii_is, row_ascii_is)
+
+pub ruleset quoted_ascii_steps = (quoted_none, quoted_first, levels_left, levels_first)
+
+pub ruleset tree_ascii_steps = (ascii_is, tree-clean, tree-ascii, all_labels, all_nest, all_levels)
+
+-- ---- the whole tree
+
+pub ruleset single_steps = (single_length, single_word, word_few)
+
+pub ruleset printed_steps = (of_true, printed-17, printed-18, printed-length)
+
+pub ruleset root_steps = (tree-length, root_levels)

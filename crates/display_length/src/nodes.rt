@@ -1,0 +1,146 @@
+// A sound tree's rows: each with those below it is a node, and nodes side by side are walked one by one.
+ghost use Rattle.std.specs.Prelude.{◌≡◌, ◌+◌, ◌-◌, ◌≤◌, ◌<◌, T, true};
+ghost use Rattle.tokenizer.specs.Text.{all};
+ghost use Rattle.datatype.specs.Table.{rows_at};
+ghost use Rattle.subtrees.specs.Internal.Run.{Nests};
+ghost use Rattle.row_table.specs.Sound.{is_sound};
+ghost use Rattle.display_length.specs.Internal.Steps.{is_clean};
+
+use crate::strings::Part;
+use datatype::{Row, Tree};
+
+// A sound tree, and whether its text is known to be clean.
+#[derive(Clone, Copy)]
+pub(crate) struct SoundTree<'a> {
+    pub(crate) tree: Tree<'a>,
+    pub(crate) clean: bool,
+    ghost sound: { T (is_sound tree.text.now tree.names.now tree.rows.now) },
+    ghost clean_text: { clean ≡ true → T (all is_clean tree.text.now) },
+}
+
+// A row of a sound tree, with the rows below it.
+#[derive(Clone, Copy)]
+pub(crate) struct Node<'a> {
+    pub(crate) whole: &'a SoundTree<'a>,
+    pub(crate) at: usize,
+    ghost some_rows: { 1 ≤ rows_at whole.now.tree.rows.now at },
+    ghost nests: { Nests whole.now.tree.rows.now (at + 1) (at + rows_at whole.now.tree.rows.now at - (at + 1)) },
+}
+
+// The nodes side by side in the rows from start to end.
+#[derive(Clone, Copy)]
+pub(crate) struct Nodes<'a> {
+    pub(crate) whole: &'a SoundTree<'a>,
+    pub(crate) start: usize,
+    pub(crate) end: usize,
+    ghost ordered: { start ≤ end },
+    ghost nests: { Nests whole.now.tree.rows.now start (end - start) },
+}
+
+impl SoundTree<'_> {
+    ghost use Rattle.datatype.specs.Limits.{max_levels};
+    ghost use Rattle.datatype.specs.Table.{tree_of};
+    ghost use Rattle.display_length.specs.Display.{display_length};
+    ghost use Rattle.display_length.specs.Internal.Nodes.{levels_below, length_in};
+
+    // The row that all others stand below.
+    #[tactic(auto, using(crate::proofs::Rules::root_steps))]
+    pub(crate) fn root(&self) -> Node<'_>
+        ensures length { length_in result ≡ display_length (tree_of self.now.tree.text.now self.now.tree.names.now self.now.tree.rows.now) }
+        ensures levels { levels_below result < max_levels }
+    {
+        Node { whole: self, at: 0 }
+    }
+}
+
+impl<'a> Node<'a> {
+    ghost use Rattle.datatype.specs.Tree.{depth};
+    ghost use Rattle.display_length.specs.Internal.Nodes.{label_in, children_in, levels_below, labels_in, rows_in};
+
+    // The row itself, by which its words are read.
+    pub(crate) fn row(&self) -> Row<'a>
+        ensures rows { result.rows.now ≡ self.now.whole.now.tree.rows.now }
+        ensures at { result.at ≡ self.now.at }
+    {
+        let whole = self.whole;
+        Row {
+            rows: whole.tree.rows,
+            at: self.at,
+        }
+    }
+
+    #[tactic(auto, using(crate::proofs::NodeLaws::kind_said))]
+    pub(crate) fn kind(&self) -> u32
+        ensures { result ≡ (label_in self.now).kind }
+    {
+        self.row().kind()
+    }
+
+    // How many rows it is, with those below it.
+    pub(crate) fn subtree(&self) -> usize
+        ensures { result ≡ rows_at self.now.whole.now.tree.rows.now self.now.at }
+    {
+        self.row().subtree()
+    }
+
+    // The nodes right below it.
+    #[tactic(auto, using(crate::proofs::NodeLaws::few_rows))]
+    pub(crate) fn children(&self) -> Nodes<'a>
+        ensures labels { labels_in result ≡ children_in self.now }
+        ensures levels { depth (rows_in result) ≡ levels_below self.now }
+        ensures start { result.start ≡ self.now.at + 1 }
+        ensures end { result.end ≡ self.now.at + rows_at self.now.whole.now.tree.rows.now self.now.at }
+    {
+        Nodes {
+            whole: self.whole,
+            start: self.at + 1,
+            end: self.at + self.subtree(),
+        }
+    }
+
+    #[tactic(auto, using(crate::proofs::Rules::part_steps))]
+    pub(crate) fn name(&self) -> Part<'a>
+        ensures { result.bytes.now ≡ (label_in self.now).name }
+    {
+        let whole = self.whole;
+        Part {
+            bytes: self.row().name(whole.tree.text, whole.tree.names),
+            clean: whole.clean,
+        }
+    }
+
+    #[tactic(auto, using(crate::proofs::Rules::part_steps))]
+    pub(crate) fn zone(&self) -> Part<'a>
+        ensures { result.bytes.now ≡ (label_in self.now).zone }
+    {
+        let whole = self.whole;
+        Part {
+            bytes: self.row().zone(whole.tree.text),
+            clean: whole.clean,
+        }
+    }
+}
+
+impl<'a> Iterator for Nodes<'a> {
+    ghost use Rattle.std.specs.Iterator.{at_most};
+    ghost use Rattle.display_length.specs.Internal.Nodes.{GivesNode};
+
+    type Item = Node<'a>;
+
+    ghost next_gives = { GivesNode };
+
+    ghost remaining = { λ nodes. at_most (nodes.end - nodes.start) };
+
+    // The next node stands behind the rows below this one.
+    fn next(&mut self) -> Option<Node<'a>> {
+        if self.start == self.end {
+            return None;
+        }
+        let node = Node {
+            whole: self.whole,
+            at: self.start,
+        };
+        self.start += node.subtree();
+        Some(node)
+    }
+}
