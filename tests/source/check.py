@@ -89,6 +89,8 @@ def declared_names(folder):
     """Module.name for everything that the .antt files of a folder declare."""
     names = set()
     for path in folder.glob("**/*.antt"):
+        if "out" in path.relative_to(folder).parts:
+            continue
         module = path.stem
         for line in path.read_text(encoding="utf8").splitlines():
             match = re.match(r"\s*(?:unfoldable |abbrev )?pub (?:data |record )?(\S+)", line)

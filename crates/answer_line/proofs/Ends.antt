@@ -20,10 +20,6 @@ use Rattle.datatype_parse.specs.Parse.{parse}
 use Rattle.output.specs.Digits.{digits, digits_with}
 use Rattle.answer_line.specs.Line.{line_answer, longer, lines_of, before_newline, line_end}
 
--- a place within the list, or the list's end
-unwrap_cut : (a n : ℕ) → a ≤ n → unwrap_or (cond (ltb a n) (Some a) None) n ≡ a
-unwrap_cut a n h = grind (arith, common_steps)
-
 -- the newlines looked for are never past the end
 pub before_within : (s : List ℕ) → before_newline s ≤ length s
 unfolding before_newline
@@ -56,7 +52,7 @@ module _ (input : List ℕ) (from : ℕ) where
       let w = before_within rest in
       let b = before_position rest in
       let d : before_newline rest ≡ before_newline (drop from input) = ap before_newline all in
-      let u : unwrap_or place (length rest) ≡ position_or_len (λ c. eqb c 10) rest = ap (λ (o : Option ℕ). unwrap_or o (length rest)) p ∙ unwrap_cut _ _ (omega arith) in
+      let u : unwrap_or place (length rest) ≡ position_or_len (λ c. eqb c 10) rest = grind (arith, common_steps) in
       omega arith
 
 -- ---- the lines of an input

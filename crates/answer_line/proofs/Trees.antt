@@ -1,6 +1,6 @@
 -- The answer to a text that was read: printing into the output behind the head, and what its levels say.
 use Rattle.std.specs.Prelude.{if◌then◌else◌, Result, Ok, Err}
-use mathlib.Core.Path.{◌≡◌, refl, sym, ap, ◌∙◌, subst}
+use mathlib.Core.Path.{◌≡◌, refl, sym, ap, ◌∙◌}
 use mathlib.Core.Bool.{Bool, true, false}
 use mathlib.Core.List.{List, [], ◌∷◌, ◌++◌, append_assoc, append-nil}
 use Prim.Native.Nat.{ℕ, ◌+◌, ◌-◌, ◌/◌, min, ◌≤◌, ◌<◌}
@@ -45,6 +45,25 @@ unfolding print
 print_short text names table s e =
     short_of (is_sound text names table) (quoted_ascii (tree_of text names table)) (leb (length (display (tree_of text names table))) 16384) (display (tree_of text names table)) s
     (λ q. leb→le (length (display (tree_of text names table))) 16384 (of_true _ q)) e
+
+-- the bytes of a text that is printed; 0 where it is refused
+abbrev pub text_size : Out (List ℕ) → ℕ
+text_size (refused r) = 0
+text_size (done s) = length s
+
+few : (o : Out (List ℕ)) → ((s : List ℕ) → o ≡ done s → length s ≤ 16384) → text_size o ≤ 16384
+few (refused r) h = omega arith
+few (done s) h = h s refl
+
+-- What is answered and written, in a part of the output behind a head.
+module _ (text names table lent : List ℕ) (room : 16384 ≤ length lent) where
+  pub print_enough : (print_answer text names table lent ≡ length_of (print text names table 16384)) × (text_size (print text names table 16384) ≤ 16384)
+  unfolding print_answer
+  print_enough = (ap length_of (print_room text names table (length lent) room), few (print text names table 16384) (print_short text names table))
+
+  bytes_enough : print_bytes text names table lent ≡ written lent (print text names table 16384)
+  unfolding print_bytes
+  bytes_enough = ap (written lent) (print_room text names table (length lent) room)
 
 -- ---- the output behind a head
 
@@ -94,16 +113,6 @@ module _ (out : List ℕ) (size h : ℕ) where
 
 -- ---- a text printed behind its head
 
-no_text : (o : Out (List ℕ)) (n : ℕ) → length_of o ≡ refuse n → o ≡ refuse n
-no_text (refused r) n e =
-    let h : r ≡ record { number = n } = cc in
-    ap refused h
-no_text (done s) n e = absurd (let z : ◌≡◌ {A = ℕ} 0 1 = cc in omega arith)
-
-some_text : (o : Out (List ℕ)) (n : ℕ) → length_of o ≡ done n → (s : List ℕ) × (o ≡ done s) × (length s ≡ n)
-some_text (refused r) n e = absurd (let z : ◌≡◌ {A = ℕ} 0 1 = cc in omega arith)
-some_text (done s) n e = (s, refl, cc)
-
 -- the head, the text and the newline, put together
 framed_answers : (head s back out : List ℕ) (r : ℕ) (after : List ℕ) → Framed head (length s) back r after → take (length s) (drop (length head) back) ≡ s
     → drop (length head + length s + 1) back ≡ drop (length head + length s + 1) out → Answers (head ++ (s ++ (10 ∷ []))) out r after
@@ -130,70 +139,41 @@ module _ (text table out : List ℕ) (size rows levels h : ℕ) (head : HeadLeng
       omega arith
 
   module _ (p : Result ℕ Refusal) (e : answer_of p ≡ print_answer text name_list table lent) (o : part ≡ print_bytes text name_list table lent) where
+    answers : answer_of p ≡ length_of (print text name_list table 16384)
+    answers = e ∙ (print_enough text name_list table lent lent_room).0
+
+    writes : part ≡ written lent (print text name_list table 16384)
+    writes = o ∙ bytes_enough text name_list table lent lent_room
+
     -- a refused print has left the output as it was
     pub tree-refused : (d : Refusal) → p ≡ Err d → (r : ℕ) (after : List ℕ) → Answers (no_line (record { number = number_of d })) back r after
         → Answers (tree_line rows levels (print text name_list table 16384)) out r after
-    unfolding print_answer print_bytes tree_line
-    tree-refused d q r after a =
-        let x : print text name_list table (length lent) ≡ refuse (number_of d) = no_text (print text name_list table (length lent)) (number_of d) (sym e ∙ ap answer_of q) in
-        let same : part ≡ lent = o ∙ ap (written lent) x in
-        let whole : back ≡ out = is_back ∙ ap (back_in out size h) (same ∙ is_lent) ∙ put_same h (size - h) out in
-        rw (sym (print_room text name_list table (length lent) lent_room) ∙ x, sym whole) a
-
-    -- a text that was printed, in the output
-    record Text (n : ℕ) (s : List ℕ) : Type 0 where
-      prints : print text name_list table 16384 ≡ done s
-      counted : length s ≡ n
-      short : h + length s < size
-      stands : back ≡ back_in out size h (s ++ drop (length s) (lent_part out size h))
-
-    text_in : (n : ℕ) → p ≡ Ok n → (s : List ℕ) × Text n s
-    unfolding print_answer print_bytes
-    text_in n q = go (some_text (print text name_list table (length lent)) n (sym e ∙ ap answer_of q))
-      where
-        go : (s : List ℕ) × (print text name_list table (length lent) ≡ done s) × (length s ≡ n) → (s : List ℕ) × Text n s
-        go w =
-            let prints : print text name_list table 16384 ≡ done w.0 = sym (print_room text name_list table (length lent) lent_room) ∙ w.1 in
-            let few = print_short text name_list table w.0 prints in
-            let a = head.short in (
-              w.0,
-              record {
-                prints = prints;
-                counted = w.2;
-                short = omega arith;
-                stands = is_back ∙ ap (back_in out size h) (o ∙ ap (written lent) w.1 ∙ ap (λ (l : List ℕ). w.0 ++ drop (length w.0) l) is_lent);
-              },
-            )
-
-    -- no more is printed
-    pub tree-room : (n : ℕ) → p ≡ Ok n → n ≤ 16384
-    tree-room n q = go (text_in n q)
-      where
-        go : (s : List ℕ) × Text n s → n ≤ 16384
-        go w =
-            let short = print_short text name_list table w.0 w.1.prints in
-            let b = w.1.counted in
-            omega arith
-
-    text-answers : (n : ℕ) (s : List ℕ) → Text n s → (r : ℕ) (after : List ℕ) → Framed (ok_head rows levels) n back r after
-        → Answers (tree_line rows levels (print text name_list table 16384)) out r after
     unfolding tree_line
-    text-answers n s t r after f =
-        let a : h ≡ length (ok_head rows levels) = head.is in
-        let b = t.short in
-        let at : take (length s) (drop (length (ok_head rows levels)) back) ≡ s =
-        ap (λ (k : ℕ). take (length s) (drop k back)) (sym a) ∙ ap (λ (l : List ℕ). take (length s) (drop h l)) t.stands ∙ back_at out size h sized (omega arith) s b in
-        let past : drop (length (ok_head rows levels) + length s + 1) back ≡ drop (length (ok_head rows levels) + length s + 1) out =
-        subst (λ (k : ℕ). drop (k + length s + 1) back ≡ drop (k + length s + 1) out) a (ap (λ (l : List ℕ). drop (h + length s + 1) l) t.stands ∙ back-past out size h sized (omega arith) s b) in
-        let g : Framed (ok_head rows levels) (length s) back r after = subst (λ (k : ℕ). Framed (ok_head rows levels) k back r after) (sym t.counted) f in
-        rw t.prints (framed_answers (ok_head rows levels) s back out r after g at past)
+    tree-refused d q r after a = go (print text name_list table 16384) (sym (ap answer_of q) ∙ answers) writes
+      where
+        go : (t : Out (List ℕ)) → refuse (number_of d) ≡ length_of t → part ≡ written lent t → Answers (tree_line rows levels t) out r after
+        go (refused x) i w =
+            let number : x ≡ record { number = number_of d } = cc in
+            let whole : back ≡ out = is_back ∙ ap (back_in out size h) (w ∙ is_lent) ∙ put_same h (size - h) out in
+            rw (number, sym whole) a
+        go (done s) i w = absurd (let z : ◌≡◌ {A = ℕ} 0 1 = cc in omega arith)
 
+    -- a text that was printed stands behind its head
     pub tree-printed : (n : ℕ) → p ≡ Ok n → (r : ℕ) (after : List ℕ) → Framed (ok_head rows levels) n back r after
         → Answers (tree_line rows levels (print text name_list table 16384)) out r after
-    tree-printed n q r after f = go (text_in n q)
+    unfolding tree_line
+    tree-printed n q r after f = go (print text name_list table 16384) (sym (ap answer_of q) ∙ answers) writes (print_enough text name_list table lent lent_room).1
       where
-        go : (s : List ℕ) × Text n s → Answers (tree_line rows levels (print text name_list table 16384)) out r after
-        go w = text-answers n w.0 w.1 r after f
+        go : (t : Out (List ℕ)) → done n ≡ length_of t → part ≡ written lent t → text_size t ≤ 16384 → Answers (tree_line rows levels t) out r after
+        go (refused x) i w few = absurd (let z : ◌≡◌ {A = ℕ} 0 1 = cc in omega arith)
+        go (done s) i w few =
+            let size_is : n ≡ length s = cc in
+            let a = head.is in
+            let b = head.short in
+            let stands : back ≡ back_in out size h (s ++ drop (length s) (lent_part out size h)) = is_back ∙ ap (back_in out size h) (w ∙ ap (λ (l : List ℕ). s ++ drop (length s) l) is_lent) in
+            let at : take (length s) (drop h back) ≡ s = ap (λ (l : List ℕ). take (length s) (drop h l)) stands ∙ back_at out size h sized (omega arith) s (omega arith) in
+            let past : drop (h + length s + 1) back ≡ drop (h + length s + 1) out = ap (λ (l : List ℕ). drop (h + length s + 1) l) stands ∙ back-past out size h sized (omega arith) s (omega arith) in
+            framed_answers (ok_head rows levels) s back out r after (rw size_is at f) (rw a at at) (rw a at past)
 
 -- ---- the levels
 

@@ -1,16 +1,15 @@
 -- A whole line: what the reader, the depth and the printer come to, in lent buffers.
-use mathlib.Core.Path.{◌≡◌, refl, sym, ap, ◌∙◌, subst}
+use mathlib.Core.Path.{◌≡◌, refl, sym, ap, ◌∙◌}
 use mathlib.Core.List.{List, ◌++◌, append_assoc}
 use Prim.Native.Nat.{ℕ, ◌*◌, ◌/◌, ◌≤◌}
 use native.Mathlib.Omega.{arith}
-use Rattle.std.specs.Prelude.{Some, Result, Ok, Err}
+use Rattle.std.specs.Prelude.{Some}
 use lib.ListN.{length, take, drop, length-append, take-append-drop}
 use lib.Seq.{length-take-le, take-append_seam, drop-append-le}
 use borrow.Author.Tests.{le-leb}
 use Rattle.std.proofs.lemmas.List.{length-take}
 use Rattle.tokenizer.specs.Text.{bytes}
-use Rattle.tokenizer.specs.Answer.{Out, refused, done, refuse, number_of, answer_of}
-use Rattle.tokenizer.specs.declared.refusal.Refusal.{Refusal}
+use Rattle.tokenizer.specs.Answer.{Out, refused, done}
 use Rattle.datatype.specs.Tree.{Forest, count, depth, Row, name_list}
 use Rattle.datatype.specs.Table.{row_words, table_of, tree_of, rows_lent}
 use Rattle.datatype.proofs.Table.{length_table, view_table}
@@ -20,7 +19,7 @@ use Rattle.datatype_parse.proofs.ReadSound.{read_sound}
 use Rattle.datatype_parse.specs.Parse.{parse, row_count, filled, parse_answer, parse_rows}
 use Rattle.output.specs.Digits.{digits}
 use Rattle.datatype_display.specs.Print.{print}
-use Rattle.answer_line.specs.Line.{no_line, ok_line, line_words, line_answer, line_answered, line_rows, line_out, answer_bytes}
+use Rattle.answer_line.specs.Line.{ok_line, line_words, line_answer, line_answered, line_rows, line_out, answer_bytes}
 use Rattle.answer_line.specs.Internal.Steps.{Answers, ok_head, tree_line, table_line}
 
 -- ---- the answer to the table of a tree that was read
@@ -35,7 +34,7 @@ line_of f levels (done s) e =
     ∙ ap (λ (l : List ℕ). bytes "ok " ++ l)
     (append_assoc d (bytes " " ++ (digits (depth f) ++ bytes " ")) t ∙ ap (λ (l : List ℕ). d ++ (bytes " " ++ l)) (append_assoc (digits (depth f)) (bytes " ") t))
 
-table_line_lem : (text : List ℕ) (f : Forest Row) → table_line text (table_of f) ≡ ok_line f (print text name_list (table_of f) 16384)
+pub table_line_lem : (text : List ℕ) (f : Forest Row) → table_line text (table_of f) ≡ ok_line f (print text name_list (table_of f) 16384)
 unfolding table_line tree_of
 table_line_lem text f =
     let rows : length (table_of f) / row_words ≡ count f = let e = length_table f in omega arith in
@@ -80,48 +79,27 @@ read_few line rows = (refl, go (parse line (rows_lent (length rows))) refl)
         let c = length_table f in
         omega arith
 
-module _ (n : ℕ) where
-  no-tree : (o : Out (Forest Row)) → row_count o ≡ refuse n → o ≡ refuse n
-  no-tree (refused r) e =
-      let h : r ≡ record { number = n } = cc in
-      ap refused h
-  no-tree (done f) e = absurd (let z : ◌≡◌ {A = ℕ} 0 1 = cc in omega arith)
-
-  some-tree : (o : Out (Forest Row)) → row_count o ≡ done n → (f : Forest Row) × (o ≡ done f) × (count f ≡ n)
-  some-tree (refused r) e = absurd (let z : ◌≡◌ {A = ℕ} 0 1 = cc in omega arith)
-  some-tree (done f) e = (f, refl, cc)
-
+-- rows for every text are as good as 1,024
 all_lent : (line rows : List ℕ) → line_words ≤ length rows → parse line (rows_lent (length rows)) ≡ parse line 1024
 unfolding rows_lent
 all_lent line rows h = ap (parse line) (omega arith)
 
-module _ (line rows : List ℕ) (words : line_words ≤ length rows) (q : Result ℕ Refusal) (e : answer_of q ≡ parse_answer line rows) (out : List ℕ) (r : ℕ) (out' : List ℕ) where
-  pub line-refused : (d : Refusal) → q ≡ Err d → Answers (no_line (record { number = number_of d })) out r out' → Answers (line_answer line) out r out'
-  unfolding parse_answer line_answer
-  line-refused d h a =
-      let o : parse line 1024 ≡ refuse (number_of d) = sym (all_lent line rows words) ∙ no-tree (number_of d) (parse line (rows_lent (length rows))) (sym e ∙ ap answer_of h) in
-      rw o a
+pub answer_read : (line rows : List ℕ) → line_words ≤ length rows → parse_answer line rows ≡ row_count (parse line 1024)
+unfolding parse_answer
+answer_read line rows h = ap row_count (all_lent line rows h)
 
-  pub line_read :
-      (n : ℕ) → q ≡ Ok n → (rows' : List ℕ) → rows' ≡ parse_rows line rows → Answers (table_line line (take (row_words * n) rows')) out r out'
-      → Answers (line_answer line) out r out'
-  unfolding parse_answer parse_rows line_answer
-  line_read n h rows' p a = go (some-tree n (parse line (rows_lent (length rows))) (sym e ∙ ap answer_of h))
-    where
-      go : (f : Forest Row) × (parse line (rows_lent (length rows)) ≡ done f) × (count f ≡ n) → Answers (line_answer line) out r out'
-      go w =
-          let f : Forest Row = w.0 in
-          let c = w.2 in
-          let g : parse line 1024 ≡ done f = sym (all_lent line rows words) ∙ w.1 in
-          let l : row_words * n ≡ length (table_of f) = let m = length_table f in omega arith in
-          let t : take (row_words * n) rows' ≡ table_of f =
-          ap (take (row_words * n)) (p ∙ ap (filled rows) w.1)
-          ∙ ap (λ (k : ℕ). take k (table_of f ++ drop (length (table_of f)) rows)) l
-          ∙ take-append_seam (table_of f) (drop (length (table_of f)) rows) in
-          rw g (subst (λ (l : List ℕ). Answers l out r out') (ap (table_line line) t ∙ table_line_lem line f) a)
+pub rows_filled : (line rows : List ℕ) → line_words ≤ length rows → parse_rows line rows ≡ filled rows (parse line 1024)
+unfolding parse_rows
+rows_filled line rows h = ap (filled rows) (all_lent line rows h)
+
+-- the rows of a tree that was read
+pub table_read : (f : Forest Row) (rest : List ℕ) → take (row_words * count f) (table_of f ++ rest) ≡ table_of f
+table_read f rest =
+    let l : row_words * count f ≡ length (table_of f) = let m = length_table f in omega arith in
+    ap (λ (k : ℕ). take k (table_of f ++ rest)) l ∙ take-append_seam (table_of f) rest
 
 -- what reading a line uses
-pub ruleset reads = (read_few, length-take)
+pub ruleset reads = (read_few, length-take, answer_read, rows_filled, table_read, table_line_lem)
 
 -- ---- the clauses of the public function
 

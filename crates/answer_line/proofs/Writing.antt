@@ -8,14 +8,11 @@ use lib.Seq.{sets, sets-eq, set_split, take-append-add, drop-append-add, drop-dr
 use Rattle.tokenizer.specs.Text.{bytes}
 use Rattle.datatype.proofs.Sets.{sets_append}
 use Rattle.output.specs.Digits.{digits}
-use Rattle.output.proofs.DigitLaws.{digits_at_most}
+use Rattle.output.proofs.DigitLaws.{digits_at_most, digits_few}
 use Rattle.answer_line.specs.Line.{no_line, answer_bytes}
-use Rattle.answer_line.specs.Internal.Steps.{Answers, ok_head, HeadLength, Framed}
+use Rattle.answer_line.specs.Internal.Steps.{ok_head, HeadLength}
 
 -- ---- how many digits the numbers have
-
-pub number_digits : (n : ℕ) → n < 4294967296 → length (digits n) ≤ 10
-number_digits n h = digits_at_most 9 n (omega arith)
 
 pub row_digits : (n : ℕ) → n ≤ 1024 → length (digits n) ≤ 4
 row_digits n h = digits_at_most 3 n (omega arith)
@@ -34,23 +31,16 @@ sets_start s before h = sets-eq s before 0 (omega arith) ∙ ap (λ (k : ℕ). s
 
 -- ---- the line of a refusal
 
-pub no-answers :
-    (n d : ℕ) (before out₁ out₂ after : List ℕ) → n < 4294967296 → answer_bytes ≤ length before
-    → out₁ ≡ sets before 0 (bytes "no ") → d ≡ length (digits n) → out₂ ≡ sets out₁ 3 (digits n) → after ≡ sets out₂ (3 + d) (bytes "\n")
-    → Answers (no_line (record { number = n })) before (4 + d) after
-no-answers n d before out₁ out₂ after h room a e b c =
+pub no_stored : (n : ℕ) (before : List ℕ) → n < 4294967296 → answer_bytes ≤ length before
+    → sets (sets (sets before 0 (bytes "no ")) 3 (digits n)) (3 + length (digits n)) (bytes "\n") ≡ no_line (record { number = n }) ++ drop (length (no_line (record { number = n }))) before
+no_stored n before h room =
     let front = length-append (bytes "no ") (digits n) in
     let all = length-append (bytes "no ") (digits n ++ bytes "\n") in
     let last = length-append (digits n) (bytes "\n") in
-    let few = number_digits n h in
-    record {
-      counted = omega arith;
-      stored =
-          c
-          ∙ ap (λ (l : List ℕ). sets l (3 + d) (bytes "\n")) (b ∙ ap (λ (l : List ℕ). sets l 3 (digits n)) a ∙ behind before (bytes "no ") (digits n) 3 refl)
-          ∙ behind before (bytes "no " ++ digits n) (bytes "\n") (3 + d) (omega arith)
-          ∙ sets_start (no_line (record { number = n })) before (omega arith);
-    }
+    let few = digits_few n h in
+    ap (λ (l : List ℕ). sets l (3 + length (digits n)) (bytes "\n")) (behind before (bytes "no ") (digits n) 3 refl)
+    ∙ behind before (bytes "no " ++ digits n) (bytes "\n") (3 + length (digits n)) (omega arith)
+    ∙ sets_start (no_line (record { number = n })) before (omega arith)
 
 -- ---- the head of a tree's line
 
@@ -72,13 +62,12 @@ head-length rows levels h k r e =
     record { is = omega arith; short = omega arith }
 
 -- the head, put together from the left
-pub head-put :
-    (rows levels d e : ℕ) (before out₁ out₂ out₃ out₄ after : List ℕ)
-    → out₁ ≡ sets before 0 (bytes "ok ") → d ≡ length (digits rows) → out₂ ≡ sets out₁ 3 (digits rows) → out₃ ≡ sets out₂ (3 + d) (bytes " ")
-    → e ≡ length (digits levels) → out₄ ≡ sets out₃ (3 + d + 1) (digits levels) → after ≡ sets out₄ (3 + d + 1 + e) (bytes " ")
-    → after ≡ sets before 0 (ok_head rows levels)
+pub head-put : (rows levels : ℕ) (before : List ℕ)
+    → sets (sets (sets (sets (sets before 0 (bytes "ok ")) 3 (digits rows)) (3 + length (digits rows)) (bytes " ")) (3 + length (digits rows) + 1) (digits levels)) (3 + length (digits rows) + 1 + length (digits levels)) (bytes " ")
+    ≡ sets before 0 (ok_head rows levels)
 unfolding ok_head
-head-put rows levels d e before out₁ out₂ out₃ out₄ after p₁ l p₂ p₃ m p₄ p₅ =
+head-put rows levels before =
+    let a : ℕ = 3 + length (digits rows) in
     let s₁ : List ℕ = bytes "ok " in
     let s₂ : List ℕ = s₁ ++ digits rows in
     let s₃ : List ℕ = s₂ ++ bytes " " in
@@ -86,39 +75,28 @@ head-put rows levels d e before out₁ out₂ out₃ out₄ after p₁ l p₂ p�
     let n₂ : length s₂ ≡ 3 + length (digits rows) = length-append s₁ (digits rows) in
     let n₃ : length s₃ ≡ length s₂ + 1 = length-append s₂ (bytes " ") in
     let n₄ : length s₄ ≡ length s₃ + length (digits levels) = length-append s₃ (digits levels) in
-    let q₂ : out₂ ≡ sets before 0 s₂ = p₂ ∙ ap (λ (o : List ℕ). sets o 3 (digits rows)) p₁ ∙ behind before s₁ (digits rows) 3 refl in
-    let q₃ : out₃ ≡ sets before 0 s₃ = p₃ ∙ ap (λ (o : List ℕ). sets o (3 + d) (bytes " ")) q₂ ∙ behind before s₂ (bytes " ") (3 + d) (omega arith) in
-    let q₄ : out₄ ≡ sets before 0 s₄ = p₄ ∙ ap (λ (o : List ℕ). sets o (3 + d + 1) (digits levels)) q₃ ∙ behind before s₃ (digits levels) (3 + d + 1) (omega arith) in
     let whole : s₄ ++ bytes " " ≡ bytes "ok " ++ (digits rows ++ (bytes " " ++ (digits levels ++ bytes " "))) = simp append_assoc in
-    p₅ ∙ ap (λ (o : List ℕ). sets o (3 + d + 1 + e) (bytes " ")) q₄ ∙ behind before s₄ (bytes " ") (3 + d + 1 + e) (omega arith) ∙ ap (sets before 0) whole
+    rw (behind before s₁ (digits rows) 3 refl, behind before s₂ (bytes " ") a (omega arith), behind before s₃ (digits levels) (a + 1) (omega arith), behind before s₄ (bytes " ") (a + 1 + length (digits levels)) (omega arith), whole)
 
 -- ---- the head and the newline around a text
 
-module _ (head : List ℕ) (size : ℕ) (before : List ℕ) (at : ℕ) (between after : List ℕ) where
-  pub frame : length head + size < length before → at ≡ length head → between ≡ sets before 0 head → after ≡ sets between (at + size) (bytes "\n") → Framed head size before (at + size + 1) after
-  frame h a p q = record { place = omega arith; stored = q ∙ ap (λ (k : ℕ). set between (k + size) 10) a ∙ ap (λ (l : List ℕ). set l (length head + size) 10) headed ∙ newline }
-    where
-      rest : List ℕ
-      rest = drop (length head) before
-
-      headed : between ≡ head ++ rest
-      headed = p ∙ sets_start head before (omega arith)
-
-      room : length head + size < length (head ++ rest)
-      room = rw (length-append head rest, length-drop (length head) before) (omega arith)
-
-      behind-it : drop (suc (length head + size)) (head ++ rest) ≡ drop (length head + size + 1) before
-      behind-it =
-          let e : suc (length head + size) ≡ length head + suc size = omega arith in
-          let f : length head + suc size ≡ length head + size + 1 = omega arith in
-          ap (λ (k : ℕ). drop k (head ++ rest)) e ∙ drop-append-add head rest (suc size) ∙ drop-drop (suc size) (length head) before ∙ ap (λ (k : ℕ). drop k before) f
-
-      newline : set (head ++ rest) (length head + size) 10 ≡ head ++ (take size rest ++ (10 ∷ drop (length head + size + 1) before))
-      newline =
-          set_split (head ++ rest) (length head + size) 10 room
-          ∙ ap (λ (l : List ℕ). l ++ (10 ∷ drop (suc (length head + size)) (head ++ rest))) (take-append-add head rest size)
-          ∙ ap (λ (l : List ℕ). (head ++ take size rest) ++ (10 ∷ l)) behind-it
-          ∙ append_assoc head (take size rest) (10 ∷ drop (length head + size + 1) before)
+pub framed : (head : List ℕ) (size : ℕ) (before : List ℕ) → length head + size < length before
+    → set (sets before 0 head) (length head + size) 10 ≡ head ++ (take size (drop (length head) before) ++ (10 ∷ drop (length head + size + 1) before))
+framed head size before h =
+    let rest : List ℕ = drop (length head) before in
+    let room : length head + size < length (head ++ rest) = rw (length-append head rest, length-drop (length head) before) (omega arith) in
+    let next : suc (length head + size) ≡ length head + (size + 1) = omega arith in
+    let past : length head + (size + 1) ≡ length head + size + 1 = omega arith in
+    ap (λ (l : List ℕ). set l (length head + size) 10) (sets_start head before (omega arith))
+    ∙ set_split (head ++ rest) (length head + size) 10 room
+    ∙ ap (λ (l : List ℕ). l ++ (10 ∷ drop (suc (length head + size)) (head ++ rest))) (take-append-add head rest size)
+    ∙ ap (λ (l : List ℕ). (head ++ take size rest) ++ (10 ∷ l))
+    (ap (λ (k : ℕ). drop k (head ++ rest)) next ∙ drop-append-add head rest (size + 1) ∙ drop-drop (size + 1) (length head) before ∙ ap (λ (k : ℕ). drop k before) past)
+    ∙ append_assoc head (take size rest) (10 ∷ drop (length head + size + 1) before)
 
 -- what the functions that write use
-pub ruleset few_digits = (number_digits, row_digits, level_digits, head_size, head-length)
+pub ruleset few_digits = (row_digits, level_digits, head_size, head-length, head-put)
+
+pub ruleset no_digits = (digits_few, no_stored, length-append)
+
+pub ruleset frame_steps = (head_short, framed)

@@ -30,7 +30,7 @@ pub fn line_end(input: &[u8], from: usize) -> usize
 }
 
 // The answer to a line, where there is room for every line's.
-#[tactic(auto, using(crate::proofs::Whole::reads))]
+#[tactic(auto, using(crate::proofs::Whole::reads), unfolding(crate::specs::Line::line_answer))]
 fn answer_in(line: &[u8], rows: &mut [u32], out: &mut [u8; ANSWER_BYTES]) -> usize
     requires { line_words ≤ length rows.old }
     ensures answer { Answers (line_answer line.now) out.old result out.new }

@@ -13,6 +13,7 @@ use datatype::{Field, Tree};
 
 // The answer with its head at hand. What is printed stands where it belongs before the head is written, so that a
 // refused print has written nothing.
+#[tactic(auto, using(crate::proofs::Trees::print_enough))]
 fn print_tree(text: &[u8], rows: &[u32], head: Head, out: &mut [u8; ANSWER_BYTES]) -> usize
     ensures { Answers (tree_line head.rows head.levels (print text.now name_list rows.now max_text)) out.old result out.new }
 {

@@ -1,4 +1,5 @@
-// Writing an answer's own bytes.
+// Writing an answer's own bytes: by `output`, since `write!` promises the bytes written of a `String` alone, which needs a
+// heap.
 ghost use Rattle.std.specs.Prelude.{◌≡◌, ◌≤◌, length};
 ghost use Rattle.std.proofs.lemmas.List.Edits.{sets};
 ghost use Rattle.tokenizer.specs.Answer.{number_of};
@@ -11,7 +12,7 @@ use output::{digits_length, put_bytes, put_digits};
 use tokenizer::Refusal;
 
 // `no` and the refusal's number.
-#[tactic(auto, using(crate::proofs::Writing::few_digits))]
+#[tactic(auto, using(crate::proofs::Writing::no_digits))]
 pub(crate) fn put_no(out: &mut [u8; ANSWER_BYTES], refusal: Refusal) -> usize
     ensures { Answers (no_line (record { number = number_of refusal })) out.old result out.new }
 {
@@ -54,7 +55,7 @@ impl Head {
     }
 
     // Writes it before a printed text of so many bytes that stands in its place, and a newline behind that.
-    #[tactic(auto, using(crate::proofs::Writing::head_short))]
+    #[tactic(auto, using(crate::proofs::Writing::frame_steps))]
     pub(crate) fn frame(&self, out: &mut [u8; ANSWER_BYTES], size: usize) -> usize
         requires { size ≤ max_text }
         ensures { Framed (ok_head self.now.rows self.now.levels) size out.old result out.new }

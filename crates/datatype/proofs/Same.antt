@@ -1,4 +1,4 @@
--- Lists that are the same are equal, and `==` on slices finds it out.
+-- Equal lists are the same, and `==` on slices finds it out.
 use mathlib.Core.Path.{◌≡◌, refl, subst, ap}
 use mathlib.Core.Bool.{◌&&◌}
 use mathlib.Core.List.{List, [], ◌∷◌}
@@ -7,10 +7,6 @@ use lib.Dec.{T, eqb, eqb_refl}
 use lib.Pointwise.{pointwise}
 use Rattle.tokenizer.specs.Text.{same}
 use Rattle.tokenizer.proofs.Basics.{both}
-use Rattle.tokenizer.proofs.Listed.{same_path}
-
-pub same_eq : (a b : List ℕ) → T (same a b) → a ≡ b
-same_eq = same_path
 
 pub same_refl : (a : List ℕ) → T (same a a)
 same_refl [] = tt

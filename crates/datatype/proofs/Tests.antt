@@ -1,8 +1,13 @@
--- Tests: when two are equal, and a test over all numbers below a bound.
-use mathlib.Core.Path.{◌≡◌, refl, subst}
+-- Tests: when two are equal, a test over all numbers below a bound, and a list as a function.
+use mathlib.Core.Path.{◌≡◌, refl, sym, ap, ◌∙◌, subst}
 use mathlib.Core.Bool.{Bool, true, false, ◌&&◌}
-use Prim.Native.Nat.{ℕ, zero, suc, ◌<◌}
+use mathlib.Core.List.{List, map}
+use Prim.Native.Nat.{ℕ, zero, suc, ◌<◌, ◌≤◌}
+use native.Mathlib.Decide.{dec_lt}
 use native.Mathlib.Omega.{arith}
+use lib.ListN.{length, get_or, get_or-eq_default}
+use Rattle.std.specs.List.{range_with_len}
+use Rattle.std.proofs.lemmas.List.FromFn.{get_or-map-range_with_len}
 use lib.Dec.{T, leb}
 use borrow.Author.Tests.{leb-true, leb-false}
 use Rattle.tokenizer.proofs.Basics.{and_l, and_r}
@@ -30,14 +35,10 @@ below_at (suc n) f t k h = go (leb n k) refl (λ l. below_at n f (and_r (f n) (a
     go true e more = let le = leb-true n k e in let z : n ≡ k = omega arith in subst (λ (i : ℕ). T (f i)) z (and_l (f n) (all_below n f) t)
     go false e more = more (leb-false n k e)
 
-unfoldable pub same_bool : Bool → Bool → Bool
-same_bool true b = b
-same_bool false true = false
-same_bool false false = true
-
-pub same_bool_lem : (a b : Bool) → T (same_bool a b) → a ≡ b
-unfolding same_bool
-same_bool_lem true true t = refl
-same_bool_lem true false t = absurd t
-same_bool_lem false true t = absurd t
-same_bool_lem false false t = refl
+-- a list that gives what a function does, by the list computed, and past its end too
+pub get_or_by : {A : Type 0} (f : ℕ → A) (xs : List A) (d : A) → map f (range_with_len 0 (length xs)) ≡ xs → ((k : ℕ) → length xs ≤ k → d ≡ f k) → (k : ℕ) → get_or xs k d ≡ f k
+get_or_by f xs d e past k =
+    elim (dec_lt k (length xs)) [
+      | yes h ↦ ap (λ ys. get_or ys k d) (sym e) ∙ get_or-map-range_with_len f 0 (length xs) k k d h (omega arith)
+      | no h ↦ get_or-eq_default xs d {n = k} (omega arith) ∙ past k (omega arith)
+    ]

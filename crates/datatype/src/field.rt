@@ -5,7 +5,7 @@ ghost use Rattle.datatype.specs.Tree.{part, name_of, zone_of};
 
 // Where a field's name stands: its home, its start and its length there. The home is a number and no enum, as word 6 of a
 // row is, which C lends and may hold any.
-#[derive(Clone, Copy)]
+#[derive(Clone, Copy, PartialEq, Eq)]
 pub struct Field {
     pub home: u32,
     pub start: u32,
@@ -36,6 +36,25 @@ impl Field {
     pub const REE_VALUES_START: u32 = 12;
 
     pub const REE_VALUES_LENGTH: u32 = 6;
+
+    // The default names, as fields have them in the name list.
+    pub const LIST_FIELD: Self = Field {
+        home: Self::IN_NAME_LIST,
+        start: Self::LIST_FIELD_START,
+        size: Self::LIST_FIELD_LENGTH,
+    };
+
+    pub const REE_RUN_ENDS_FIELD: Self = Field {
+        home: Self::IN_NAME_LIST,
+        start: Self::REE_RUN_ENDS_START,
+        size: Self::REE_RUN_ENDS_LENGTH,
+    };
+
+    pub const REE_VALUES_FIELD: Self = Field {
+        home: Self::IN_NAME_LIST,
+        start: Self::REE_VALUES_START,
+        size: Self::REE_VALUES_LENGTH,
+    };
 
     // The name list: the three default names, end to end.
     pub const NAME_LIST: [u8; 18] = *b"itemrun_endsvalues";
@@ -69,7 +88,7 @@ pub fn zone(text: &[u8], start: u32, size: u32) -> &[u8]
     part_of(text, start, size)
 }
 
-// Whether two byte slices are the same. By hand, since the contracts' word is `same`, of numbers.
+// Whether two byte slices are the same: `==`, said by the contracts' word, which is `same`, of numbers.
 #[tactic(auto, using(crate::proofs::Same::pointwise_same))]
 pub fn equal_bytes(a: &[u8], b: &[u8]) -> bool
     ensures { result ≡ same a.now b.now }

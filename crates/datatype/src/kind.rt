@@ -101,7 +101,7 @@ pub fn unit_fits(kind: u32, unit: u32) -> bool
 }
 
 // Whether a type of a kind is written by its word alone.
-#[tactic(auto, using(crate::proofs::ShapeLaws::word_places))]
+#[tactic(auto, using(crate::proofs::KindShapes::by_shape), unfolding(crate::specs::Kind::is_word))]
 pub fn is_word(kind: u32) -> bool
     ensures { result ≡ is_word kind }
 {
@@ -146,8 +146,9 @@ impl Decimal {
 
     pub const DECIMAL256_MAX_PRECISION: u32 = 76;
 
-    // The greatest precision of a decimal kind; 0 for every other kind.
-    #[tactic(auto, using(crate::proofs::KindLaws::precisions))]
+    // The greatest precision of a decimal kind; 0 for every other kind, as its definition has it, and no `Option`: no
+    // precision is at most 0, so `fits` asks no more.
+    #[tactic(auto, using(crate::proofs::KindLaws::max_by))]
     pub fn max_precision(kind: u32) -> u32
         ensures { result ≡ max_precision kind }
     {

@@ -3,6 +3,7 @@ ghost use Rattle.std.specs.Prelude.{◌≡◌, ◌+◌, ◌*◌, ◌≤◌, ◌<
 ghost use Rattle.datatype.specs.Tree.{name_of, zone_of};
 ghost use Rattle.datatype.specs.Table.{row_words, rows_at, parent_word_at, word_at};
 
+use crate::Tree;
 use crate::field::{Field, zone};
 use crate::rows::{
     HOME, KIND, NAME_LENGTH, NAME_START, NUMBER, PARENT, ROLE, ROW_WORDS, ROWS, SCALE, UNION_ID,
@@ -106,11 +107,11 @@ impl<'r> Row<'r> {
         self.word(PARENT) as usize
     }
 
-    // The row's name, from whichever of text and name list is its home: empty where its words do not fit.
-    pub fn name<'a>(self, text: &'a [u8], names: &'a [u8]) -> &'a [u8]
-        ensures { result.now ≡ name_of text.now names.now (word_at self.entry.rows.now self.entry.at 6) (word_at self.entry.rows.now self.entry.at 7) (word_at self.entry.rows.now self.entry.at 8) }
+    // The row's name, from whichever of a tree's text and name list is its home: empty where its words do not fit.
+    pub fn name<'a>(self, tree: &Tree<'a>) -> &'a [u8]
+        ensures { result.now ≡ name_of tree.now.text.now tree.now.names.now (word_at self.entry.rows.now self.entry.at 6) (word_at self.entry.rows.now self.entry.at 7) (word_at self.entry.rows.now self.entry.at 8) }
     {
-        self.field().name(text, names)
+        self.field().name(tree.text, tree.names)
     }
 
     // The row's zone, as a part of the text: empty where its words do not fit.

@@ -29,7 +29,8 @@ pub const ZONE_LENGTH: usize = 10;
 
 pub const PARENT: usize = 11;
 
-// The role of a field: nullable or not. A bare row has 0.
+// The role of a field: nullable or not. A bare row has 0. Numbers and no enum, as word 2 of a row is, which C lends and
+// may hold any.
 pub const NULLABLE: u32 = 1;
 
 pub const NON_NULL: u32 = 2;

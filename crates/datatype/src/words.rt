@@ -2,8 +2,8 @@
 ghost use Rattle.std.specs.Prelude.{◌≡◌, length, replicate};
 ghost use Rattle.tokenizer.specs.Text.{same};
 
-// Whether two slices of words are the same. One generic function for words and bytes would say no more than `==` does:
-// the contracts' word is `same`, of numbers.
+// Whether two slices of words are the same: `==`, said by the contracts' word, which is `same`, of numbers. One generic
+// function for words and bytes would say no more than `==` does.
 #[tactic(auto, using(crate::proofs::Same::pointwise_same))]
 pub fn equal_words(a: &[u32], b: &[u32]) -> bool
     ensures { result ≡ same a.now b.now }
@@ -11,7 +11,7 @@ pub fn equal_words(a: &[u32], b: &[u32]) -> bool
     a == b
 }
 
-// Sets every word to 0: `fill`, by which the crates here do it. It is public, and stays for callers from elsewhere.
+// Sets every word to 0: `fill`, by which the crates here do it. What is public stays.
 pub fn clear_words(words: &mut [u32])
     ensures { words.new ≡ replicate (length words.old) 0 }
 {

@@ -1,5 +1,6 @@
 -- Double-quoted strings: what a byte is written as, and what the loops of `escape.rt` hold.
 use mathlib.Core.Path.{◌≡◌, refl, sym, ap, ◌∙◌}
+use mathlib.Core.Bool.{Bool, true}
 use mathlib.Core.List.{List, [], ◌∷◌, ◌++◌, append_assoc, append-nil}
 use Prim.Native.Nat.{ℕ, suc, ◌+◌, ◌-◌, ◌≤◌, ◌<◌}
 use native.Mathlib.Omega.{arith}
@@ -7,6 +8,7 @@ use lib.ListN.{length, length-append, get_or, set, take, drop, length-drop, take
 use lib.Seq.{sets, length-sets, drop-cons, take-suc, take_all, length-take-le}
 use lib.Dec.{T}
 use Rattle.std.proofs.lemmas.Bool.Decides.{nat_tests}
+use Rattle.tokenizer.proofs.Basics.{of_true}
 use Rattle.datatype.proofs.Sets.{sets_append}
 use Rattle.display_length.specs.Display.{escape, escaped}
 use Rattle.datatype_display.specs.declared.write.Printer.{Printer}
@@ -27,11 +29,11 @@ module _ (before s : List ℕ) (at : ℕ) where
     run-size : length (take i s) ≡ i
     run-size = length-take-le i s r.few
 
-    module _ (h : i < length s) (t : T (is_itself (get_or s i 0))) where
+    module _ (h : i < length s) (b : Bool) (is : b ≡ is_itself (get_or s i 0)) (so : b ≡ true) where
       -- the byte's own place
       here : escaped (drop i s) ≡ get_or s i 0 ∷ escaped (drop (suc i) s)
       unfolding escaped
-      here = ap escaped (drop-cons s i 0 h) ∙ ap (λ (l : List ℕ). l ++ escaped (drop (suc i) s)) (escape_itself (get_or s i 0) t)
+      here = ap escaped (drop-cons s i 0 h) ∙ ap (λ (l : List ℕ). l ++ escaped (drop (suc i) s)) (escape_itself (get_or s i 0) (of_true _ (sym is ∙ so)))
 
       next : take (suc i) s ++ escaped (drop (suc i) s) ≡ escaped s
       next =
@@ -118,5 +120,7 @@ escaped_room s i h =
 
 pub escaped_all : (s : List ℕ) (i : ℕ) → length s ≤ i → escaped (take i s) ≡ escaped s
 escaped_all s i h = ap escaped (take_all i s h)
+
+pub ruleset run_steps = (ran-room, ran-more, ran-end)
 
 pub ruleset bytewise = (escaped_none, escaped_take, escaped_room, escaped_all, written_then, written_none, length-append)

@@ -4,9 +4,9 @@
 --   print-utf8     so, what the printer prints, whatever it is given
 --   output-utf8    and what then stands at the start of the output
 use Rattle.std.specs.Prelude.{if◌then◌else◌}
-use mathlib.Core.Path.{◌≡◌, refl, sym, subst}
+use mathlib.Core.Path.{◌≡◌, refl, sym, ap, subst}
 use mathlib.Core.Bool.{Bool, true, false, not, ◌&&◌, ◌||◌}
-use mathlib.Core.List.{List, [], ◌∷◌, ◌++◌}
+use mathlib.Core.List.{List, [], ◌∷◌, ◌++◌, map}
 use Prim.Native.Nat.{ℕ, zero, suc, ◌+◌, ◌-◌, ◌/◌, ◌%◌, ◌<◌, min}
 use native.Mathlib.Nat.{mod-lt}
 use native.Mathlib.Decide.{dec_lt}
@@ -31,7 +31,6 @@ use Rattle.output.specs.Digits.{digits_with, digits}
 use Rattle.display_length.specs.Display.{Shown, kind_word, unit_text, interval_text, mode_text, sorted_text, scale_text, escape, escaped, quoted, nullity_text, field_text, list_name_text, list_field_text, struct_text, union_text, zone_text, default_names, run_end_text, shape_text, type_text, shown, display}
 use Rattle.display_length.specs.PrintedLength.{quotes_names, is_ascii, names_ascii, quoted_ascii}
 use Rattle.datatype_display.specs.Print.{print, length_of, print_answer, written, print_bytes}
-use Rattle.datatype_display.proofs.Rows.{labels_of, shown_labels}
 
 -- ---- parts
 
@@ -126,6 +125,14 @@ clean_zone [] h = literal [] tt
 clean_zone (c ∷ z) h = literal (bytes ", ") tt then clean_quoted (c ∷ z) h
 
 -- ---- fields
+
+abbrev labels_of : List Shown → List Label
+labels_of ks = map (λ k. k.label) ks
+
+shown_labels : (f : Forest Label) → labels_of (shown f) ≡ roots f
+unfolding shown
+shown_labels ∅ = refl
+shown_labels (node l kids next) = ap (λ (ls : List Label). l ∷ ls) (shown_labels next)
 
 -- a printed type whose row has a name that is UTF-8, and a run of such
 record CleanShown (k : Shown) : Type 0 where

@@ -1,29 +1,32 @@
 -- The text of each sort of type and field, in the parts that the code writes.
 use mathlib.Core.Path.{◌≡◌, refl, sym, ap, ◌∙◌}
-use mathlib.Core.Bool.{true, false, ◌&&◌}
+use mathlib.Core.Bool.{Bool, true, false, not, ◌&&◌}
+use mathlib.Core.Logic.{◌⊎◌, inl, inr}
 use mathlib.Core.List.{List, [], ◌∷◌, ◌++◌, append_assoc, append-nil}
 use Prim.Native.Nat.{ℕ, ◌+◌, ◌≤◌, ◌<◌}
-use native.Mathlib.Decide.{dec_lt}
 use native.Mathlib.Omega.{arith}
-use borrow.Author.Tests.{lt-ltb, le-ltb}
+use borrow.Author.Tests.{eq-eqb, ne_eqb}
 use lib.ListN.{length, length-append}
-use lib.Dec.{ltb}
+use lib.Dec.{eqb}
+use Rattle.std.proofs.lemmas.Bool.Decides.{nat_tests}
 use Rattle.tokenizer.specs.Text.{bytes, same}
 use Rattle.tokenizer.proofs.Basics.{of_true}
-use Rattle.datatype.specs.Kind.{leaf, timestamp, time, interval, fixed, list, fixed_list, struct, union, dictionary, decimal, mapping, run_end_encoded, shape_of, is_word}
-use Rattle.datatype.proofs.ShapeLaws.{word_leaf}
-use Rattle.datatype.specs.Limits.{max_rows}
-use Rattle.datatype.specs.Tree.{name_of, zone_of, label_of}
+use Rattle.datatype.specs.Kind.{Shape, leaf, timestamp, time, interval, fixed, list, fixed_list, struct, union, dictionary, decimal, mapping, run_end_encoded, shape_of, is_word}
+use Rattle.datatype.proofs.KindShapes.{shape_by, word_leaf}
+use Rattle.datatype.specs.Tree.{depth, Label, name_of, zone_of, label_of}
 use Rattle.datatype.specs.Table.{rows_at, word_at}
 use Rattle.subtrees.specs.Internal.Run.{row_at}
 use Rattle.output.specs.Digits.{digits}
+use Rattle.display_length.specs.declared.nodes.Node.{Node}
+use Rattle.display_length.specs.declared.nodes.Nodes.{Nodes}
+use Rattle.display_length.specs.Nodes.{IsFirst}
 use Rattle.display_length.specs.Display.{kind_word, unit_text, interval_text, mode_text, sorted_text, scale_text, quoted, Shown, nullity_text, field_text, list_name_text, list_field_text, struct_text, union_text, zone_text, default_names, run_end_text, shape_text, type_text, shown}
-use Rattle.row_table.specs.Sound.{Standing}
+use Rattle.display_length.specs.Internal.Nodes.{label_in, levels_below, labels_in, rows_in}
+use Rattle.display_length.proofs.NodeLaws.{kind_said, node_kind, levels_left, levels_first}
 use Rattle.datatype_display.specs.declared.write.Printer.{Printer}
-use Rattle.datatype_display.specs.Internal.Steps.{Wrote, Trees, Subtree, One, Two, place_below, comma, nullability, name_text, nullable_text, union_field_text, label_at, kids_at, text_at, shape_at, shown_at}
+use Rattle.datatype_display.specs.Internal.Steps.{Wrote, is_alone, comma, nullability, name_text, nullable_text, union_field_text, fields_in, text_in, shown_in, shape_in}
 use Rattle.datatype_display.proofs.Writes.{written_then, written_none, Left, left_as, left_step}
-use Rattle.datatype_display.proofs.Rows.{trees, trees-none, trees-some, first-turn, siblings, kids-are}
-use Rattle.datatype_display.proofs.Shapes.{timestamp_kind, interval_kind, fixed_kind, time_kinds, decimal_kinds, leaf_low, leaf_middle, alone_kinds, fixed_list_kind, struct_kind, union_kind, dictionary_kind, map_kind, run_end_kind, list_kinds}
+use Rattle.datatype_display.proofs.Children.{shown-none, shown-first, below-levels, below-shown}
 
 -- ---- zones
 
@@ -39,238 +42,268 @@ zone_some (c ∷ z) h = refl
 
 pub ruleset zone_parts = (zone_none, zone_some, written_then, written_none, length-append)
 
-module _ (text names table : List ℕ) (i : ℕ) where
-  abbrev at : ℕ → Shown
-  at j = shown_at text names table j
+module _ (n : Node) where
+  -- word k of the node's row, its name and its zone
+  abbrev word : ℕ → ℕ
+  word k = word_at n.whole.now.tree.rows.now n.at k
 
-  abbrev ks : List Shown
-  ks = shown (kids_at text names table i)
+  abbrev pub name : List ℕ
+  name = name_of n.whole.now.tree.text.now n.whole.now.tree.names.now (word 6) (word 7) (word 8)
 
-  abbrev name : ℕ → List ℕ
-  name j = name_of text names (word_at table j 6) (word_at table j 7) (word_at table j 8)
+  abbrev zone : List ℕ
+  zone = zone_of n.whole.now.tree.text.now (word 9) (word 10)
 
   -- ---- fields, with no type
 
-  pub nullable_parts : nullable_text (at i) ≡ nullability (word_at table i 2) ++ text_at text names table i
-  unfolding nullability nullable_text nullity_text label_at label_of row_at
+  pub nullable_parts : nullable_text (shown_in n) ≡ nullability (word 2) ++ text_in n
+  unfolding nullability nullable_text nullity_text label_of row_at
   nullable_parts = refl
 
-  pub field_parts : field_text (at i) ≡ name_text (name i) (word_at table i 2) ++ text_at text names table i
-  unfolding name_text nullability field_text nullity_text label_at label_of row_at
-  field_parts = sym (append_assoc (quoted (name i)) (bytes ": " ++ nullability (word_at table i 2)) (text_at text names table i))
+  pub field_parts : field_text (shown_in n) ≡ name_text name (word 2) ++ text_in n
+  unfolding name_text nullability field_text nullity_text label_of row_at
+  field_parts = sym (append_assoc (quoted name) (bytes ": " ++ nullability (word 2)) (text_in n))
 
-  pub list_field_parts : list_field_text (at i) ≡ nullable_text (at i) ++ list_name_text (name i)
-  unfolding nullable_text list_field_text label_at label_of row_at
-  list_field_parts = sym (append_assoc (nullity_text (at i).label) (text_at text names table i) (list_name_text (name i)))
+  pub list_field_parts : list_field_text (shown_in n) ≡ nullable_text (shown_in n) ++ list_name_text name
+  unfolding nullable_text list_field_text label_of row_at
+  list_field_parts = sym (append_assoc (nullity_text (label_in n)) (text_in n) (list_name_text name))
 
-  pub union_field_parts : union_field_text (at i) ≡ bytes ", " ++ (digits (word_at table i 3) ++ (bytes ": (" ++ (field_text (at i) ++ bytes ")")))
-  unfolding union_field_text label_at label_of row_at
+  pub union_field_parts : union_field_text (shown_in n) ≡ bytes ", " ++ (digits (word 3) ++ (bytes ": (" ++ (field_text (shown_in n) ++ bytes ")")))
+  unfolding union_field_text label_of row_at
   union_field_parts = refl
 
   -- ---- types: the kind's word, and what stands behind it by the kind's shape
 
-  pub type_parts : text_at text names table i ≡ kind_word (word_at table i 0) ++ shape_at (shape_of (word_at table i 0)) text names table i
-  unfolding text_at shape_at type_text label_at label_of row_at
+  pub type_parts : text_in n ≡ kind_word (word 0) ++ shape_in (shape_of (word 0)) n
+  unfolding text_in shape_in type_text label_of row_at
   type_parts = refl
 
-  pub leaf_part : shape_at leaf text names table i ≡ []
-  unfolding shape_at shape_text
+  pub leaf_part : shape_in leaf n ≡ []
+  unfolding shape_in shape_text
   leaf_part = refl
 
-  pub timestamp_parts : shape_at timestamp text names table i
-      ≡ bytes "(" ++ (unit_text (word_at table i 4) ++ (zone_text (zone_of text (word_at table i 9) (word_at table i 10)) ++ bytes ")"))
-  unfolding shape_at shape_text label_at label_of row_at
+  pub timestamp_parts : shape_in timestamp n ≡ bytes "(" ++ (unit_text (word 4) ++ (zone_text zone ++ bytes ")"))
+  unfolding shape_in shape_text label_of row_at
   timestamp_parts = refl
 
-  pub time_parts : shape_at time text names table i ≡ bytes "(" ++ (unit_text (word_at table i 4) ++ bytes ")")
-  unfolding shape_at shape_text label_at label_of row_at
+  pub time_parts : shape_in time n ≡ bytes "(" ++ (unit_text (word 4) ++ bytes ")")
+  unfolding shape_in shape_text label_of row_at
   time_parts = refl
 
-  pub interval_parts : shape_at interval text names table i ≡ bytes "(" ++ (interval_text (word_at table i 4) ++ bytes ")")
-  unfolding shape_at shape_text label_at label_of row_at
+  pub interval_parts : shape_in interval n ≡ bytes "(" ++ (interval_text (word 4) ++ bytes ")")
+  unfolding shape_in shape_text label_of row_at
   interval_parts = refl
 
-  pub fixed_parts : shape_at fixed text names table i ≡ bytes "(" ++ (digits (word_at table i 4) ++ bytes ")")
-  unfolding shape_at shape_text label_at label_of row_at
+  pub fixed_parts : shape_in fixed n ≡ bytes "(" ++ (digits (word 4) ++ bytes ")")
+  unfolding shape_in shape_text label_of row_at
   fixed_parts = refl
 
-  pub decimal_parts : shape_at decimal text names table i
-      ≡ bytes "(" ++ (digits (word_at table i 4) ++ (bytes ", " ++ (scale_text (word_at table i 5) ++ bytes ")")))
-  unfolding shape_at shape_text label_at label_of row_at
+  pub decimal_parts : shape_in decimal n ≡ bytes "(" ++ (digits (word 4) ++ (bytes ", " ++ (scale_text (word 5) ++ bytes ")")))
+  unfolding shape_in shape_text label_of row_at
   decimal_parts = refl
 
-  pub struct_parts : shape_at struct text names table i ≡ bytes "(" ++ (struct_text ks ++ bytes ")")
-  unfolding shape_at shape_text
+  pub struct_parts : shape_in struct n ≡ bytes "(" ++ (struct_text (fields_in n) ++ bytes ")")
+  unfolding shape_in shape_text
   struct_parts = refl
 
-  pub union_parts : shape_at union text names table i ≡ bytes "(" ++ (mode_text (word_at table i 4) ++ (union_text ks ++ bytes ")"))
-  unfolding shape_at shape_text label_at label_of row_at
+  pub union_parts : shape_in union n ≡ bytes "(" ++ (mode_text (word 4) ++ (union_text (fields_in n) ++ bytes ")"))
+  unfolding shape_in shape_text label_of row_at
   union_parts = refl
 
-pub ruleset leaf_parts = (
-  type_parts,
-  leaf_part,
-  timestamp_parts,
-  time_parts,
-  interval_parts,
-  fixed_parts,
-  decimal_parts,
-  timestamp_kind,
-  interval_kind,
-  fixed_kind,
-  time_kinds,
-  decimal_kinds,
-  leaf_low,
-  leaf_middle,
-  alone_kinds,
-  written_then,
-  written_none,
-  length-append,
-  append-nil,
-)
+  -- ---- types with one type or two below them; without them there is nothing
+
+  module _ (e : fields_in n ≡ []) where
+    pub list_none : shape_in list n ≡ []
+    unfolding shape_in shape_text
+    list_none = rw e
+
+    pub fixed_list_none : shape_in fixed_list n ≡ []
+    unfolding shape_in shape_text
+    fixed_list_none = rw e
+
+    pub map_none : shape_in mapping n ≡ []
+    unfolding shape_in shape_text
+    map_none = rw e
+
+  module _ (k : Shown) (ks : List Shown) (e : fields_in n ≡ k ∷ ks) where
+    pub list_parts : shape_in list n ≡ bytes "(" ++ (list_field_text k ++ bytes ")")
+    unfolding shape_in shape_text
+    list_parts = rw e
+
+    pub fixed_list_parts : shape_in fixed_list n ≡ bytes "(" ++ (digits (word 4) ++ (bytes " x " ++ (list_field_text k ++ bytes ")")))
+    unfolding shape_in shape_text label_of row_at
+    fixed_list_parts = rw e
+
+    pub map_parts : shape_in mapping n ≡ bytes "(" ++ (field_text k ++ (bytes ", " ++ (sorted_text (word 4) ++ bytes ")")))
+    unfolding shape_in shape_text label_of row_at
+    map_parts = rw e
+
+  few : (s : Shape) (l : Label) (ks : List Shown) → length ks < 2 → (s ≡ dictionary) ⊎ (s ≡ run_end_encoded) → shape_text s l ks ≡ []
+  unfolding shape_text
+  few s l [] h (inl e) = rw e
+  few s l (k ∷ []) h (inl e) = rw e
+  few s l (k ∷ j ∷ ks) h (inl e) = absurd (omega arith)
+  few s l [] h (inr e) = rw e
+  few s l (k ∷ []) h (inr e) = rw e
+  few s l (k ∷ j ∷ ks) h (inr e) = absurd (omega arith)
+
+  module _ (h : length (fields_in n) < 2) where
+    pub dictionary_none : shape_in dictionary n ≡ []
+    unfolding shape_in
+    dictionary_none = few dictionary (label_in n) (fields_in n) h (inl refl)
+
+    pub run_end_none : shape_in run_end_encoded n ≡ []
+    unfolding shape_in
+    run_end_none = few run_end_encoded (label_in n) (fields_in n) h (inr refl)
+
+  module _ (k v : Shown) (ks : List Shown) (e : fields_in n ≡ k ∷ v ∷ ks) where
+    pub dictionary_parts : shape_in dictionary n ≡ bytes "(" ++ (k.text ++ (bytes ", " ++ (v.text ++ bytes ")")))
+    unfolding shape_in shape_text
+    dictionary_parts = rw e
 
 -- a kind's word alone
 pub word_leaf_is : (k : ℕ) → is_word k ≡ true → shape_of k ≡ leaf
 word_leaf_is k e = word_leaf k (of_true _ e)
 
--- ---- types with one type or two below them
-
-module _ (text names table : List ℕ) (level i : ℕ) where
-  abbrev below : ℕ → Shown
-  below j = shown_at text names table j
-
-  pub list_text : One text names table level i → shape_at list text names table i ≡ bytes "(" ++ (list_field_text (below (i + 1)) ++ bytes ")")
-  unfolding shape_at shape_text
-  list_text o = rw o.is
-
-  pub fixed_list_text : One text names table level i
-      → shape_at fixed_list text names table i ≡ bytes "(" ++ (digits (word_at table i 4) ++ (bytes " x " ++ (list_field_text (below (i + 1)) ++ bytes ")")))
-  unfolding shape_at shape_text label_at label_of row_at
-  fixed_list_text o = rw o.is
-
-  pub map_text : One text names table level i
-      → shape_at mapping text names table i ≡ bytes "(" ++ (field_text (below (i + 1)) ++ (bytes ", " ++ (sorted_text (word_at table i 4) ++ bytes ")")))
-  unfolding shape_at shape_text label_at label_of row_at
-  map_text o = rw o.is
-
-  pub dictionary_text : Two text names table level i
-      → shape_at dictionary text names table i ≡ bytes "(" ++ (text_at text names table (i + 1) ++ (bytes ", " ++ (text_at text names table (i + 1 + rows_at table (i + 1)) ++ bytes ")")))
-  unfolding shape_at shape_text
-  dictionary_text o = rw o.is
-
-  pub run_end_text_is : Two text names table level i
-      → shape_at run_end_encoded text names table i ≡ bytes "(" ++ (run_end_text (below (i + 1)) (below (i + 1 + rows_at table (i + 1))) ++ bytes ")")
-  unfolding shape_at shape_text
-  run_end_text_is o = rw o.is
-
 -- ---- RunEndEncoded: both fields, without their names where those are the default ones
 
-pub defaults_are : (text names table : List ℕ) (i j : ℕ) → default_names (label_at text names table i) (label_at text names table j)
-    ≡ (same (name_of text names (word_at table i 6) (word_at table i 7) (word_at table i 8)) (bytes "run_ends") && same (name_of text names (word_at table j 6) (word_at table j 7) (word_at table j 8)) (bytes "values"))
-unfolding default_names label_at label_of row_at
-defaults_are text names table i j = refl
+module _ (n first second : Node) (ks : List Shown) (e : fields_in n ≡ shown_in first ∷ shown_in second ∷ ks) where
+  abbrev default : Bool
+  default = same (name first) (bytes "run_ends") && same (name second) (bytes "values")
 
-pub run_end_short : (r v : Shown) → default_names r.label v.label ≡ true → run_end_text r v ≡ nullable_text r ++ (bytes ", " ++ nullable_text v)
-unfolding run_end_text nullable_text
-run_end_short r v t = rw t (sym (append_assoc (nullity_text r.label) r.text (bytes ", " ++ (nullity_text v.label ++ v.text))))
+  pub run_end_short : default ≡ true → shape_in run_end_encoded n ≡ bytes "(" ++ (nullable_text (shown_in first) ++ (bytes ", " ++ (nullable_text (shown_in second) ++ bytes ")")))
+  unfolding shape_in shape_text run_end_text nullable_text default_names label_of row_at
+  run_end_short t = rw (e, t) (simp append_assoc)
 
-pub run_end_long : (r v : Shown) → default_names r.label v.label ≡ false → run_end_text r v ≡ field_text r ++ (bytes ", " ++ field_text v)
-unfolding run_end_text
-run_end_long r v t = rw t
+  pub run_end_long : default ≡ false → shape_in run_end_encoded n ≡ bytes "(" ++ (field_text (shown_in first) ++ (bytes ", " ++ (field_text (shown_in second) ++ bytes ")")))
+  unfolding shape_in shape_text run_end_text default_names label_of row_at
+  run_end_long t = rw (e, t) (simp append_assoc)
 
-pub ruleset run_end_steps = (defaults_are, run_end_short, run_end_long, written_then, length-append, append_assoc)
+-- ---- kinds
+
+pub leaf_middle : (k : ℕ) → is_alone k ≡ true → (k ≡ 19 → ⊥) → (k ≡ 21 → ⊥) → 19 ≤ k → k < 35 → shape_of k ≡ leaf
+unfolding is_alone
+leaf_middle k o n m a b = rw (shape_by k) (grind (arith, nat_tests))
+
+-- ---- what the goals of each function cite
+
+pub ruleset leaf_steps =
+    (shape_by, nat_tests, leaf_middle, node_kind, kind_said, type_parts, leaf_part, timestamp_parts, time_parts, interval_parts, fixed_parts, decimal_parts, written_then, written_none, length-append, append-nil)
 
 pub ruleset field_steps = (nullable_parts, field_parts, list_field_parts, union_field_parts, written_then, length-append)
 
-pub ruleset type_steps = (type_parts, leaf_part, word_leaf_is, written_then, written_none, length-append, append-nil)
+pub ruleset struct_steps = (struct_parts, written_then, length-append)
 
-pub ruleset nested_steps =
-    (type_parts, struct_parts, union_parts, fixed_list_kind, struct_kind, union_kind, dictionary_kind, map_kind, run_end_kind, list_kinds, written_then, length-append)
+pub ruleset union_steps = (union_parts, written_then, length-append)
+
+pub ruleset list_steps = (list_none, list_parts, written_then, written_none, length-append)
+
+pub ruleset fixed_list_steps = (fixed_list_none, fixed_list_parts, written_then, written_none, length-append)
+
+pub ruleset map_steps = (map_none, map_parts, written_then, written_none, length-append)
+
+pub ruleset dictionary_steps = (dictionary_none, dictionary_parts, written_then, written_none, length-append)
+
+pub ruleset run_end_steps = (run_end_none, run_end_short, run_end_long, written_then, written_none, length-append)
+
+pub ruleset type_steps = (node_kind, kind_said, type_parts, leaf_part, word_leaf_is, written_then, written_none, length-append, append-nil)
+
+pub ruleset nested_steps = (shape_by, nat_tests, node_kind, kind_said, type_parts, written_then, length-append)
 
 -- ---- the fields of a Struct or Union, one behind another
 
-pub field_comma : (text names table : List ℕ) (place : Standing) (level j end : ℕ) → Trees text names table place level j end → (k : Shown)
-    → struct_text (k ∷ trees text names table j end) ≡ field_text k ++ (comma (ltb j end) ++ struct_text (trees text names table j end))
-unfolding struct_text comma
-field_comma text names table place level j end w k = elim (dec_lt j end) [ yes h ↦ more h | no h ↦ last (omega arith) ]
-  where
-    more : j < end → struct_text (k ∷ trees text names table j end) ≡ field_text k ++ (comma (ltb j end) ++ struct_text (trees text names table j end))
-    more h = rw (lt-ltb j end h, trees-some text names table place level j end w h)
+-- behind the first field, each has a comma before it
+abbrev pub struct_rest : Bool → List Shown → List ℕ
+struct_rest first [] = []
+struct_rest first (k ∷ ks) = comma (not first) ++ struct_text (k ∷ ks)
 
-    last : end ≤ j → struct_text (k ∷ trees text names table j end) ≡ field_text k ++ (comma (ltb j end) ++ struct_text (trees text names table j end))
-    last h = rw (le-ltb j end h, trees-none text names table place level j end w h) (sym (append-nil (field_text k)))
+struct_next : (k : Shown) (ks : List Shown) → struct_text (k ∷ ks) ≡ field_text k ++ struct_rest false ks
+unfolding struct_text comma
+struct_next k [] = sym (append-nil (field_text k))
+struct_next k (j ∷ ks) = refl
+
+struct_all : (ks : List Shown) → struct_text ks ≡ struct_rest true ks
+unfolding struct_text comma
+struct_all [] = refl
+struct_all (k ∷ ks) = refl
 
 one_union_field : (id f more : List ℕ) → (bytes ", " ++ (id ++ (bytes ": (" ++ (f ++ (bytes ")" ++ more))))) ++ bytes ")" ≡ (bytes ", " ++ (id ++ (bytes ": (" ++ (f ++ bytes ")")))) ++ (more ++ bytes ")")
 one_union_field id f more = simp append_assoc
 
-module _ (text names table : List ℕ) (place : Standing) (level end : ℕ) (before : Printer) (whole : List ℕ) where
-  -- the trees from row j on are left, and what `f` makes of them is left to write
-  pub record Fields (f : List Shown → List ℕ) (j : ℕ) (p : Printer) : Type 0 where
-    pub rows : Trees text names table place level j end
-    pub few : end ≤ max_rows
-    pub some-rows : j < end → 1 ≤ rows_at table j
-    pub within : j < end → j + rows_at table j ≤ end
-    pub rest : Left before whole (f (trees text names table j end) ++ bytes ")") p
+module _ (n : Node) (level : ℕ) (before : Printer) (whole : List ℕ) where
+  -- what `f` makes of the fields that are left is left to write
+  pub record Fields (f : List Shown → List ℕ) (left : Nodes) (p : Printer) : Type 0 where
+    pub behind : n.at + 1 ≤ left.start
+    pub flat : depth (rows_in left) ≤ level
+    pub rest : Left before whole (f (shown (labels_in left)) ++ bytes ")") p
 
-  fields : {f : List Shown → List ℕ} (j : ℕ) {p : Printer} → Trees text names table place level j end → Left before whole (f (trees text names table j end) ++ bytes ")") p → Fields f j p
-  fields j w l =
+  -- before the first field
+  fields_start : (f : List Shown → List ℕ) (kids : Nodes) (p : Printer) → kids.whole ≡ n.whole → kids.start ≡ n.at + 1 → kids.end ≡ n.at + rows_at n.whole.now.tree.rows.now n.at → levels_below n ≤ level → Left before whole (f (fields_in n) ++ bytes ")") p → Fields f kids p
+  fields_start f kids p of start end h l =
       record {
-        rows = w;
-        few = w.few;
-        some-rows = λ h. (first-turn text names table place level j end w h).some-rows;
-        within = λ h. (first-turn text names table place level j end w h).within;
-        rest = l;
+        behind = omega arith;
+        flat = omega (arith, below-levels n kids of start end);
+        rest = left_as (ap (λ ks. f ks ++ bytes ")") (sym (below-shown n kids of start end))) l;
       }
 
-  module _ (j : ℕ) (p : Printer) where
-    pub struct_end : Fields struct_text j p → end ≤ j → Left before whole (bytes ")") p
-    unfolding struct_text
-    struct_end v h = left_as (ap (λ ks. struct_text ks ++ bytes ")") (trees-none text names table place level j end v.rows h)) v.rest
+  pub struct_start : (kids : Nodes) (p : Printer) → kids.whole ≡ n.whole → kids.start ≡ n.at + 1 → kids.end ≡ n.at + rows_at n.whole.now.tree.rows.now n.at → levels_below n ≤ level → Left before whole (struct_text (fields_in n) ++ bytes ")") p
+      → Fields (struct_rest (eqb kids.start (n.at + 1))) kids p
+  struct_start kids p of start end h l = rw (eq-eqb kids.start (n.at + 1) start) (fields_start (struct_rest true) kids p of start end h (left_as (ap (λ s. s ++ bytes ")") (struct_all (fields_in n))) l))
 
-    pub union_end : Fields union_text j p → end ≤ j → Left before whole (bytes ")") p
+  pub union_start : (kids : Nodes) (p : Printer) → kids.whole ≡ n.whole → kids.start ≡ n.at + 1 → kids.end ≡ n.at + rows_at n.whole.now.tree.rows.now n.at → levels_below n ≤ level → Left before whole (union_text (fields_in n) ++ bytes ")") p → Fields union_text kids p
+  union_start = fields_start union_text
+
+  module _ (left : Nodes) (p : Printer) where
+    pub struct_end : (first : Bool) → Fields (struct_rest first) left p → left.start ≡ left.end → Left before whole (bytes ")") p
+    struct_end first v e = left_as (ap (λ ks. struct_rest first ks ++ bytes ")") (shown-none left e)) v.rest
+
+    pub union_end : Fields union_text left p → left.start ≡ left.end → Left before whole (bytes ")") p
     unfolding union_text
-    union_end v h = left_as (ap (λ ks. union_text ks ++ bytes ")") (trees-none text names table place level j end v.rows h)) v.rest
+    union_end v e = left_as (ap (λ ks. union_text ks ++ bytes ")") (shown-none left e)) v.rest
 
-    module _ (h : j < end) where
-      abbrev field : Shown
-      field = shown_at text names table j
+    module _ (field : Node) (next : Nodes) (g : IsFirst left field next) where
+      pub field_level : (f : List Shown → List ℕ) → Fields f left p → levels_below field < level
+      field_level f v = let d = v.flat in omega (arith, levels_first left field next g)
 
-      pub struct_here : Fields struct_text j p → (next : ℕ) → next ≡ j + rows_at table j
-          → Left before whole (field_text field ++ (comma (ltb next end) ++ (struct_text (trees text names table next end) ++ bytes ")"))) p
-      struct_here v next is =
-          rw is
-          (left_as
+      -- the first field has no comma before it
+      abbrev first : Bool
+      first = eqb field.at (n.at + 1)
+
+      pub struct_here : Fields (struct_rest (eqb left.start (n.at + 1))) left p → Left before whole (comma (not first) ++ (field_text (shown_in field) ++ (struct_rest false (shown (labels_in next)) ++ bytes ")"))) p
+      struct_here v =
+          left_as
           (
-          ap (λ ks. struct_text ks ++ bytes ")") (trees-some text names table place level j end v.rows h)
-          ∙ ap (λ s. s ++ bytes ")") (field_comma text names table place level (j + rows_at table j) end (siblings text names table place level j end v.rows h) field)
+          ap (λ ks. struct_rest (eqb left.start (n.at + 1)) ks ++ bytes ")") (shown-first left field next g)
+          ∙ ap (λ s. (comma (not (eqb left.start (n.at + 1))) ++ s) ++ bytes ")") (struct_next (shown_in field) (shown (labels_in next)))
+          ∙ ap (λ (i : ℕ). (comma (not (eqb i (n.at + 1))) ++ (field_text (shown_in field) ++ struct_rest false (shown (labels_in next)))) ++ bytes ")") (sym g.at)
           ∙ simp append_assoc
           )
-          v.rest)
+          v.rest
 
-      pub struct_again : Fields struct_text j p → (next : ℕ) → next ≡ j + rows_at table j → (b after : Printer) → Wrote p (field_text field) b
-          → Wrote b (comma (ltb next end)) after → Fields struct_text next after
-      struct_again v next is b after f g =
-          fields next (rw is (siblings text names table place level j end v.rows h)) (left_step (left_step (struct_here v next is) f) g)
+      pub struct_again : Fields (struct_rest (eqb left.start (n.at + 1))) left p → (b after : Printer) → Wrote p (comma (not first)) b → Wrote b (field_text (shown_in field)) after
+          → Fields (struct_rest (eqb next.start (n.at + 1))) next after
+      struct_again v b after c w =
+          let s = g.start in
+          let a = g.at in
+          let r = field.some_rows in
+          let h = v.behind in
+          let d = v.flat in
+          rw (ne_eqb next.start (n.at + 1) (λ z. omega arith))
+          (record { behind = omega arith; flat = omega (arith, levels_left left field next g); rest = left_step (left_step (struct_here v) c) w })
 
-      pub union_here : Fields union_text j p → (next : ℕ) → next ≡ j + rows_at table j → Left before whole (union_field_text field ++ (union_text (trees text names table next end) ++ bytes ")")) p
+      pub union_here : Fields union_text left p → Left before whole (union_field_text (shown_in field) ++ (union_text (shown (labels_in next)) ++ bytes ")")) p
       unfolding union_text union_field_text
-      union_here v next is =
-          rw is
-          (left_as
+      union_here v =
+          left_as
           (
-          ap (λ ks. union_text ks ++ bytes ")") (trees-some text names table place level j end v.rows h)
-          ∙ one_union_field (digits field.label.union_id) (field_text field) (union_text (trees text names table (j + rows_at table j) end))
+          ap (λ ks. union_text ks ++ bytes ")") (shown-first left field next g)
+          ∙ one_union_field (digits (label_in field).union_id) (field_text (shown_in field)) (union_text (shown (labels_in next)))
           )
-          v.rest)
+          v.rest
 
-      pub union_again : Fields union_text j p → (next : ℕ) → next ≡ j + rows_at table j → (after : Printer) → Wrote p (union_field_text field) after → Fields union_text next after
-      union_again v next is after f = fields next (rw is (siblings text names table place level j end v.rows h)) (left_step (union_here v next is) f)
-
--- before the first field
-pub fields_start : (text names table : List ℕ) (level i : ℕ) → Subtree text names table level i → (size : ℕ) → size ≡ rows_at table i → (f : List Shown → List ℕ) (before p : Printer) (whole : List ℕ)
-    → Left before whole (f (shown (kids_at text names table i)) ++ bytes ")") p
-    → Fields text names table (place_below (label_at text names table i)) level (i + size) before whole f (i + 1) p
-fields_start text names table level i w size is f before p whole l =
-    rw is
-    (fields text names table (place_below (label_at text names table i)) level (i + rows_at table i) before whole (i + 1) w.below
-    (left_as (ap (λ ks. f ks ++ bytes ")") (kids-are text names table level i w)) l))
+      pub union_again : Fields union_text left p → (after : Printer) → Wrote p (union_field_text (shown_in field)) after → Fields union_text next after
+      union_again v after w =
+          let s = g.start in
+          let a = g.at in
+          let h = v.behind in
+          let d = v.flat in
+          record { behind = omega arith; flat = omega (arith, levels_left left field next g); rest = left_step (union_here v) w }

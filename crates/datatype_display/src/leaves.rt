@@ -1,21 +1,22 @@
 // What stands behind the word of a type that has no types below it, and the parts of fields.
-ghost use Rattle.std.specs.Prelude.{◌≡◌, ◌++◌};
+ghost use Rattle.std.specs.Prelude.{◌≡◌, ◌++◌, true};
 ghost use Rattle.tokenizer.specs.Text.{bytes};
 ghost use Rattle.output.specs.Digits.{digits};
 ghost use Rattle.display_length.specs.Display.{unit_text, scale_text, zone_text, list_name_text};
-ghost use Rattle.datatype_display.specs.Internal.Steps.{Fits, Wrote, Leaf, is_alone, nullability, name_text, comma, text_in};
+ghost use Rattle.display_length.specs.Internal.Nodes.{label_in};
+ghost use Rattle.datatype_display.specs.Internal.Steps.{Fits, Wrote, is_alone, nullability, name_text, comma, text_in};
 
 use crate::write::Printer;
 use datatype::rows::NON_NULL;
-use datatype::{Field, Row, Tree, equal_bytes, kind};
-use display_length::{interval_word, unit_word};
+use datatype::{Field, equal_bytes, kind};
+use display_length::{Node, interval_word, unit_word};
 
 // Whether no types stand below one of a kind.
 #[tactic(auto, unfolding(crate::specs::Internal::Steps::is_alone))]
 pub(crate) fn is_alone(kind: u32) -> bool
     ensures { result ≡ is_alone kind }
 {
-    kind < kind::LIST || (kind::DECIMAL32 <= kind && kind <= kind::DECIMAL256)
+    matches!(kind, kind::NULL..kind::LIST | kind::DECIMAL32..=kind::DECIMAL256)
 }
 
 impl<'a> Printer<'a> {
@@ -80,15 +81,16 @@ impl<'a> Printer<'a> {
     }
 
     // Writes a type that has no types below it.
-    #[tactic(auto, using(crate::proofs::Texts::leaf_parts))]
-    pub(crate) fn put_leaf(&mut self, tree: &Tree<'_>, kind: u32, row: &Row<'_>)
-        requires { Leaf kind row.now × Fits self.old (text_in tree.now row.now) }
-        ensures { Wrote self.old (text_in tree.now row.now) self.new }
+    #[tactic(auto, using(crate::proofs::Texts::leaf_steps), unfolding(crate::specs::Internal::Steps::is_alone))]
+    pub(crate) fn put_leaf(&mut self, kind: u32, node: &Node<'_>)
+        requires { (kind ≡ (label_in node.now).kind) × (is_alone kind ≡ true) × Fits self.old (text_in node.now) }
+        ensures { Wrote self.old (text_in node.now) self.new }
     {
         self.put_kind(kind);
+        let row = node.row();
         let number = row.number();
         match kind {
-            kind::TIMESTAMP => self.put_timestamp(number, row.zone(tree.text)),
+            kind::TIMESTAMP => self.put_timestamp(number, node.zone()),
             kind::TIME32 | kind::TIME64 | kind::DURATION => self.put_enclosed(unit_word(number)),
             kind::INTERVAL => self.put_enclosed(interval_word(number)),
             kind::FIXED_SIZE_BINARY => self.put_fixed_size_binary(number),

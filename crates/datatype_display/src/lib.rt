@@ -6,9 +6,9 @@ ghost use Rattle.std.specs.Prelude.{◌≡◌};
 ghost use Rattle.tokenizer.specs.Answer.{answer_of};
 ghost use Rattle.datatype_display.specs.Print.{print_answer, print_bytes};
 
+use datatype::Tree;
 use datatype::rows::{MAX_LEVELS, MAX_TEXT};
-use datatype::{Row, Tree};
-use display_length::printed_length;
+use display_length::{SoundTree, printed_length};
 use tokenizer::Refusal;
 use write::Printer;
 
@@ -19,6 +19,7 @@ mod words;
 mod write;
 
 // Prints a tree into a lent buffer: its text, and past it what the buffer held before. A refused tree changes nothing.
+#[tactic(auto, using(crate::proofs::Prints::print_steps))]
 pub fn print_data_type(tree: Tree<'_>, out: &mut [u8]) -> Result<usize, Refusal>
     ensures result_value { answer_of result ≡ print_answer tree.entry.text.now tree.entry.names.now tree.entry.rows.now out.old }
     ensures out_after { out.new ≡ print_bytes tree.entry.text.now tree.entry.names.now tree.entry.rows.now out.old }
@@ -28,11 +29,8 @@ pub fn print_data_type(tree: Tree<'_>, out: &mut [u8]) -> Result<usize, Refusal>
     if room < length {
         return Err(Refusal::PrintTooLong);
     }
-    let root = Row {
-        rows: tree.rows,
-        at: 0,
-    };
+    let whole = SoundTree { tree, clean: false };
     let mut printer = Printer { out, at: 0 };
-    printer.put_type(&tree, MAX_LEVELS, &root);
+    printer.put_type(MAX_LEVELS, &whole.root());
     Ok(length)
 }

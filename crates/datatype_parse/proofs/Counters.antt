@@ -39,7 +39,7 @@ module _ (item : ℕ → ℕ → Out Item) (rowless : (at : ℕ) → Holds NoFie
           (ih next (suc rows - rows_in t) (omega arith) (omega arith))
 
 module _ (text : List ℕ) where
-  -- no type begins where no row is left, as is asked below of what reads types
+  -- no type begins where no row is left: what reads types meets the premise `rowless` below
   pub no_row : (level at : ℕ) → Refuses (type_at text level at 0)
   unfolding type_at type_with
   no_row zero at = tt

@@ -11,6 +11,7 @@ use Rattle.datatype.specs.Tree.{Forest, Row, count}
 use Rattle.datatype.specs.Table.{row_words, rows_lent}
 use Rattle.row_table.specs.Sound.{bare}
 use Rattle.subtrees.specs.Parents.{parented}
+use Rattle.subtrees.proofs.ParentSet.{lent_small}
 use Rattle.subtrees.proofs.ParentTree.{count_parented}
 use Rattle.parser.specs.Parse.{Tree, rows_in, single, type_at, first_type}
 use Rattle.parser.proofs.Holds.{Holds, holds_then, holds_if}
@@ -77,10 +78,6 @@ most_to_lend n = omega arith
 
 -- ---- the public reader
 
-lent_most : (words : ℕ) → rows_lent words ≤ 1024
-unfolding rows_lent
-lent_most words = omega arith
-
 -- What is accepted with any rows lent is accepted with rows_to_lend rows or more: the answer and the rows are the same.
 pub enough_lent : (text before before' : List ℕ) (n : ℕ) → rows_to_lend (length text) ≤ rows_lent (length before') → parse_answer text before ≡ done n
     → SameRows text before before' n
@@ -88,7 +85,7 @@ enough_lent text before before' n h e = own_lent text before before' n (held (ac
   where
     held : Accepted text before n → n ≤ rows_lent (length before')
     held t =
-        let l = to-lend text (rows_lent (length before)) t.0 (lent_most (length before)) t.1.0 in
+        let l = to-lend text (rows_lent (length before)) t.0 (lent_small (length before)) t.1.0 in
         let c = t.1.1 in
         omega arith
 

@@ -1,14 +1,14 @@
 -- Runs of sound rows, put together as the reader puts them together: a type over its children, a type made a field, and
 -- a field before the fields that follow it.
 use mathlib.Core.Path.{◌≡◌, sym, subst}
-use mathlib.Core.Bool.{Bool, true, false, not, ◌&&◌, ◌||◌}
+use mathlib.Core.Bool.{Bool, true, false, ◌&&◌, ◌||◌}
 use mathlib.Core.List.{List, [], ◌∷◌, map}
 use Prim.Native.Nat.{ℕ, zero, suc, ◌-◌, ◌≤◌, ◌<◌}
 use native.Mathlib.Omega.{arith}
 use lib.ListN.{length}
-use lib.Dec.{T, ltb, eqb, lt→ltb}
-use Rattle.tokenizer.proofs.Basics.{and_l, and_r, both}
-use Rattle.datatype.specs.Kind.{Shape, kinds, shape_of, has, ids_fit}
+use lib.Dec.{T, ltb, eqb}
+use Rattle.std.proofs.lemmas.Bool.Decides.{nat_tests}
+use Rattle.datatype.specs.Kind.{Shape, kinds, shape_of, ids_fit}
 use Rattle.datatype.specs.Tree.{Forest, ∅, node, count, roots, Row, labels}
 use Rattle.row_table.specs.Sound.{Standing, bare, field, union_field, arity_fits, id_fits, rules_of, rows_fit, is_listed, placed}
 use Rattle.row_table.specs.Internal.Check.{below_of, part_fits, name_ok, zone_ok, own_shape, numbers_fit, own_fits, over_kids, children_fit}
@@ -37,16 +37,13 @@ allow_first : (place : Standing) (x : ℕ) (xs : List ℕ) → T (ids_allow plac
 unfolding ids_fit
 allow_first bare x xs t = tt
 allow_first field x xs t = tt
-allow_first union_field x xs t =
-    let a : Bool = ltb x 128 in
-    let b : Bool = not (has x xs) in
-    both (a && true) true (both a true (and_l a b (and_l (a && b) (ids_fit xs) t)) tt) tt
+allow_first union_field x xs t = grind (arith, nat_tests)
 
 allow_rest : (place : Standing) (x : ℕ) (xs : List ℕ) → T (ids_allow place (x ∷ xs)) → T (ids_allow place xs)
 unfolding ids_fit
 allow_rest bare x xs t = tt
 allow_rest field x xs t = tt
-allow_rest union_field x xs t = and_r (ltb x 128 && not (has x xs)) (ids_fit xs) t
+allow_rest union_field x xs t = grind (arith, nat_tests)
 
 -- the id of a field: 0, or one that is allowed
 pub field_id : (id : ℕ) → id ≡ 0 → T (ids_allow field (id ∷ [])) → T (id_fits field id)
@@ -55,7 +52,7 @@ field_id id e t = rw e tt
 
 pub union_id_lem : (id : ℕ) → T (ids_allow union_field (id ∷ [])) → T (id_fits union_field id)
 unfolding id_fits ids_fit
-union_id_lem id t = and_l (ltb id 128) true (and_l (ltb id 128 && true) true t)
+union_id_lem id t = grind (arith, nat_tests)
 
 module _ (text : List ℕ) where
   -- A name that stands where it may.
@@ -63,18 +60,14 @@ module _ (text : List ℕ) where
   Found n = (eqb n.home 1 && part_fits text n.start n.size) || (eqb n.home 2 && is_listed n.start n.size)
 
   pub found-text : (start size : ℕ) → T (part_fits text start size) → T (Found (record { home = 1; start = start; size = size }))
-  found-text start size t = go (part_fits text start size) t
-    where
-      go : (b : Bool) → T b → T (b || false)
-      go true t = tt
-      go false t = t
+  found-text start size t = grind (arith, nat_tests)
 
   named : (place : Standing) (role : ℕ) (n : Name) → T (is_field place) → T (eqb role 1 || eqb role 2) → T (Found n)
       → T (name_ok text place role n.home n.start n.size)
   unfolding name_ok
   named bare role n p r f = absurd p
-  named field role n p r f = both (eqb role 1 || eqb role 2) (Found n) r f
-  named union_field role n p r f = both (eqb role 1 || eqb role 2) (Found n) r f
+  named field role n p r f = grind (arith, nat_tests)
+  named union_field role n p r f = grind (arith, nat_tests)
 
   -- ---- rows
 
@@ -82,12 +75,7 @@ module _ (text : List ℕ) where
       → T (name_ok text place r.role r.home r.name_start r.name_length) → T (zone_ok text (rules_of (shape_of r.kind)).zoned r.zone_start r.zone_length)
       → T (own_fits text place r)
   unfolding own_fits
-  own place r k n i m z =
-      let a : Bool = ltb r.kind kinds in
-      let b : Bool = numbers_fit r.kind r.number r.scale in
-      let c : Bool = id_fits place r.union_id in
-      let d : Bool = name_ok text place r.role r.home r.name_start r.name_length in
-      both (a && b && c && d) (zone_ok text (rules_of (shape_of r.kind)).zoned r.zone_start r.zone_length) (both (a && b && c) d (both (a && b) c (both a b k n) i) m) z
+  own place r k n i m z = grind (arith, nat_tests)
 
   -- the row of a type made a field's
   own-field : (from to : Standing) (r : Row) (role id : ℕ) (n : Name) → T (is_field to) → T (eqb role 1 || eqb role 2) → T (id_fits to id) → T (Found n)
@@ -134,13 +122,7 @@ module _ (text : List ℕ) where
 
     run-asked : Asked (shape_of k) k param scale zone_start zone_length kids → Run text (below_of k) level kids → Run text bare (suc level) (node row kids ∅)
     unfolding numbers_fit children_fit id_fits name_ok
-    run-asked a below =
-        let b1 : Bool = ltb param (rules_of (shape_of k)).params in
-        let b2 : Bool = ltb scale (rules_of (shape_of k)).scales in
-        let n : T (numbers_fit k param scale) =
-        both (b1 && b2) (own_shape (shape_of k) k param scale) (both b1 b2 (lt→ltb param (rules_of (shape_of k)).params a.params) (lt→ltb scale (rules_of (shape_of k)).scales a.scales)) a.shape in
-        run_in text bare level row kids ∅ (own bare row (lt→ltb k kinds low) n tt tt a.zone) below
-        (both (arity_fits (rules_of (shape_of k)).children (length (roots kids))) (over_kids (shape_of k) kids) a.arity a.over) (run-empty bare (suc level))
+    run-asked a below = run_in text bare level row kids ∅ (own bare row (grind (arith, nat_tests)) (grind (arith, nat_tests)) tt tt a.zone) below (grind (arith, nat_tests)) (run-empty bare (suc level))
 
     pub run-type : (sh : Shape) → shape_of k ≡ sh → Asked sh k param scale zone_start zone_length kids → Run text (rules_of sh).below level kids
         → Run text bare (suc level) (node row kids ∅)

@@ -1,6 +1,6 @@
 -- A whole text: the end of it, and each return of the public reader as a law.
 use Rattle.std.specs.Prelude.{if◌then◌else◌}
-use mathlib.Core.Path.{◌≡◌, refl, sym, ap, ◌∙◌}
+use mathlib.Core.Path.{◌≡◌, refl, sym, ap, ◌∙◌, subst}
 use mathlib.Core.Bool.{Bool, true, false, not, ◌&&◌}
 use mathlib.Core.List.{List, ◌∷◌, ◌++◌}
 use mathlib.Core.Option.{Option, none, some}
@@ -23,6 +23,7 @@ use Rattle.datatype.specs.Tree.{Forest, ∅, node, count, Row}
 use Rattle.datatype.specs.Table.{table_of, rows_lent}
 use Rattle.datatype.proofs.Table.{length_table}
 use Rattle.subtrees.specs.Parents.{parented, parents_set}
+use Rattle.subtrees.proofs.ParentSet.{lent_small}
 use Rattle.subtrees.proofs.ParentTree.{count_parented, first-parents-lent}
 use Rattle.parser.proofs.Holds.{Holds}
 use Rattle.datatype_parse.proofs.ReadSound.{Begun, first_read}
@@ -76,10 +77,6 @@ module _ (text : List ℕ) (at p : ℕ) (e : p ≡ after_spaces text at) where
 
 -- ---- what the public reader answers and leaves
 
-lent_few : (before : List ℕ) → rows_lent (length before) ≤ 1024
-unfolding rows_lent
-lent_few before = omega arith
-
 begun_few : (text : List ℕ) (rows : ℕ) → rows ≤ 1024 → Holds (λ (t : Tree). count (single t) ≤ 1024) (first_type text rows)
 begun_few text rows l = go (first_type text rows) (first_read text rows)
   where
@@ -90,79 +87,65 @@ begun_few text rows l = go (first_type text rows) (first_read text rows)
         let f = h.fits.few in
         omega (arith, count_parented 0 0 (single t), count_parented 0 0 (node h.root h.kids ∅))
 
-module _ (text before after : List ℕ) where
-  -- a tree, from the type that the text begins with
-  abbrev ended : Out Tree → Out (Forest Row)
-  ended o = o >>= (λ t. if text_over text t.next then done (parented (single t)) else refuse 16)
+-- a tree, from the type that the text begins with
+abbrev ended : List ℕ → Out Tree → Out (Forest Row)
+ended text o = o >>= (λ t. if text_over text t.next then done (parented (single t)) else refuse 16)
 
-  abbrev Ends : Out ℕ → Out Tree → Type 0
-  Ends a o = (a ≡ row_count (ended o)) × (after ≡ filled before (ended o))
-
-  refused-ends : (o : Out Tree) (x : ℕ) → refuse x ≡ read_of o → after ≡ rows_of before o → Ends (refuse x) o
-  unfolding read_of rows_of
-  refused-ends (refused y) x e w =
-      let z : ◌≡◌ {A = Refusal} (record { number = x }) y = cc in
-      (ap refused z, w)
-  refused-ends (done t) x e w = absurd (let z : ◌≡◌ {A = ℕ} 0 1 = cc in omega arith)
-
-  -- a type was read, and this is its place and row count
-  module _ (x : Extent) (over : Bool) (l : over ≡ text_over text x.next) where
-    not-refused : (y : Refusal) → done x ≡ refused y → ⊥
-    not-refused y e = let z : ◌≡◌ {A = ℕ} 0 1 = cc in omega arith
-
-    is-extent : (y : Extent) → done x ≡ done y → x ≡ y
-    is-extent y e = cc
-
-    over-ends : (o : Out Tree) (mid : List ℕ) → Holds (λ (t : Tree). count (single t) ≤ 1024) o → done x ≡ read_of o → mid ≡ rows_of before o
-        → after ≡ parents_set mid (min x.used (rows_lent (length mid))) → over ≡ true → Ends (done x.used) o
-    unfolding read_of rows_of
-    over-ends (refused y) mid few e m w b = absurd (not-refused y e)
-    over-ends (done t) mid few e m w b =
-        let s = is-extent (record { next = t.next; used = rows_in t }) e in
-        let z : t.next ≡ x.next = sym (ap (λ (i : Extent). i.next) s) in
-        let c : x.used ≡ rows_in t = ap (λ (i : Extent). i.used) s in
-        let d : x.used ≡ count (single t) = omega arith in
-        let o : text_over text t.next ≡ true = ap (text_over text) z ∙ sym l ∙ b in
-        let rest : List ℕ = drop (length (table_of (single t))) before in
-        let long : length (table_of (parented (single t))) ≡ length (table_of (single t)) = omega (arith, length_table (single t), length_table (parented (single t)), count_parented 0 0 (single t)) in
-        let set : after ≡ table_of (parented (single t)) ++ drop (length (table_of (parented (single t)))) before =
-        w ∙ ap (λ (l : List ℕ). parents_set l (min x.used (rows_lent (length l)))) m
-        ∙ ap (λ (i : ℕ). parents_set (table_of (single t) ++ rest) (min i (rows_lent (length (table_of (single t) ++ rest))))) d
-        ∙ first-parents-lent (single t) rest few
-        ∙ ap (λ (i : ℕ). table_of (parented (single t)) ++ drop i before) (sym long) in
-        (rw o (ap (λ (i : ℕ). done i) (d ∙ sym (count_parented 0 0 (single t)))), rw o set)
-
-    more-ends : (o : Out Tree) → done x ≡ read_of o → after ≡ replicate (length before) 0 → over ≡ false → Ends (refuse 16) o
-    unfolding read_of
-    more-ends (refused y) e w b = absurd (not-refused y e)
-    more-ends (done t) e w b =
-        let z : t.next ≡ x.next = sym (ap (λ (i : Extent). i.next) (is-extent (record { next = t.next; used = rows_in t }) e)) in
-        let o : text_over text t.next ≡ false = ap (text_over text) z ∙ sym l ∙ b in
-        (rw o, rw o w)
-
+module _ (text before : List ℕ) where
   abbrev first : Out Tree
   first = first_type text (rows_lent (length before))
 
   few : Holds (λ (t : Tree). count (single t) ≤ 1024) first
-  few = begun_few text (rows_lent (length before)) (lent_few before)
+  few = begun_few text (rows_lent (length before)) (lent_small (length before))
 
-  abbrev Meant : Out ℕ → Type 0
-  Meant a = (a ≡ parse_answer text before) × (after ≡ parse_rows text before)
+  pub read-refused : (after : List ℕ) (x : ℕ) → refuse x ≡ read_of first → after ≡ rows_of before first → (refuse x ≡ parse_answer text before) × (after ≡ parse_rows text before)
+  unfolding parse parse_answer parse_rows read_of rows_of
+  read-refused after x e w = go first e w
+    where
+      go : (o : Out Tree) → refuse x ≡ read_of o → after ≡ rows_of before o → (refuse x ≡ row_count (ended text o)) × (after ≡ filled before (ended text o))
+      go (refused y) e w = let z : ◌≡◌ {A = Refusal} (record { number = x }) y = cc in (ap refused z, w)
+      go (done t) e w = absurd (let z : ◌≡◌ {A = ℕ} 0 1 = cc in omega arith)
 
-  pub read-refused : (x : ℕ) → refuse x ≡ read_of first → after ≡ rows_of before first → Meant (refuse x)
-  unfolding parse parse_answer parse_rows
-  read-refused x e w = refused-ends first x e w
+  -- a type was read, and this is its place and row count
+  module _ (x : Extent) (e : done x ≡ read_of first) where
+    tree_read : (t : Tree) × (first ≡ done t) × (t.next ≡ x.next) × (x.used ≡ count (single t))
+    unfolding read_of
+    tree_read = go first e
+      where
+        go : (o : Out Tree) → done x ≡ read_of o → (t : Tree) × (o ≡ done t) × (t.next ≡ x.next) × (x.used ≡ count (single t))
+        go (refused y) e = absurd (let z : ◌≡◌ {A = ℕ} 0 1 = cc in omega arith)
+        go (done t) e = let i : x ≡ record { next = t.next; used = rows_in t } = cc in (t, refl, ap (λ (y : Extent). y.next) (sym i), omega (arith, ap (λ (y : Extent). y.used) i))
 
-  module _ (x : Extent) (e : done x ≡ read_of first) (over : Bool) (l : over ≡ text_over text x.next) where
-    pub read_done : (mid : List ℕ) → mid ≡ rows_of before first → after ≡ parents_set mid (min x.used (rows_lent (length mid))) → over ≡ true → Meant (done x.used)
-    unfolding parse parse_answer parse_rows
-    read_done mid m w b = over-ends x over l first mid few e m w b
+    over_there : (b : Bool) → text_over text x.next ≡ b → text_over text tree_read.0.next ≡ b
+    over_there b o = ap (text_over text) tree_read.2 ∙ o
 
-    pub trailing : after ≡ replicate (length before) 0 → over ≡ false → Meant (refuse 16)
-    unfolding parse parse_answer parse_rows
-    trailing w b = more-ends x over l first e w b
+    pub read_answer : (n : ℕ) → n ≡ x.used → text_over text x.next ≡ true → done n ≡ parse_answer text before
+    unfolding parse parse_answer
+    read_answer n z o = rw (tree_read.1, over_there true o) (ap done (z ∙ tree_read.3 ∙ sym (count_parented 0 0 (single tree_read.0))))
+
+    pub read_rows : (after mid : List ℕ) → mid ≡ rows_of before first → after ≡ parents_set mid (min x.used (rows_lent (length mid))) → text_over text x.next ≡ true → after ≡ parse_rows text before
+    unfolding parse parse_rows rows_of
+    read_rows after mid m w o = rw (tree_read.1, over_there true o) (go tree_read.0 (subst (Holds (λ (t : Tree). count (single t) ≤ 1024)) tree_read.1 few) tree_read.3 (m ∙ ap (rows_of before) tree_read.1))
+      where
+        go : (t : Tree) → count (single t) ≤ 1024 → x.used ≡ count (single t) → mid ≡ rows_of before (done t) → after ≡ table_of (parented (single t)) ++ drop (length (table_of (parented (single t)))) before
+        go t l u m =
+            let rest : List ℕ = drop (length (table_of (single t))) before in
+            let long : length (table_of (single t)) ≡ length (table_of (parented (single t))) = omega (arith, length_table (single t), length_table (parented (single t)), count_parented 0 0 (single t)) in
+            w
+            ∙ ap (λ (l : List ℕ). parents_set l (min x.used (rows_lent (length l)))) m
+            ∙ ap (λ (i : ℕ). parents_set (table_of (single t) ++ rest) (min i (rows_lent (length (table_of (single t) ++ rest))))) u
+            ∙ first-parents-lent (single t) rest l
+            ∙ ap (λ (i : ℕ). table_of (parented (single t)) ++ drop i before) long
+
+    pub trailing_answer : text_over text x.next ≡ false → refuse 16 ≡ parse_answer text before
+    unfolding parse parse_answer
+    trailing_answer o = rw (tree_read.1, over_there false o)
+
+    pub trailing_rows : (after : List ℕ) → after ≡ replicate (length before) 0 → text_over text x.next ≡ false → after ≡ parse_rows text before
+    unfolding parse parse_rows
+    trailing_rows after w o = rw (tree_read.1, over_there false o) w
 
 -- what the returns cite
 pub ruleset over_steps = (over-is)
 
-pub ruleset read_steps = (handed_on, read-refused)
+pub ruleset read_steps = (handed_on, read-refused, read_answer, trailing_answer, trailing_rows)

@@ -1,6 +1,8 @@
 -- Bytes that are clean and bytes that are ASCII, which names print in double quotes, and whether these are ASCII: what
 -- `is_clean` and the functions of `names.rt` and `ascii.rt` answer.
 use Rattle.std.specs.Prelude.{if◌then◌else◌}
+use Rattle.std.specs.declared.option.Option.{Option}
+use Rattle.std.specs.declared.option.Option.TheVariants.{Some}
 use mathlib.Core.Path.{◌≡◌, refl, sym, ap, ◌∙◌}
 use mathlib.Core.Bool.{Bool, true, false, not, ◌&&◌, ◌||◌, and-true, or-true, false≢true}
 use mathlib.Core.List.{List, [], ◌∷◌}
@@ -19,19 +21,20 @@ use Rattle.std.proofs.lemmas.List.Recursion.{and_is}
 use Rattle.tokenizer.specs.Text.{all, same, bytes}
 use Rattle.tokenizer.proofs.Basics.{and_l, and_r, both, is_true, of_true, all_take, all_drop}
 use Rattle.datatype.specs.Kind.{run_end_encoded, shape_of}
-use Rattle.datatype.specs.Tree.{depth, Forest, ∅, node, roots, Row, Label, part, name_of, zone_of, label_of, labels}
-use Rattle.datatype.specs.Table.{row_words, tree_of}
+use Rattle.datatype.specs.Tree.{Forest, ∅, node, roots, Row, Label, part, name_of, zone_of, label_of, labels}
+use Rattle.datatype.specs.Table.{row_words, tree_of, word_at}
 use Rattle.row_table.specs.Sound.{is_sound}
-use Rattle.subtrees.specs.Internal.Run.{forest_at}
+use Rattle.subtrees.specs.Internal.Run.{row_at, forest_at}
 use Rattle.datatype.proofs.Tests.{iff_eq}
 use Rattle.row_table.proofs.SoundTree.{sound_tree}
 use Rattle.display_length.specs.PrintedLength.{quotes_names, is_ascii, names_ascii, quoted_ascii}
 use Rattle.display_length.specs.declared.nodes.Node.{Node}
 use Rattle.display_length.specs.declared.nodes.Nodes.{Nodes}
 use Rattle.display_length.specs.Internal.Steps.{row_ascii, is_clean, clean_weight}
-use Rattle.display_length.specs.Internal.Nodes.{label_in, children_in, levels_below, labels_in, rows_in, IsFirst}
+use Rattle.display_length.specs.Nodes.{IsFirst, GivesNode}
+use Rattle.display_length.specs.Internal.Nodes.{label_in, children_in, labels_in}
 use Rattle.display_length.specs.Display.{default_names}
-use Rattle.display_length.proofs.NodeLaws.{none-left, all_labels}
+use Rattle.display_length.proofs.NodeLaws.{none-left, first_labels, given, all_labels}
 
 -- ---- bytes
 
@@ -98,6 +101,10 @@ module _ (n : Node) (kids : List Label) where
   unfolding row_ascii
   row_ascii_is = refl
 
+-- a node's name, by the row's words
+abbrev pub name_in : Node → List ℕ
+name_in n = name_of n.whole.now.tree.text.now n.whole.now.tree.names.now (word_at n.whole.now.tree.rows.now n.at 6) (word_at n.whole.now.tree.rows.now n.at 7) (word_at n.whole.now.tree.rows.now n.at 8)
+
 -- the first of nodes side by side and those that are left, or none
 module _ (ns : Nodes) where
   pub pair_none : ns.start ≡ ns.end → quotes_names run_end_encoded (roots (labels_in ns)) ≡ false
@@ -111,27 +118,31 @@ module _ (ns : Nodes) where
   unfolding quoted_ascii
   quoted_none e = rw (none-left ns e)
 
-  module _ (n : Node) (left : Nodes) (f : IsFirst ns n left) where
-    pub pair_one : left.start ≡ left.end → quotes_names run_end_encoded (roots (labels_in ns)) ≡ false
+  module _ (r : Option Node) (left : Nodes) (g : GivesNode ns r left) (n : Node) (is : r ≡ Some n) where
+    pub pair_one : left.start ≡ left.end → false ≡ quotes_names run_end_encoded (roots (labels_in ns))
     unfolding quotes_names
-    pair_one e = rw (f.labels, none-left left e)
+    pair_one e = rw (first_labels ns n left (given ns r left g n is), none-left left e)
 
-    pub pair_two : (m : Node) (more : Nodes) → IsFirst left m more → quotes_names run_end_encoded (roots (labels_in ns)) ≡ not (same (label_in n).name (bytes "run_ends") && same (label_in m).name (bytes "values"))
-    unfolding quotes_names default_names
-    pair_two m more g = rw (f.labels, g.labels)
+    pub pair_two : (q : Option Node) (more : Nodes) → GivesNode left q more → (m : Node) → q ≡ Some m → (s t : List ℕ) → s ≡ name_in n → t ≡ name_in m
+        → (d : Bool) → d ≡ (same s (bytes "run_ends") && same t (bytes "values")) → not d ≡ quotes_names run_end_encoded (roots (labels_in ns))
+    unfolding quotes_names default_names label_of row_at
+    pair_two q more h m so s t e f d k = rw (first_labels ns n left (given ns r left g n is), first_labels left m more (given left q more h m so), k, e, f)
 
-    pub names_first : names_ascii (roots (labels_in ns)) ≡ (is_ascii (label_in n).name && names_ascii (roots (labels_in left)))
-    names_first = rw f.labels
+    -- a name tells that not all are ASCII, or the others tell
+    module _ (all : Bool) (so : all ≡ names_ascii (roots (labels_in ns))) (s : List ℕ) (name : s ≡ name_in n) (b : Bool) (test : MatchBool b (IsAscii s) (IsNotAscii s)) where
+      names_first : all ≡ (b && names_ascii (roots (labels_in left)))
+      unfolding label_of row_at
+      names_first = rw (so, first_labels ns n left (given ns r left g n is), ascii_is s b test, name)
 
-    pub quoted_first : quoted_ascii (labels_in ns) ≡ (row_ascii (label_in n) (roots (children_in n)) && quoted_ascii (children_in n) && quoted_ascii (labels_in left))
-    unfolding quoted_ascii row_ascii
-    quoted_first = rw f.labels
+      pub names-no : b ≡ false → false ≡ all
+      names-no e = rw (names_first, e)
 
-    pub levels_left : depth (rows_in left) ≤ depth (rows_in ns)
-    levels_left = let d = f.levels in omega arith
+      pub names-rest : b ≡ true → all ≡ names_ascii (roots (labels_in left))
+      names-rest e = rw (names_first, e)
 
-    pub levels_first : levels_below n + 1 ≤ depth (rows_in ns)
-    levels_first = let d = f.levels in omega arith
+  pub quoted_first : (n : Node) (left : Nodes) → IsFirst ns n left → quoted_ascii (labels_in ns) ≡ (row_ascii (label_in n) (roots (children_in n)) && quoted_ascii (children_in n) && quoted_ascii (labels_in left))
+  unfolding quoted_ascii row_ascii
+  quoted_first n left f = rw (first_labels ns n left f)
 
 -- ---- a text whose bytes all pass a test
 

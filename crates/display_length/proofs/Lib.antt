@@ -3,7 +3,6 @@ pub mod AsciiLaws
 pub mod StringLaws
 pub mod WordLaws
 pub mod LengthLaws
-pub mod KindShapes
 pub mod NodeLaws
 pub mod CleanLaws
 pub mod TreeLaws

@@ -1,20 +1,29 @@
 -- Nodes side by side: the first of them and those that are left, and the nodes of a whole tree.
-use mathlib.Core.Path.{◌≡◌, refl, sym, ap, ◌∙◌}
-use mathlib.Core.List.{List}
-use Prim.Native.Nat.{ℕ, suc, ◌+◌, ◌-◌, ◌*◌, ◌/◌, ◌≤◌, max}
+use Rattle.std.specs.declared.option.Option.{Option}
+use Rattle.std.specs.declared.option.Option.TheVariants.{None, Some}
+use mathlib.Core.Path.{◌≡◌, refl, sym, ap, ◌∙◌, subst}
+use mathlib.Core.List.{List, ◌++◌}
+use Prim.Native.Nat.{ℕ, zero, suc, ◌+◌, ◌-◌, ◌*◌, ◌/◌, ◌≤◌, ◌<◌, max}
+use native.Mathlib.Decide.{dec_lt}
 use native.Mathlib.Omega.{arith}
-use lib.ListN.{length}
+use lib.ListN.{length, get_or, get_or-append}
+use lib.Seq.{get_or-append-add, get_or-append_right}
 use lib.Dec.{T}
-use Rattle.datatype.specs.Tree.{∅, node, count, depth, name_of, zone_of, label_of, labels}
-use Rattle.datatype.specs.Table.{row_words, tree_of, rows_at, word_at}
+use Rattle.datatype.specs.Kind.{kinds}
+use Rattle.datatype.specs.Tree.{Forest, ∅, node, count, depth, Row, name_of, zone_of, label_of, labels}
+use Rattle.datatype.specs.Table.{row_words, words_of, table_of, tree_of, rows_at, word_at}
+use Rattle.datatype.proofs.Table.{length_table, table_view}
 use Rattle.subtrees.specs.Internal.Run.{row_at, forest_at, Nests}
-use Rattle.row_table.specs.Sound.{is_sound}
+use Rattle.row_table.specs.Sound.{Standing, bare, rows_fit, is_sound}
 use Rattle.subtrees.proofs.Runs.{Turn, turn, forest_none}
-use Rattle.row_table.proofs.SoundTree.{SoundTree, sound_tree, sound-count, sound-nests, sound-forest, sound-labels}
+use Rattle.row_table.proofs.SoundTree.{RowFits, rules_at, rows_fit_lem, SoundTree, sound_tree, sound-count, sound-nests, sound-forest, sound-labels}
 use Rattle.row_table.proofs.Walks.{labels-turn}
+use Rattle.display_length.specs.declared.nodes.SoundTree.{SoundTree as Whole}
+use Rattle.display_length.specs.declared.nodes.Node.{Node}
 use Rattle.display_length.specs.declared.nodes.Nodes.{Nodes}
-use Rattle.display_length.specs.Internal.Steps.{label_at, kids_at, depth_below, labels_of}
-use Rattle.display_length.specs.Internal.Nodes.{labels_in}
+use Rattle.display_length.specs.Nodes.{IsFirst, GivesNode}
+use Rattle.display_length.specs.Internal.Steps.{label_at, depth_below, labels_of}
+use Rattle.display_length.specs.Internal.Nodes.{label_in, children_in, levels_below, labels_in, rows_in}
 
 -- ---- a row's label, by the words that the code reads
 
@@ -53,30 +62,72 @@ pub none-left : (ns : Nodes) → ns.start ≡ ns.end → labels_in ns ≡ ∅
 unfolding labels
 none-left ns e = let z : ns.end - ns.start ≡ 0 = omega arith in rw (z, forest_none ns.whole.now.tree.rows.now ns.start)
 
-module _ (table : List ℕ) (start end : ℕ) (nests : Nests table start (end - start)) (ordered : start ≤ end) (some : start ≡ end → ⊥) where
-  pub first-turn : Turn table start end
-  first-turn = turn table start end nests (omega arith)
+module _ (ns : Nodes) (some : ns.start ≡ ns.end → ⊥) where
+  next-turn : Turn ns.whole.now.tree.rows.now ns.start ns.end
+  next-turn = let o = ns.ordered in turn ns.whole.now.tree.rows.now ns.start ns.end ns.nests (omega arith)
 
-  module _ (s : ℕ) (is : s ≡ rows_at table start) where
-    pub first-within : start + s ≤ end
-    first-within = let w = first-turn.within in omega arith
+  pub next-some : 1 ≤ rows_at ns.whole.now.tree.rows.now ns.start
+  next-some = next-turn.some-rows
 
-    pub first-rest : Nests table (start + s) (end - (start + s))
-    first-rest = rw is first-turn.rest
+  pub next-nests : Nests ns.whole.now.tree.rows.now (ns.start + 1) (ns.start + rows_at ns.whole.now.tree.rows.now ns.start - (ns.start + 1))
+  next-nests = next-turn.kids
 
-    pub first-labels : (text names : List ℕ) → labels_of text names table start end ≡ node (label_at text names table start) (kids_at text names table start) (labels_of text names table (start + s) end)
-    first-labels text names = rw is (labels-turn text names table start end first-turn)
+  module _ (s : ℕ) (is : s ≡ rows_at ns.whole.now.tree.rows.now ns.start) where
+    pub next-within : ns.start + s ≤ ns.end
+    next-within = let w = next-turn.within in omega arith
 
-    pub first-levels : depth (forest_at table start (end - start)) ≡ max (suc (depth_below table start)) (depth (forest_at table (start + s) (end - (start + s))))
-    first-levels = rw is (go first-turn)
-      where
-        go : Turn table start end → depth (forest_at table start (end - start)) ≡ max (suc (depth_below table start)) (depth (forest_at table (start + rows_at table start) (end - (start + rows_at table start))))
-        go t = rw t.is
+    pub next-rest : Nests ns.whole.now.tree.rows.now (ns.start + s) (ns.end - (ns.start + s))
+    next-rest = rw is next-turn.rest
+
+module _ (ns : Nodes) (n : Node) (left : Nodes) (f : IsFirst ns n left) where
+  abbrev table : List ℕ
+  table = ns.whole.now.tree.rows.now
+
+  here : Turn table ns.start ns.end
+  here =
+      let r = n.some_rows in
+      let o = left.ordered in
+      let a = f.at in
+      let s = f.start in
+      let e = f.end in
+      turn table ns.start ns.end ns.nests (omega arith)
+
+  pub first_labels : labels_in ns ≡ node (label_in n) (children_in n) (labels_in left)
+  first_labels = rw (f.of_left, f.start, f.end, f.of, f.at) (labels-turn ns.whole.now.tree.text.now ns.whole.now.tree.names.now table ns.start ns.end here)
+
+  pub first_levels : depth (rows_in ns) ≡ max (suc (levels_below n)) (depth (rows_in left))
+  first_levels = rw (f.of_left, f.start, f.end, f.of, f.at) (go here)
+    where
+      go : Turn table ns.start ns.end → depth (forest_at table ns.start (ns.end - ns.start)) ≡ max (suc (depth_below table ns.start)) (depth (forest_at table (ns.start + rows_at table ns.start) (ns.end - (ns.start + rows_at table ns.start))))
+      go t = rw t.is
+
+  pub levels_left : depth (rows_in left) ≤ depth (rows_in ns)
+  levels_left = let d = first_levels in omega arith
+
+  pub levels_first : levels_below n + 1 ≤ depth (rows_in ns)
+  levels_first = let d = first_levels in omega arith
+
+-- what the iterator gives, by its answer
+pub given : (ns : Nodes) (r : Option Node) (left : Nodes) → GivesNode ns r left → (n : Node) → r ≡ Some n → IsFirst ns n left
+given ns None left g n e = absurd (let z : ◌≡◌ {A = Option Node} None (Some n) = e in cc)
+given ns (Some m) left g n e = let z : m ≡ n = cc in subst (λ (k : Node). IsFirst ns k left) z g
+
+pub ended : (ns : Nodes) (r : Option Node) (left : Nodes) → GivesNode ns r left → r ≡ None → ns.start ≡ ns.end
+ended ns None left g e = g.0
+ended ns (Some m) left g e = absurd (let z : ◌≡◌ {A = Option Node} (Some m) None = e in cc)
+
+-- the levels that a walk goes down
+module _ (ns : Nodes) (r : Option Node) (left : Nodes) (g : GivesNode ns r left) (n : Node) (is : r ≡ Some n) (level : ℕ) (flat : depth (rows_in ns) ≤ level) where
+  pub level-some : 1 ≤ level
+  level-some = let d = levels_first ns n left (given ns r left g n is) in omega arith
+
+  pub level-below : (kids : Nodes) → kids.whole ≡ n.whole → kids.start ≡ n.at + 1 → kids.end ≡ n.at + rows_at n.whole.now.tree.rows.now n.at → depth (rows_in kids) ≤ level - 1
+  level-below kids of start end = let d = levels_first ns n left (given ns r left g n is) in rw (of, start, end) (omega arith)
 
 -- ---- a sound tree
 
 module _ (text names table : List ℕ) (sound : T (is_sound text names table)) where
-  abbrev tree : SoundTree text names table
+  abbrev pub tree : SoundTree text names table
   tree = sound_tree text names table sound
 
   pub few_rows : length table ≤ row_words * 1024
@@ -99,3 +150,58 @@ module _ (text names table : List ℕ) (sound : T (is_sound text names table)) w
 
   pub all_turn : Turn table 0 (length table / row_words)
   all_turn = let c = sound-count text names table tree in turn table 0 (length table / row_words) all_nest (omega arith)
+
+module _ (w : Whole) where
+  root-turn : Turn w.tree.rows.now 0 (length w.tree.rows.now / row_words)
+  root-turn = all_turn w.tree.text.now w.tree.names.now w.tree.rows.now w.sound
+
+  pub root-some : 1 ≤ rows_at w.tree.rows.now 0
+  root-some = root-turn.some-rows
+
+  pub root-nests : Nests w.tree.rows.now (0 + 1) (0 + rows_at w.tree.rows.now 0 - (0 + 1))
+  root-nests = root-turn.kids
+
+-- ---- each row's kind
+
+-- of a row, those below it and those behind
+in_node : (r : Row) (n : ℕ) (a b : List ℕ) (p q : ℕ) → length a ≡ row_words * p → r.kind < kinds → ((i : ℕ) → i < p → word_at a i 0 < kinds) → ((i : ℕ) → i < q → word_at b i 0 < kinds)
+    → (i : ℕ) → i < suc p + q → word_at (words_of r n ++ (a ++ b)) i 0 < kinds
+unfolding words_of
+in_node r n a b p q long k below behind zero h = k
+in_node r n a b p q long k below behind (suc i) h = elim (dec_lt i p) [ yes l ↦ inner l | no l ↦ outer (omega arith) ]
+  where
+    past : word_at (words_of r n ++ (a ++ b)) (suc i) 0 ≡ word_at (a ++ b) i 0
+    past =
+        let e : row_words * suc i + 0 ≡ length (words_of r n) + (row_words * i + 0) = omega arith in
+        ap (λ (k : ℕ). get_or (words_of r n ++ (a ++ b)) k 0) e ∙ get_or-append-add (words_of r n) (a ++ b) (row_words * i + 0) 0
+
+    inner : i < p → word_at (words_of r n ++ (a ++ b)) (suc i) 0 < kinds
+    inner l = rw (past, get_or-append a b 0 (row_words * i + 0) (omega arith)) (below i l)
+
+    outer : p ≤ i → word_at (words_of r n ++ (a ++ b)) (suc i) 0 < kinds
+    outer l =
+        let e : row_words * i + 0 - length a ≡ row_words * (i - p) + 0 = omega arith in
+        rw (past, get_or-append_right a b (row_words * i + 0) 0 (omega arith), e) (behind (i - p) (omega arith))
+
+all_known : (text names : List ℕ) (place : Standing) (f : Forest Row) → T (rows_fit place (labels text names f)) → (i : ℕ) → i < count f → word_at (table_of f) i 0 < kinds
+unfolding labels label_of table_of
+all_known text names place ∅ t i h = absurd (omega arith)
+all_known text names place (node r kids next) t i h = go (rows_fit_lem place (label_of text names r) (labels text names kids) (labels text names next) t) (λ p u. all_known text names p kids u) (λ u. all_known text names place next u) i h
+  where
+    go : RowFits place (label_of text names r) (labels text names kids) × T (rows_fit (rules_at (label_of text names r)).below (labels text names kids)) × T (rows_fit place (labels text names next))
+        → ((p : Standing) → T (rows_fit p (labels text names kids)) → (i : ℕ) → i < count kids → word_at (table_of kids) i 0 < kinds)
+        → (T (rows_fit place (labels text names next)) → (i : ℕ) → i < count next → word_at (table_of next) i 0 < kinds)
+        → (i : ℕ) → i < suc (count kids) + count next → word_at (words_of r (suc (count kids)) ++ (table_of kids ++ table_of next)) i 0 < kinds
+    go (f, b, n) below behind = in_node r (suc (count kids)) (table_of kids) (table_of next) (count kids) (count next) (length_table kids) f.kind (below (rules_at (label_of text names r)).below b) (behind n)
+
+pub node_kind : (n : Node) → word_at n.whole.now.tree.rows.now n.at 0 < kinds
+node_kind n =
+    let text = n.whole.now.tree.text.now in
+    let names = n.whole.now.tree.names.now in
+    let table = n.whole.now.tree.rows.now in
+    let t = sound_tree text names table n.whole.now.sound in
+    let f = node t.root t.kids ∅ in
+    let c = sound-count text names table t in
+    let r = n.nests.room in
+    let s = n.some_rows in
+    rw (← table_view table f t.view) (all_known text names bare f t.fits n.at (omega arith))

@@ -1,13 +1,15 @@
 -- What the goals of each function cite: the laws of what it reads and calls, and of what it answers.
 use Rattle.std.proofs.lemmas.Bool.Decides.{nat_tests}
 use Rattle.tokenizer.proofs.Basics.{of_true}
-use Rattle.display_length.proofs.AsciiLaws.{clean_greatest, greatest-go, greatest-end, ascii_is, row_ascii_is, pair_none, pair_one, pair_two, levels_left, levels_first, names_none, names_first, quoted_none, quoted_first, tree-clean, tree-ascii}
-use Rattle.display_length.proofs.KindShapes.{shape_by}
-use Rattle.display_length.proofs.NodeLaws.{role_said, id_said, number_said, scale_said, name_said, zone_said, all_labels, all_nest, all_levels}
+use Rattle.datatype.proofs.KindShapes.{shape_by}
+use Rattle.output.proofs.DigitLaws.{digits_few}
+use Rattle.display_length.proofs.AsciiLaws.{clean_greatest, greatest-go, greatest-end, ascii_is, row_ascii_is, pair_none, pair_one, pair_two, tree-clean, tree-ascii}
+use Rattle.display_length.proofs.CleanLaws.{clean_name, clean_zone}
+use Rattle.display_length.proofs.NodeLaws.{root-some, root-nests, role_said, id_said, number_said, scale_said, name_said, zone_said, next-some, next-nests, next-within, next-rest, all_labels, all_nest, all_levels}
 use Rattle.display_length.proofs.PrintedLaws.{printed-17, printed-18, printed-length}
 use Rattle.display_length.proofs.StringLaws.{sum_few, quoted-counted, quoted-clean, quoted_few, zone-none, zone-some, zone_few, list_name_few}
 use Rattle.display_length.proofs.TreeLaws.{single_length, single_word, tree-length, root_levels}
-use Rattle.display_length.proofs.WordLaws.{word_few, unit_few, interval_few, mode_few, sorted_few, digits_few, scale_few, comma_few, nullity_few}
+use Rattle.display_length.proofs.WordLaws.{word_few, unit_few, interval_few, mode_few, sorted_few, scale_few, comma_few, nullity_few}
 
 -- ---- strings
 
@@ -19,7 +21,9 @@ pub ruleset zone_steps = (zone-none, zone-some, quoted_few)
 
 -- ---- a row's own bytes
 
-pub ruleset part_steps = (name_said, zone_said)
+pub ruleset name_steps = (name_said, clean_name)
+
+pub ruleset zone_part_steps = (zone_said, clean_zone)
 
 pub ruleset behind_steps = (shape_by, nat_tests, number_said, scale_said, unit_few, interval_few, mode_few, sorted_few, digits_few, scale_few, zone_few)
 
@@ -31,13 +35,7 @@ pub ruleset around_steps = (shape_by, nat_tests, role_said, id_said, comma_few, 
 
 pub ruleset pair_steps = (pair_none, pair_one, pair_two)
 
-pub ruleset by_shape = (shape_by, nat_tests)
-
-pub ruleset names_ascii_steps = (ascii_is, names_none, names_first)
-
-pub ruleset row_ascii_steps = (ascii_is, row_ascii_is)
-
-pub ruleset quoted_ascii_steps = (quoted_none, quoted_first, levels_left, levels_first)
+pub ruleset row_ascii_steps = (zone_said, ascii_is, row_ascii_is)
 
 pub ruleset tree_ascii_steps = (ascii_is, tree-clean, tree-ascii, all_labels, all_nest, all_levels)
 
@@ -45,6 +43,8 @@ pub ruleset tree_ascii_steps = (ascii_is, tree-clean, tree-ascii, all_labels, al
 
 pub ruleset single_steps = (single_length, single_word, word_few)
 
-pub ruleset printed_steps = (of_true, printed-17, printed-18, printed-length)
+pub ruleset printed_steps = (of_true, printed-17, printed-18, printed-length, root_levels, tree-length)
 
-pub ruleset root_steps = (tree-length, root_levels)
+pub ruleset root_steps = (root-some, root-nests)
+
+pub ruleset next_steps = (next-some, next-nests, next-within, next-rest)

@@ -8,21 +8,23 @@ use lib.ListN.{length}
 use lib.Dec.{T, eqb}
 use borrow.Author.Tests.{eq-eqb, ne_eqb}
 use Rattle.datatype.specs.Kind.{Shape, shape_of, is_word}
-use Rattle.datatype.proofs.ShapeLaws.{word_leaf}
-use Rattle.datatype.specs.Tree.{Forest, ∅, node, roots, depth, label_of, labels}
+use Rattle.datatype.proofs.KindShapes.{word_leaf}
+use Rattle.datatype.specs.Tree.{Forest, ∅, node, roots, depth, labels}
 use Rattle.datatype.specs.Table.{row_words, tree_of, rows_at}
 use Rattle.subtrees.specs.Internal.Run.{row_at, forest_at}
 use Rattle.row_table.specs.Sound.{bare, is_sound}
 use Rattle.subtrees.proofs.Runs.{forest_none}
-use Rattle.row_table.proofs.SoundTree.{SoundTree, sound_tree, sound-labels}
+use Rattle.row_table.proofs.SoundTree.{sound-labels}
+use Rattle.display_length.specs.declared.nodes.SoundTree.{SoundTree as Whole}
 use Rattle.display_length.specs.declared.nodes.Node.{Node}
 use Rattle.display_length.specs.declared.nodes.Nodes.{Nodes}
 use Rattle.display_length.specs.Display.{display_length}
 use Rattle.display_length.specs.PrintedLength.{quotes_names}
 use Rattle.display_length.specs.Internal.Steps.{word_length, behind_length, row_length, around_length, children_length, type_length, length_at}
-use Rattle.display_length.specs.Internal.Nodes.{label_in, children_in, levels_below, length_in, rows_in, labels_in, IsFirst}
+use Rattle.display_length.specs.Nodes.{IsFirst}
+use Rattle.display_length.specs.Internal.Nodes.{label_in, children_in, levels_below, length_in, rows_in, labels_in}
 use Rattle.display_length.proofs.LengthLaws.{type_length_lem}
-use Rattle.display_length.proofs.NodeLaws.{none-left, few_rows, all_forest, all_turn}
+use Rattle.display_length.proofs.NodeLaws.{none-left, first_labels, levels_left, tree, few_rows, all_forest, all_turn}
 
 -- ---- the children's lengths
 
@@ -40,9 +42,11 @@ pub record Counting (s : Shape) (q : Bool) (level : ℕ) (n : Node) (total : ℕ
   pub so : total + children_length s q (eqb left.start (n.at + 1)) (labels_in left) ≡ length_in n
 
 module _ (s : Shape) (q : Bool) (level : ℕ) (n : Node) (total : ℕ) where
-  pub counting-start : (kids : Nodes) → labels_in kids ≡ children_in n → depth (rows_in kids) ≡ levels_below n → kids.start ≡ n.at + 1 → kids.end ≡ n.at + size n
+  pub counting-start : (kids : Nodes) → kids.whole ≡ n.whole → kids.start ≡ n.at + 1 → kids.end ≡ n.at + size n
       → levels_below n < level → s ≡ shape_of (label_in n).kind → q ≡ quotes_names s (roots (labels_in kids)) → total ≡ row_length (label_in n) → total ≤ 100000 → Counting s q level n total kids
-  counting-start kids ls ds st en flat sh quotes own l =
+  counting-start kids of st en flat sh quotes own l =
+      let ls : labels_in kids ≡ children_in n = rw (of, st, en) refl in
+      let ds : depth (rows_in kids) ≡ levels_below n = rw (of, st, en) refl in
       let f = few_rows n.whole.now.tree.text.now n.whole.now.tree.names.now n.whole.now.tree.rows.now n.whole.now.sound in
       let r = n.nests.room in
       let o = n.some_rows in
@@ -71,10 +75,10 @@ module _ (s : Shape) (q : Bool) (level : ℕ) (n : Node) (total : ℕ) where
           let k = v.few in
           let h = v.behind in
           let c = v.most in
-          let d = f.levels in
+          let d = levels_left left child next f in
           let g = v.flat in
           let t = f.at in
-          let r = f.rows in
+          let r = f.start in
           let e = f.end in
           record {
             upto = omega arith;
@@ -86,7 +90,7 @@ module _ (s : Shape) (q : Bool) (level : ℕ) (n : Node) (total : ℕ) where
           }
         where
           here : children_length s q (eqb left.start (n.at + 1)) (labels_in left) ≡ a + b + children_length s q false (labels_in next)
-          here = rw (f.labels, x, y, is, f.at)
+          here = rw (first_labels left child next f, x, y, is, f.at)
 
           whole : total + (a + b + children_length s q false (labels_in next)) ≡ length_in n
           whole = rw here at v.so
@@ -115,23 +119,42 @@ kids_of_lem ∅ = ∅
 kids_of_lem (node r kids next) = kids
 
 module _ (text names table : List ℕ) (sound : T (is_sound text names table)) where
-  abbrev tree : SoundTree text names table
-  tree = sound_tree text names table sound
-
-  same-tree : node (row_at table 0) (forest_at table (0 + 1) (0 + rows_at table 0 - (0 + 1))) (forest_at table (0 + rows_at table 0) (length table / row_words - (0 + rows_at table 0))) ≡ node tree.root tree.kids ∅
+  same-tree : node (row_at table 0) (forest_at table (0 + 1) (0 + rows_at table 0 - (0 + 1))) (forest_at table (0 + rows_at table 0) (length table / row_words - (0 + rows_at table 0))) ≡ node (tree text names table sound).root (tree text names table sound).kids ∅
   same-tree = sym (all_turn text names table sound).is ∙ all_forest text names table sound
 
-  root_is : row_at table 0 ≡ tree.root
+  root_is : row_at table 0 ≡ (tree text names table sound).root
   root_is = ap (root_of (row_at table 0)) same-tree
 
-  kids-are : forest_at table (0 + 1) (0 + rows_at table 0 - (0 + 1)) ≡ tree.kids
+  kids-are : forest_at table (0 + 1) (0 + rows_at table 0 - (0 + 1)) ≡ (tree text names table sound).kids
   kids-are = ap kids_of_lem same-tree
 
-  pub root_levels : depth (forest_at table (0 + 1) (0 + rows_at table 0 - (0 + 1))) < 64
-  root_levels = let l = tree.levels in rw kids-are (omega arith)
+-- the node that all others stand below
+module _ (n : Node) (first : n.at ≡ 0) where
+  pub root_levels : levels_below n < 64
+  root_levels =
+      let w = n.whole.now in
+      let t = tree w.tree.text.now w.tree.names.now w.tree.rows.now w.sound in
+      let l = t.levels in
+      rw (first, kids-are w.tree.text.now w.tree.names.now w.tree.rows.now w.sound) (omega arith)
 
-  pub tree-length : length_at text names table 0 ≡ display_length (tree_of text names table)
-  unfolding length_at labels
-  tree-length =
-      rw (root_is, kids-are, sound-labels text names table tree)
-      (type_length_lem bare (label_of text names tree.root) (labels text names tree.kids) tree.fits)
+  module _ (w : Whole) (of : n.whole.now ≡ w) where
+    abbrev text : List ℕ
+    text = w.tree.text.now
+
+    abbrev names : List ℕ
+    names = w.tree.names.now
+
+    abbrev table : List ℕ
+    table = w.tree.rows.now
+
+    pub root-tree : tree_of text names table ≡ node (label_in n) (children_in n) ∅
+    unfolding labels
+    root-tree =
+        rw (of, first, root_is text names table w.sound, kids-are text names table w.sound)
+        (sound-labels text names table (tree text names table w.sound))
+
+    pub tree-length : length_in n ≡ display_length (tree_of text names table)
+    unfolding length_at labels
+    tree-length =
+        rw root-tree
+        (type_length_lem bare (label_in n) (children_in n) (rw (← root-tree, sound-labels text names table (tree text names table w.sound)) (tree text names table w.sound).fits))

@@ -1,9 +1,9 @@
 -- The words that numbers stand for: what `kind_word` answers for a number that is no kind, and how long the words of
 -- `words.rt` and the marks of `around.rt` can be.
-use mathlib.Core.Path.{◌≡◌, refl, sym}
+use mathlib.Core.Path.{◌≡◌, refl}
 use Rattle.std.specs.Prelude.{if◌then◌else◌}
-use mathlib.Core.Bool.{Bool, true, false, ◌||◌}
-use mathlib.Core.List.{List, [], ◌∷◌}
+use mathlib.Core.Bool.{Bool, true, false}
+use mathlib.Core.List.{[]}
 use Prim.Native.Nat.{ℕ, zero, suc, ◌+◌, ◌-◌, ◌≤◌, ◌<◌}
 use native.Mathlib.Decide.{dec_lt}
 use native.Mathlib.Omega.{arith}
@@ -11,12 +11,10 @@ use lib.ListN.{length}
 use lib.Dec.{T, leb, eqb, leb→le}
 use borrow.Author.Tests.{lt-ltb, le-ltb}
 use Rattle.tokenizer.specs.Words.{words}
-use Rattle.tokenizer.proofs.Listed.{NoneOf}
-use Rattle.datatype.specs.Kind.{kinds, has}
+use Rattle.datatype.specs.Kind.{kinds}
 use Rattle.datatype.proofs.Tests.{all_below, below_at}
-use Rattle.datatype.proofs.ShapeLaws.{else_value}
 use Rattle.output.specs.Digits.{digits}
-use Rattle.output.proofs.DigitLaws.{digits_at_most}
+use Rattle.output.proofs.DigitLaws.{digits_few}
 use Rattle.display_length.specs.Display.{kind_word, kind_text, unit_text, interval_text, mode_text, sorted_text, scale_text}
 use Rattle.display_length.specs.Internal.Steps.{word_length, comma_length, nullity_length}
 
@@ -37,26 +35,10 @@ word_few k =
       | no h ↦ (let e = no_word k (omega arith) in omega arith)
     ]
 
--- the kinds, one by one; what is none of them has no word
-abbrev pub every : List ℕ
-every =
-    0 ∷ 1 ∷ 2 ∷ 3 ∷ 4 ∷ 5 ∷ 6 ∷ 7 ∷ 8 ∷ 9 ∷ 10 ∷ 11 ∷ 12 ∷ 13 ∷ 14 ∷ 15 ∷ 16 ∷ 17 ∷ 18 ∷ 19 ∷ 20 ∷ 21 ∷ 22 ∷ 23 ∷ 24 ∷ 25 ∷ 26 ∷ 27 ∷ 28 ∷ 29 ∷ 30
-    ∷ 31 ∷ 32 ∷ 33 ∷ 34 ∷ 35 ∷ 36 ∷ 37 ∷ 38 ∷ 39 ∷ 40 ∷ []
-
-all_kinds : T (all_below kinds (λ k. has k every || eqb (word_length k) 0))
-unfolding word_length kind_text kind_word words
-all_kinds = tt
-
-word_rest : (k : ℕ) → NoneOf k (Unit {0}) every → 0 ≡ word_length k
-word_rest k n = elim (dec_lt k kinds) [ yes h ↦ else_value word_length 0 every all_kinds k h n | no h ↦ sym (no_word k (omega arith)) ]
-
-none_long : (s : List ℕ) → 0 ≡ length s → [] ≡ s
-none_long [] e = refl
-none_long (c ∷ s) e = absurd (omega arith)
-
-pub word_rest_text : (k : ℕ) → NoneOf k (Unit {0}) every → [] ≡ kind_text k
-unfolding word_length
-word_rest_text k n = none_long (kind_text k) (word_rest k n)
+-- what is no kind has no word
+pub none_text : (k : ℕ) → kinds ≤ k → [] ≡ kind_text k
+unfolding kind_text
+none_text k h = rw (le-ltb k kinds h)
 
 -- a kind has its word
 pub kind_text_is : (k : ℕ) → k < kinds → kind_text k ≡ kind_word k
@@ -89,9 +71,6 @@ sorted_few zero = omega arith
 sorted_few (suc k) = omega arith
 
 -- ---- numbers
-
-pub digits_few : (n : ℕ) → n < 4294967296 → length (digits n) ≤ 10
-digits_few n h = digits_at_most 9 n (omega arith)
 
 module _ (s : ℕ) where
   pub scale-negative : s < 128 → (r : ℕ) → r ≡ length (digits (128 - s)) → 1 + r ≡ length (scale_text s)

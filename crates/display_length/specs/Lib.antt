@@ -1,3 +1,4 @@
 pub mod Display
 pub mod PrintedLength
+pub mod Nodes
 pub mod Internal

@@ -39,7 +39,7 @@ impl Node<'_> {
         if !quotes {
             return nullability;
         }
-        self.name().quoted_length() + b": ".len() + nullability
+        self.name_part().quoted_length() + b": ".len() + nullability
     }
 
     // What stands around its type, by its parent's kind.
@@ -60,7 +60,7 @@ impl Node<'_> {
             | kind::FIXED_SIZE_LIST
             | kind::LARGE_LIST
             | kind::LARGE_LIST_VIEW => {
-                nullability_length(self.row().role()) + self.name().list_name_length()
+                nullability_length(self.row().role()) + self.name_part().list_name_length()
             }
             _ => 0,
         }

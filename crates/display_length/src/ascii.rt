@@ -15,7 +15,7 @@ impl Node<'_> {
     fn row_ascii(&self) -> bool
         ensures { result ≡ row_ascii (label_in self.now) (roots (children_in self.now)) }
     {
-        if !self.zone().bytes.is_ascii() {
+        if !self.zone().is_ascii() {
             return false;
         }
         let children = self.children();
@@ -24,13 +24,14 @@ impl Node<'_> {
 }
 
 impl Nodes<'_> {
-    // Whether their names are ASCII.
-    #[tactic(auto, using(crate::proofs::Rules::names_ascii_steps))]
+    // Whether their names are ASCII. Here and below a `for`: by `all` it was not proved, since that answers for a run of the
+    // iterator, of which the laws have a step at a time.
+    #[tactic(auto, using(crate::proofs::AsciiLaws::names_none))]
     fn names_ascii(self) -> bool
         ensures { result ≡ names_ascii (roots (labels_in self.entry)) }
     {
         for node in self {
-            if !node.name().bytes.is_ascii() {
+            if !node.name().is_ascii() {
                 return false;
             }
         }
@@ -38,7 +39,7 @@ impl Nodes<'_> {
     }
 
     // Whether what they print in double quotes, with at most so many levels, is ASCII.
-    #[tactic(auto, using(crate::proofs::Rules::quoted_ascii_steps))]
+    #[tactic(auto, using(crate::proofs::AsciiLaws::quoted_none))]
     fn quoted_ascii(self, level: usize) -> bool
         requires { depth (rows_in self) ≤ level }
         ensures { result ≡ quoted_ascii (labels_in self.entry) }

@@ -6,7 +6,6 @@ ghost use Rattle.std.specs.Prelude.{◌≡◌};
 ghost use Rattle.tokenizer.specs.Answer.{answer_of};
 ghost use Rattle.display_length.specs.PrintedLength.{printed_length};
 
-use crate::nodes::SoundTree;
 use crate::strings::is_clean;
 use datatype::Tree;
 use datatype::rows::MAX_LEVELS;
@@ -23,6 +22,7 @@ mod tree;
 mod words;
 
 pub use names::are_default_names;
+pub use nodes::{Node, Nodes, SoundTree};
 pub use words::{interval_word, kind_word, mode_word, sorted_word, unit_word};
 
 // How many bytes a tree prints.

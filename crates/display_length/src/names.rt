@@ -30,11 +30,11 @@ impl Nodes<'_> {
         let Some(values) = self.next() else {
             return false;
         };
-        !are_default_names(run_ends.name().bytes, values.name().bytes)
+        !are_default_names(run_ends.name(), values.name())
     }
 
     // Whether they print their names in double quotes below a row of a kind.
-    #[tactic(auto, using(crate::proofs::Rules::by_shape), unfolding(crate::specs::PrintedLength::quotes_names))]
+    #[tactic(auto, using(datatype::proofs::KindShapes::by_shape), unfolding(crate::specs::PrintedLength::quotes_names))]
     pub(crate) fn quotes_names(self, kind: u32) -> bool
         ensures { result ≡ quotes_names (shape_of kind) (roots (labels_in self.entry)) }
     {

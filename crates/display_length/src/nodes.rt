@@ -1,5 +1,5 @@
 // A sound tree's rows: each with those below it is a node, and nodes side by side are walked one by one.
-ghost use Rattle.std.specs.Prelude.{◌≡◌, ◌+◌, ◌-◌, ◌≤◌, ◌<◌, T, true};
+ghost use Rattle.std.specs.Prelude.{◌≡◌, ◌+◌, ◌-◌, ◌≤◌, T, true};
 ghost use Rattle.tokenizer.specs.Text.{all};
 ghost use Rattle.datatype.specs.Table.{rows_at};
 ghost use Rattle.subtrees.specs.Internal.Run.{Nests};
@@ -9,56 +9,52 @@ ghost use Rattle.display_length.specs.Internal.Steps.{is_clean};
 use crate::strings::Part;
 use datatype::{Row, Tree};
 
-// A sound tree, and whether its text is known to be clean.
+// A sound tree, and whether its text is known to be clean. No `Option` of the text: its bytes count either way.
 #[derive(Clone, Copy)]
-pub(crate) struct SoundTree<'a> {
-    pub(crate) tree: Tree<'a>,
-    pub(crate) clean: bool,
+pub struct SoundTree<'a> {
+    pub tree: Tree<'a>,
+    pub clean: bool,
     ghost sound: { T (is_sound tree.text.now tree.names.now tree.rows.now) },
     ghost clean_text: { clean ≡ true → T (all is_clean tree.text.now) },
 }
 
 // A row of a sound tree, with the rows below it.
 #[derive(Clone, Copy)]
-pub(crate) struct Node<'a> {
-    pub(crate) whole: &'a SoundTree<'a>,
-    pub(crate) at: usize,
+pub struct Node<'a> {
+    pub whole: &'a SoundTree<'a>,
+    pub at: usize,
     ghost some_rows: { 1 ≤ rows_at whole.now.tree.rows.now at },
     ghost nests: { Nests whole.now.tree.rows.now (at + 1) (at + rows_at whole.now.tree.rows.now at - (at + 1)) },
 }
 
 // The nodes side by side in the rows from start to end.
 #[derive(Clone, Copy)]
-pub(crate) struct Nodes<'a> {
-    pub(crate) whole: &'a SoundTree<'a>,
-    pub(crate) start: usize,
-    pub(crate) end: usize,
+pub struct Nodes<'a> {
+    pub whole: &'a SoundTree<'a>,
+    pub start: usize,
+    pub end: usize,
     ghost ordered: { start ≤ end },
     ghost nests: { Nests whole.now.tree.rows.now start (end - start) },
 }
 
 impl SoundTree<'_> {
-    ghost use Rattle.datatype.specs.Limits.{max_levels};
-    ghost use Rattle.datatype.specs.Table.{tree_of};
-    ghost use Rattle.display_length.specs.Display.{display_length};
-    ghost use Rattle.display_length.specs.Internal.Nodes.{levels_below, length_in};
-
     // The row that all others stand below.
     #[tactic(auto, using(crate::proofs::Rules::root_steps))]
-    pub(crate) fn root(&self) -> Node<'_>
-        ensures length { length_in result ≡ display_length (tree_of self.now.tree.text.now self.now.tree.names.now self.now.tree.rows.now) }
-        ensures levels { levels_below result < max_levels }
+    pub fn root(&self) -> Node<'_>
+        ensures whole { result.whole.now ≡ self.now }
+        ensures at { result.at ≡ 0 }
     {
         Node { whole: self, at: 0 }
     }
 }
 
 impl<'a> Node<'a> {
-    ghost use Rattle.datatype.specs.Tree.{depth};
-    ghost use Rattle.display_length.specs.Internal.Nodes.{label_in, children_in, levels_below, labels_in, rows_in};
+    ghost use Rattle.datatype.specs.Tree.{name_of, zone_of};
+    ghost use Rattle.datatype.specs.Table.{word_at};
+    ghost use Rattle.display_length.specs.Internal.Nodes.{label_in};
 
     // The row itself, by which its words are read.
-    pub(crate) fn row(&self) -> Row<'a>
+    pub fn row(&self) -> Row<'a>
         ensures rows { result.rows.now ≡ self.now.whole.now.tree.rows.now }
         ensures at { result.at ≡ self.now.at }
     {
@@ -85,9 +81,8 @@ impl<'a> Node<'a> {
 
     // The nodes right below it.
     #[tactic(auto, using(crate::proofs::NodeLaws::few_rows))]
-    pub(crate) fn children(&self) -> Nodes<'a>
-        ensures labels { labels_in result ≡ children_in self.now }
-        ensures levels { depth (rows_in result) ≡ levels_below self.now }
+    pub fn children(&self) -> Nodes<'a>
+        ensures whole { result.whole ≡ self.now.whole }
         ensures start { result.start ≡ self.now.at + 1 }
         ensures end { result.end ≡ self.now.at + rows_at self.now.whole.now.tree.rows.now self.now.at }
     {
@@ -98,24 +93,39 @@ impl<'a> Node<'a> {
         }
     }
 
-    #[tactic(auto, using(crate::proofs::Rules::part_steps))]
-    pub(crate) fn name(&self) -> Part<'a>
+    pub fn name(&self) -> &'a [u8]
+        ensures { result.now ≡ name_of self.now.whole.now.tree.text.now self.now.whole.now.tree.names.now (word_at self.now.whole.now.tree.rows.now self.now.at 6) (word_at self.now.whole.now.tree.rows.now self.now.at 7) (word_at self.now.whole.now.tree.rows.now self.now.at 8) }
+    {
+        let whole = self.whole;
+        self.row().name(&whole.tree)
+    }
+
+    pub fn zone(&self) -> &'a [u8]
+        ensures { result.now ≡ zone_of self.now.whole.now.tree.text.now (word_at self.now.whole.now.tree.rows.now self.now.at 9) (word_at self.now.whole.now.tree.rows.now self.now.at 10) }
+    {
+        let whole = self.whole;
+        self.row().zone(whole.tree.text)
+    }
+
+    // The same, with whether they are known to be clean.
+    #[tactic(auto, using(crate::proofs::Rules::name_steps))]
+    pub(crate) fn name_part(&self) -> Part<'a>
         ensures { result.bytes.now ≡ (label_in self.now).name }
     {
         let whole = self.whole;
         Part {
-            bytes: self.row().name(whole.tree.text, whole.tree.names),
+            bytes: self.name(),
             clean: whole.clean,
         }
     }
 
-    #[tactic(auto, using(crate::proofs::Rules::part_steps))]
-    pub(crate) fn zone(&self) -> Part<'a>
+    #[tactic(auto, using(crate::proofs::Rules::zone_part_steps))]
+    pub(crate) fn zone_part(&self) -> Part<'a>
         ensures { result.bytes.now ≡ (label_in self.now).zone }
     {
         let whole = self.whole;
         Part {
-            bytes: self.row().zone(whole.tree.text),
+            bytes: self.zone(),
             clean: whole.clean,
         }
     }
@@ -123,7 +133,7 @@ impl<'a> Node<'a> {
 
 impl<'a> Iterator for Nodes<'a> {
     ghost use Rattle.std.specs.Iterator.{at_most};
-    ghost use Rattle.display_length.specs.Internal.Nodes.{GivesNode};
+    ghost use Rattle.display_length.specs.Nodes.{GivesNode};
 
     type Item = Node<'a>;
 
@@ -132,6 +142,7 @@ impl<'a> Iterator for Nodes<'a> {
     ghost remaining = { λ nodes. at_most (nodes.end - nodes.start) };
 
     // The next node stands behind the rows below this one.
+    #[tactic(auto, using(crate::proofs::Rules::next_steps))]
     fn next(&mut self) -> Option<Node<'a>> {
         if self.start == self.end {
             return None;

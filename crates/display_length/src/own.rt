@@ -19,7 +19,9 @@ impl Node<'_> {
         let row = self.row();
         let number = row.number();
         match kind {
-            kind::TIMESTAMP => b"()".len() + unit_word(number).len() + self.zone().zone_length(),
+            kind::TIMESTAMP => b"()".len()
+                + unit_word(number).len()
+                + self.zone_part().zone_length(),
             kind::TIME32 | kind::TIME64 | kind::DURATION => b"()".len() + unit_word(number).len(),
             kind::INTERVAL => b"()".len() + interval_word(number).len(),
             kind::FIXED_SIZE_BINARY => b"()".len() + digits_length(number),

@@ -49,7 +49,7 @@ fn escaped_length(s: &[u8]) -> usize
     s.iter().map(|c| escape_length(*c)).sum()
 }
 
-// A part of the text or of the name list, and whether it is known to be clean.
+// A part of the text or of the name list, and whether it is known to be clean. No `Option`: its bytes count either way.
 #[derive(Clone, Copy)]
 pub(crate) struct Part<'a> {
     pub(crate) bytes: &'a [u8],

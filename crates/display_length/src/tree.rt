@@ -1,4 +1,5 @@
-// The walk: a row's type is its own bytes and its children's types.
+// The walk: a row's type is its own bytes and its children's types. What is known of the level stands in each contract, here
+// and in ascii.rt: it is a number of the walk and not of the node, and another at each call.
 ghost use Rattle.std.specs.Prelude.{◌≡◌, ◌+◌, ◌*◌, ◌≤◌, ◌<◌};
 ghost use Rattle.datatype.specs.Table.{rows_at};
 ghost use Rattle.display_length.specs.Internal.Nodes.{levels_below, length_in};
@@ -11,6 +12,7 @@ impl Node<'_> {
     // How many bytes the row's type has, with all that stands below it. No sum overflows: a row has at most 100,000
     // bytes of its own, and as many around its type.
     #[cycle(lengths)]
+    #[tactic(auto, using(crate::proofs::NodeLaws::levels_first))]
     fn nested_length(&self, level: usize) -> usize
         requires { levels_below self.now < level }
         ensures value { result ≡ length_in self.now }

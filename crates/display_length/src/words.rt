@@ -7,8 +7,8 @@ ghost use Rattle.display_length.specs.Internal.Steps.{word_length};
 use datatype::kind;
 use output::digits_length;
 
-// A kind's word; what is no kind has none.
-#[tactic(auto, using(crate::proofs::WordLaws::word_rest_text), unfolding(crate::specs::Display::kind_text, crate::specs::Display::kind_word, tokenizer::specs::Words::words))]
+// A kind's word. What is no kind has none: no bytes, as its definition has it, and no `Option`, since no caller asks.
+#[tactic(auto, using(crate::proofs::WordLaws::none_text), unfolding(crate::specs::Display::kind_text, crate::specs::Display::kind_word, tokenizer::specs::Words::words))]
 pub fn kind_word(kind: u32) -> &'static [u8]
     ensures { result.now ≡ kind_text kind }
 {
@@ -91,7 +91,8 @@ pub fn interval_word(unit: u32) -> &'static [u8]
     }
 }
 
-// The word of a union's mode; a number above 0 is Dense.
+// The word of a union's mode; a number above 0 is Dense. It and the next differ in their words alone: one for both would
+// take the two words.
 #[tactic(auto, unfolding(crate::specs::Display::mode_text))]
 pub fn mode_word(mode: u32) -> &'static [u8]
     ensures { result.now ≡ mode_text mode }
@@ -114,7 +115,7 @@ pub fn sorted_word(sorted: u32) -> &'static [u8]
 }
 
 // How long a decimal's scale is, of which the word is 128 more.
-#[tactic(auto, using(crate::proofs::WordLaws::digits_few), unfolding(crate::specs::Display::scale_text))]
+#[tactic(auto, using(output::proofs::DigitLaws::digits_few), unfolding(crate::specs::Display::scale_text))]
 pub(crate) fn scale_length(scale: u32) -> usize
     ensures { result ≡ length (scale_text scale) }
 {

@@ -9,11 +9,11 @@ use lib.ListN.{length, take, drop, get_or}
 use lib.Seq.{drop-cons}
 use Rattle.std.proofs.lemmas.List.{drop_all}
 use Rattle.std.specs.Simd.{first_chunks}
-use lib.Dec.{T, leb, eqb}
+use lib.Dec.{T, leb}
 use Rattle.std.proofs.lemmas.Bool.Decides.{nat_tests}
 use Rattle.tokenizer.specs.Answer.{done, refuse}
 use Rattle.tokenizer.proofs.Basics.{of_true}
-use Rattle.datatype.specs.Kind.{Shape, leaf, timestamp, time, interval, fixed, list, fixed_list, struct, union, dictionary, decimal, mapping, run_end_encoded, shape_of}
+use Rattle.datatype.specs.Kind.{shape_of}
 use Rattle.datatype.specs.Tree.{Forest, ∅, node, count, roots, Row, label_of, labels}
 use Rattle.datatype.specs.Table.{row_words, words_of}
 use Rattle.row_table.specs.Sound.{Standing, bare, arity_fits, rules_of, rows_fit, is_sound}
@@ -21,7 +21,7 @@ use Rattle.subtrees.specs.Equal.{first_rows, whole_rows}
 use Rattle.layout.specs.Layout.{Asked, anything, key, run_end, kind_allowed, asked_of_first, first, broken_row, verdict_of}
 use Rattle.layout.specs.Internal.Scan.{scan}
 use Rattle.datatype.proofs.Table.{table_view}
-use Rattle.row_table.proofs.RuleLaws.{by_number}
+use Rattle.datatype.proofs.KindShapes.{shape_by}
 use Rattle.row_table.proofs.SoundTree.{rows_fit_lem, SoundTree, sound_tree, sound-labels}
 use Rattle.subtrees.proofs.RowList.{rows_of, whole_rows_lem, count_labels}
 
@@ -40,31 +40,6 @@ module _ (k : ℕ) where
   pub allowed-3 : (leb 3 k && leb k 5) ≡ kind_allowed run_end k
   unfolding kind_allowed
   allowed-3 = refl
-
-asked_number : Asked → ℕ
-asked_number anything = 0
-asked_number key = 1
-asked_number run_end = 2
-
-same_asked : (a b : Asked) → T (eqb (asked_number a) (asked_number b)) → a ≡ b
-unfolding asked_number
-same_asked anything anything t = refl
-same_asked anything key t = absurd t
-same_asked anything run_end t = absurd t
-same_asked key anything t = absurd t
-same_asked key key t = refl
-same_asked key run_end t = absurd t
-same_asked run_end anything t = absurd t
-same_asked run_end key t = absurd t
-same_asked run_end run_end t = refl
-
--- what is asked, by the kind's number
-abbrev asked_at : ℕ → Asked
-asked_at k = if eqb k 34 then key else (if eqb k 40 then run_end else anything)
-
-pub asked_by : (k : ℕ) → asked_of_first (shape_of k) ≡ asked_at k
-unfolding asked_number asked_of_first shape_of
-asked_by k = by_number (λ a b. eqb (asked_number a) (asked_number b)) same_asked asked_of_first asked_at tt (λ k h. grind (arith, nat_tests)) k
 
 -- ---- the loop over the rows
 
@@ -93,21 +68,9 @@ pub ruleset scans = (whole_are, scan_end, scan_step)
 -- ---- the scan and the tree
 
 -- a kind with no children asks nothing of a first child
-none_asks : (s : Shape) → T (arity_fits (rules_of s).children 0) → asked_of_first s ≡ anything
+none_asks : (k : ℕ) → T (arity_fits (rules_of (shape_of k)).children 0) → asked_of_first (shape_of k) ≡ anything
 unfolding rules_of arity_fits asked_of_first
-none_asks leaf t = refl
-none_asks timestamp t = refl
-none_asks time t = refl
-none_asks interval t = refl
-none_asks fixed t = refl
-none_asks list t = refl
-none_asks fixed_list t = refl
-none_asks struct t = refl
-none_asks union t = refl
-none_asks dictionary t = absurd t
-none_asks decimal t = refl
-none_asks mapping t = refl
-none_asks run_end_encoded t = absurd t
+none_asks k = rw (shape_by k) (grind (arith, nat_tests))
 
 first_first : (a b c : Option ℕ) → first (first a b) c ≡ first a (first b c)
 first_first None b c = refl
@@ -154,7 +117,7 @@ module _ (text names : List ℕ) where
   nothing-below : (place : Standing) (r : Row) (k n : Forest Row) → T (rows_fit place (labels text names (node r k n))) → k ≡ ∅ → asked_of_first (shape_of r.kind) ≡ anything
   unfolding labels label_of
   nothing-below place r k n t e =
-      none_asks (shape_of r.kind) (subst (λ (g : Forest Row). T (arity_fits (rules_of (shape_of r.kind)).children (length (roots (labels text names g))))) e (rows_fit_lem place (label_of text names r) (labels text names k) (labels text names n) t).0.arity)
+      none_asks r.kind (subst (λ (g : Forest Row). T (arity_fits (rules_of (shape_of r.kind)).children (length (roots (labels text names g))))) e (rows_fit_lem place (label_of text names r) (labels text names k) (labels text names n) t).0.arity)
 
   scan-run : (place : Standing) (f : Forest Row) (asked : Asked) (i : ℕ) (rest : List (List ℕ)) → T (rows_fit place (labels text names f)) → (f ≡ ∅ → asked ≡ anything) → Found asked i f rest
   unfolding Found broken_row labels

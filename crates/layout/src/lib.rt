@@ -37,7 +37,7 @@ impl Asked {
     }
 
     // What is asked of the first child of a row of a kind.
-    #[tactic(auto, using(crate::proofs::LayoutLaws::asked_by))]
+    #[tactic(auto, using(datatype::proofs::KindShapes::by_shape), unfolding(crate::specs::Layout::asked_of_first))]
     fn of_first_child(kind: u32) -> Asked
         ensures { asked_of result ≡ asked_of_first (shape_of kind) }
     {

@@ -2,14 +2,15 @@
 -- they are.
 use mathlib.Core.Path.{◌≡◌, sym, ap, ◌∙◌}
 use mathlib.Core.List.{List, [], ◌∷◌, ◌++◌}
-use Prim.Native.Nat.{ℕ, zero, suc, ◌+◌, ◌/◌, ◌%◌, ◌^◌, ◌*◌, ◌≤◌, ◌<◌}
+use Prim.Native.Nat.{ℕ, zero, suc, min, ◌+◌, ◌/◌, ◌%◌, ◌^◌, ◌*◌, ◌≤◌, ◌<◌}
 use native.Mathlib.Decide.{dec_lt}
 use native.Mathlib.Omega.{arith}
-use lib.ListN.{length, length-append}
+use lib.ListN.{length, set, length-append}
 use lib.Seq.{sets}
 use borrow.Author.Tests.{lt-ltb, le-ltb}
 use Rattle.datatype.proofs.Sets.{sets_append}
 use Rattle.output.specs.Digits.{digits_with, digits}
+use Rattle.output.proofs.Writes.{set_capped}
 
 pub digits_enough : (m n k : ℕ) → k < m → k < n → digits_with m k ≡ digits_with n k
 unfolding digits_with
@@ -65,20 +66,19 @@ digits_at_most (suc k) n h =
       | no l ↦ let e = digits_length_lem n (omega arith) in let f = digits_at_most k (n / 10) (omega arith) in omega arith
     ]
 
-pub one_more_lem : (n m : ℕ) → 10 ≤ n → m ≡ length (digits (n / 10)) → m + 1 ≡ length (digits n)
-one_more_lem n m h e = let f = digits_length_lem n h in omega arith
+pub digits_few : (n : ℕ) → n < 4294967296 → length (digits n) ≤ 10
+digits_few n h = digits_at_most 9 n (omega arith)
 
 -- ---- writing them
 
-module _ (before : List ℕ) (at n : ℕ) where
-  pub put_one : (after : List ℕ) → n < 10 → after ≡ sets before at ((48 + n) ∷ []) → after ≡ sets before at (digits n)
-  put_one after h e = e ∙ ap (λ (s : List ℕ). sets before at s) (sym (digits_one n h))
+-- The last digit is stored behind the others: a place that is capped is past the end, as the place itself.
+pub put_more : (before : List ℕ) (at n m place : ℕ) (between : List ℕ) → 10 ≤ n → m ≡ length (digits (n / 10)) → between ≡ sets before at (digits (n / 10))
+    → length between ≤ 18446744073709551615 → place ≡ min (at + m) 18446744073709551615 → sets before at (digits n) ≡ set between place (48 + n % 10)
+put_more before at n m place between h l e f p =
+    ap (λ (s : List ℕ). sets before at s) (digits_more n h)
+    ∙ sym (sets_append before at (digits (n / 10)) ((48 + n % 10) ∷ []))
+    ∙ ap (λ (k : ℕ). set (sets before at (digits (n / 10))) (at + k) (48 + n % 10)) (sym l)
+    ∙ ap (λ (b : List ℕ). set b (at + m) (48 + n % 10)) (sym e)
+    ∙ sym (set_capped between place (at + m) _ (48 + n % 10) f p)
 
-  pub put-more : (m : ℕ) (between after : List ℕ) → 10 ≤ n → m ≡ length (digits (n / 10)) → between ≡ sets before at (digits (n / 10)) → after ≡ sets between (at + m) ((48 + n % 10) ∷ [])
-      → after ≡ sets before at (digits n)
-  put-more m between after h l e f =
-      f
-      ∙ ap (λ (b : List ℕ). sets b (at + m) ((48 + n % 10) ∷ [])) e
-      ∙ ap (λ (k : ℕ). sets (sets before at (digits (n / 10))) (at + k) ((48 + n % 10) ∷ [])) l
-      ∙ sets_append before at (digits (n / 10)) ((48 + n % 10) ∷ [])
-      ∙ ap (λ (s : List ℕ). sets before at s) (sym (digits_more n h))
+pub ruleset digit_steps = (digits_one, digits_length_lem, digits_few, put_more)

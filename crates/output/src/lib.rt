@@ -27,7 +27,9 @@ pub fn put_byte(out: &mut [u8], at: usize, c: u8)
     }
 }
 
-// Writes a number in decimal digits at a place, and answers how many they are.
+// Writes a number in decimal digits at a place, and answers how many they are. By hand: the library's `itoa` writes into an
+// array of 40 bytes, and document 02 [4] lets a function that writes output have none longer than 32.
+#[tactic(auto, using(crate::proofs::DigitLaws::digit_steps))]
 pub fn put_digits(out: &mut [u8], at: usize, n: u32) -> usize
     ensures answer { result ≡ length (digits n) }
     ensures bytes { out.new ≡ sets out.old at (digits n) }

@@ -12,10 +12,10 @@ use Rattle.subtrees.proofs.UnionLaws.{type_ids_fit_lem}
 use Rattle.subtrees.proofs.EntryLaws.{entries_nest}
 use Rattle.subtrees.proofs.Runs.{Is, nests_is, forest_is}
 use Rattle.tokenizer.specs.Answer.{Out}
-use Rattle.parser.specs.Parse.{Tree, Fields}
+use Rattle.parser.specs.Parse.{Tree}
 use Rattle.parser.specs.Internal.Steps.{Stored}
 use Rattle.parser.proofs.Stores.{first_words, same_length}
-use Rattle.parser.proofs.Answers.{GotTree, GotFields}
+use Rattle.parser.proofs.Matched.{GotTree}
 
 -- what was stored is there
 stored_is : (f : Forest Row) (n : ℕ) (before after : List ℕ) → Stored f before after → n ≡ count f → Is after 0 (n - 0) f
@@ -33,10 +33,8 @@ module _ (o : Out Tree) (n k : ℕ) (before after : List ℕ) (g : GotTree o n k
       let is = stored_is (node g.row g.kids ∅) k before after g.stored (omega arith) in
       entries_nest after 0 k (nests_is after 0 (k - 0) (node g.row g.kids ∅) is) (omega arith) ∙ ap entries_of (forest_is after 0 (k - 0) (node g.row g.kids ∅) is)
 
-module _ (o : Out Fields) (n k : ℕ) (before after : List ℕ) (g : GotFields o n k before after) where
-  -- the ids of the rows are those of the trees
-  pub ids-read : type_ids_fit after 0 k ≡ ids_fit (map (λ r. r.union_id) (roots g.trees))
-  ids-read =
-      let is = stored_is g.trees k before after g.stored g.rows in
-      type_ids_fit_lem after 0 k (nests_is after 0 (k - 0) g.trees is) (omega arith)
-      ∙ ap (λ (f : Forest Row). ids_fit (map (λ r. r.union_id) (roots f))) (forest_is after 0 (k - 0) g.trees is)
+-- the ids of the rows are those of the trees
+pub ids-read : (f : Forest Row) (k : ℕ) (before after : List ℕ) → Stored f before after → k ≡ count f → type_ids_fit after 0 k ≡ ids_fit (map (λ r. r.union_id) (roots f))
+ids-read f k before after s e =
+    let is = stored_is f k before after s e in
+    type_ids_fit_lem after 0 k (nests_is after 0 (k - 0) f is) (omega arith) ∙ ap (λ (f : Forest Row). ids_fit (map (λ r. r.union_id) (roots f))) (forest_is after 0 (k - 0) f is)

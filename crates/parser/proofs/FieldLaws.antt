@@ -18,7 +18,7 @@ use Rattle.tokenizer.specs.Token.{Standing, lparen, rparen, comma, colon, double
 use Rattle.datatype.specs.Tree.{Forest, ∅, node, count, Row}
 use Rattle.parser.specs.Parse.{Tree, Fields, end, last, more, run_ends, values, id_of, need, stands, role_at, after_role, signed_byte_at, close_at, field_at, default_field, named_run_ends, default_run_ends, run_end_fields, struct_item, union_field, union_item}
 use Rattle.parser.specs.Internal.Steps.{integer_of, extent, rows_left, Stored, Meets, MeetsFields, FieldWords}
-use Rattle.parser.proofs.Answers.{Read, behind, GotTree, GotNumber, got_integer}
+use Rattle.parser.proofs.Matched.{Read, behind, GotTree, GotNumber, got_integer}
 use Rattle.parser.proofs.Looks.{needed-stands, refused-stands}
 use Rattle.parser.proofs.Values.{id-is}
 use Rattle.parser.proofs.Readers.{meets-done, rest_of, pair_stored, default-1, default-is, default-tree}

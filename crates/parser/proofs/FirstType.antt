@@ -18,7 +18,7 @@ use Rattle.datatype.proofs.Table.{length_table}
 use Rattle.parser.specs.Parse.{type_at, first_type, read_of, rows_of}
 use Rattle.parser.specs.Internal.Steps.{extent, Room, rows_left, Meets}
 use Rattle.parser.specs.declared.Extent.{Extent}
-use Rattle.parser.proofs.Answers.{Read, got-tree, lost-tree}
+use Rattle.parser.proofs.Matched.{Read, got-tree, lost-tree}
 use Rattle.parser.proofs.Readers.{meets-refused, meets-further}
 
 -- ---- the text as a whole
@@ -72,10 +72,17 @@ module _ (text before : List ℕ) where
 
   module _ (after : List ℕ) where
     -- what the public function leaves
-    pub first-refused : (e : R.Refusal) (cleared : List ℕ) → Meets (first_type text rows) before (Err e) after → cleared ≡ replicate (length before) 0
-        → (refuse (number_of e) ≡ read_of (first_type text rows)) × (cleared ≡ rows_of before (first_type text rows))
-    unfolding read_of rows_of
-    first-refused e cleared h w = let f = lost-tree before after (first_type text rows) e h in (rw f, rw f w)
+    module _ (e : R.Refusal) (h : Meets (first_type text rows) before (Err e) after) where
+      lost : first_type text rows ≡ refuse (number_of e)
+      lost = lost-tree before after (first_type text rows) e h
+
+      pub refused-answer : refuse (number_of e) ≡ read_of (first_type text rows)
+      unfolding read_of
+      refused-answer = rw lost
+
+      pub refused-rows : (cleared : List ℕ) → cleared ≡ replicate (length before) 0 → cleared ≡ rows_of before (first_type text rows)
+      unfolding rows_of
+      refused-rows cleared w = rw lost w
 
     pub first_read : (e : Extent) → Meets (first_type text rows) before (Ok e) after
         → (done e ≡ read_of (first_type text rows)) × (after ≡ rows_of before (first_type text rows))

@@ -1,6 +1,6 @@
 pub mod Holds
 pub mod Stores
-pub mod Answers
+pub mod Matched
 pub mod Looks
 pub mod TokenLaws
 pub mod ZoneLaws

@@ -1,7 +1,6 @@
 -- A token that is needed stands there, and one that is refused does not.
-use Rattle.std.specs.Prelude.{if◌then◌else◌}
 use mathlib.Core.Path.{◌≡◌, refl}
-use mathlib.Core.Bool.{Bool, true, false}
+use mathlib.Core.Bool.{true, false}
 use mathlib.Core.List.{List}
 use Prim.Native.Nat.{ℕ}
 use native.Mathlib.Omega.{arith}
@@ -13,19 +12,11 @@ use Rattle.parser.specs.Parse.{refusal_of, need, stands}
 module _ (text : List ℕ) (sort at : ℕ) where
   pub needed-stands : (t : Standing) → need text sort at ≡ done t → stands text sort at ≡ true
   unfolding need stands
-  needed-stands t = go (eqb (sort_of (token_at text at).kind) sort)
-    where
-      go : (b : Bool) → (if b then done (token_at text at) else refuse (refusal_of (token_at text at).kind)) ≡ done t → b ≡ true
-      go true e = refl
-      go false e = absurd (let z : ◌≡◌ {A = ℕ} 0 1 = cc in omega arith)
+  needed-stands t e = grind arith
 
   pub refused-stands : (r : Refusal) → need text sort at ≡ refused r → stands text sort at ≡ false
   unfolding need stands
-  refused-stands r = go (eqb (sort_of (token_at text at).kind) sort)
-    where
-      go : (b : Bool) → (if b then done (token_at text at) else refuse (refusal_of (token_at text at).kind)) ≡ refused r → b ≡ false
-      go true e = absurd (let z : ◌≡◌ {A = ℕ} 0 1 = cc in omega arith)
-      go false e = refl
+  refused-stands r e = grind arith
 
   -- a token of the sort, and one of another
   pub need-is : eqb (sort_of (token_at text at).kind) sort ≡ true → need text sort at ≡ done (token_at text at)

@@ -14,7 +14,7 @@ use Rattle.datatype.specs.Table.{row_words}
 use Rattle.parser.specs.Parse.{Tree, item, bare_row, field_row, need, number_in, close_at, field_at, list_field, fixed_list_field, entries_at, run_end_fields, list_at, fixed_size_list_at, dictionary_at, map_at, run_end_encoded_at}
 use Rattle.parser.specs.Internal.Steps.{word_of, Meets, Closed, FieldWords, rows_left}
 use Rattle.parser.proofs.Stores.{rows_from, with_rows, as_field}
-use Rattle.parser.proofs.Answers.{Read, behind, GotWord, GotTree, GotFields, got_word}
+use Rattle.parser.proofs.Matched.{Read, behind, GotWord, GotTree, GotFields, got_word}
 use Rattle.parser.proofs.Readers.{closes-over, rest_of, pair_stored}
 use Rattle.parser.specs.declared.ReadValue.{ReadValue}
 use Rattle.parser.proofs.Looks.{needed-stands, refused-stands}

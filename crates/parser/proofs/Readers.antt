@@ -16,15 +16,15 @@ use Rattle.tokenizer.specs.declared.refusal.Refusal.TheVariants.{WrongDecimal}
 use Rattle.tokenizer.proofs.Answered.{handed_on}
 use Rattle.parser.specs.declared.Extent.{Extent}
 use Rattle.parser.specs.declared.ReadValue.{ReadValue}
-use Rattle.tokenizer.specs.Token.{Standing, value_of, lparen, rparen, comma, colon, double_quoted, single_quoted, time_unit, field_word}
+use Rattle.tokenizer.specs.Token.{Standing, value_of, lparen, rparen, comma, colon, double_quoted, single_quoted, time_unit, interval_unit, field_word}
 use Rattle.tokenizer.specs.declared.TokenKind.{TokenKind}
 use Rattle.datatype.specs.Kind.{decimal_fits}
 use Rattle.datatype.specs.Tree.{Forest, ∅, node, count, Row}
 use Rattle.datatype.specs.Table.{row_words, words_of}
-use Rattle.parser.specs.Parse.{Name, Tree, Fields, item, bare_row, field_row, scale_of, need, stands, role_at, after_role, number_in, close_at, zone_at, timestamp_at, scale_at, decimal_at, list_name_at, field_at, default_field, list_field}
+use Rattle.parser.specs.Parse.{Name, Tree, Fields, item, bare_row, field_row, scale_of, need, unit_at, length_at, time_at, interval_at, fixed_size_binary_at, stands, role_at, after_role, number_in, close_at, zone_at, timestamp_at, scale_at, decimal_at, list_name_at, field_at, default_field, list_field}
 use Rattle.parser.specs.Internal.Steps.{word_of, integer_of, extent, rows_left, Stored, Meets, Put, Closed, FieldWords, MeetsFields}
 use Rattle.parser.proofs.Stores.{further, rows_from, with_rows, left_behind, follows, in_front, alone, as_field}
-use Rattle.parser.proofs.Answers.{Read, behind, string, GotWord, GotTree, got_word, got_integer, got-tree, lost-tree, got-fields}
+use Rattle.parser.proofs.Matched.{Read, behind, string, GotWord, GotTree, got_word, got_integer, got-tree, lost-tree, got-fields}
 
 -- ---- refusals, and rows
 
@@ -176,6 +176,20 @@ module _ (text : List ℕ) (value : ℕ → Out Standing) (k at : ℕ) where
 
     pub value-3 : (v : ReadValue ℕ) (row row₂ : List ℕ) (r : Read) → length row ≡ row_words → done v ≡ word_of (value a) → Closed (need text rparen v.next) 0 (bare_row k v.value 0 0 0) r row₂ → Meets (value_at text value k at) row r row₂
     value-3 v row row₂ r l w h = let g = got_word (value a) v w in rw (e, g.is, g.value) (closes-alone text (bare_row k v.value 0 0 0) v.next row row₂ r l h)
+
+-- each of them, with its mark that closes it
+module _ (text : List ℕ) (k at : ℕ) (p : Standing) (a : ℕ) (e : need text lparen at ≡ done (behind p a)) (v : ReadValue ℕ) (row row₂ : List ℕ) (r : Read) (l : length row ≡ row_words) where
+  pub time-3 : done v ≡ word_of (unit_at text k a) → Closed (need text rparen v.next) 0 (bare_row k v.value 0 0 0) r row₂ → Meets (time_at text k at) row r row₂
+  unfolding time_at
+  time-3 = value-3 text (unit_at text k) k at p a e v row row₂ r l
+
+  pub interval-3 : done v ≡ word_of (need text interval_unit a) → Closed (need text rparen v.next) 0 (bare_row k v.value 0 0 0) r row₂ → Meets (interval_at text k at) row r row₂
+  unfolding interval_at
+  interval-3 = value-3 text (need text interval_unit) k at p a e v row row₂ r l
+
+  pub fixed-3 : done v ≡ word_of (length_at text a) → Closed (need text rparen v.next) 0 (bare_row k v.value 0 0 0) r row₂ → Meets (fixed_size_binary_at text k at) row r row₂
+  unfolding fixed_size_binary_at
+  fixed-3 = value-3 text (length_at text) k at p a e v row row₂ r l
 
 -- a decimal's scale
 module _ (text : List ℕ) (k v at : ℕ) where

@@ -6,7 +6,7 @@ use mathlib.Core.List.{List, [], ◌∷◌}
 use Prim.Native.Nat.{ℕ, ◌+◌, ◌≤◌, ◌<◌}
 use native.Mathlib.Omega.{arith}
 use lib.ListN.{length, get_or}
-use lib.IntN.{ℤ, pos, negsuc}
+use lib.IntN.{ℤ}
 use lib.Dec.{T, eqb}
 use borrow.Author.Tests.{eq-eqb, ne_eqb}
 use Rattle.tokenizer.specs.Answer.{Out, done, refuse, number_of, answer_of}
@@ -26,14 +26,13 @@ use Rattle.parser.specs.declared.Span.{Span}
 use Rattle.std.specs.Prelude.{Result}
 use Rattle.std.specs.Result.{IsErrAnd}
 use Rattle.tokenizer.specs.declared.refusal.Refusal as R
-use Rattle.parser.proofs.Answers.{standing, got_token, lost_token, handed}
+use Rattle.parser.proofs.Matched.{standing, got_token, lost_token, handed}
 use Rattle.parser.proofs.Looks.{need-is, need-not}
 
 -- ---- kinds and their sorts
 
 signed_back : (z : ℤ) → signed (is_below_zero z) (nat_abs z) ≡ z
-signed_back (pos n) = refl
-signed_back (negsuc n) = refl
+signed_back z = grind arith
 
 -- the kind of each sort, from 0 on, that says what a kind says
 abbrev pub of_sort : TokenKind → ℕ → TokenKind
@@ -44,23 +43,7 @@ of_sort k sort =
 
 -- a kind is that of its sort
 told : (k : TokenKind) → k ≡ of_sort k (sort_of (done k))
-told K.LParen = refl
-told K.RParen = refl
-told K.Comma = refl
-told K.Colon = refl
-told (K.Integer b) = ap K.Integer (sym (signed_back b))
-told K.DoubleQuotedString = refl
-told K.SingleQuotedString = refl
-told (K.DataType k) = refl
-told (K.TimeUnit u) = refl
-told (K.IntervalUnit u) = refl
-told (K.UnionMode m) = refl
-told (K.MapSorted b) = refl
-told (K.Nullability r) = refl
-told K.Field = refl
-told K.Some = refl
-told K.None = refl
-told K.X = refl
+told k = grind (arith, signed_back)
 
 -- a kind that is not that of a sort is of another sort
 pub other_sort : (sort : ℕ) (k : TokenKind) → (k ≡ of_sort k sort → ⊥) → eqb (sort_of (done k)) sort ≡ false
@@ -68,23 +51,7 @@ other_sort sort k n = ne_eqb (sort_of (done k)) sort (λ e. n (told k ∙ ap (of
 
 -- a token of another sort is refused with 9
 pub nine : (k : TokenKind) → refusal_of (done k) ≡ 9
-nine K.LParen = refl
-nine K.RParen = refl
-nine K.Comma = refl
-nine K.Colon = refl
-nine (K.Integer b) = refl
-nine K.DoubleQuotedString = refl
-nine K.SingleQuotedString = refl
-nine (K.DataType k) = refl
-nine (K.TimeUnit u) = refl
-nine (K.IntervalUnit u) = refl
-nine (K.UnionMode m) = refl
-nine (K.MapSorted b) = refl
-nine (K.Nullability r) = refl
-nine K.Field = refl
-nine K.Some = refl
-nine K.None = refl
-nine K.X = refl
+nine k = grind arith
 
 -- ---- one token, taken or refused
 
@@ -131,10 +98,6 @@ module _ (text : List ℕ) (sort at : ℕ) (t : Token) (e : done t ≡ token_or_
         not-here text sort at (standing t) (sym (got_token (token_at text at) t e)) (other_sort sort t.kind n)
         ∙ ap (λ (n : ℕ). refuse n) (nine t.kind)
 
-    pub look-gone : None ≡ look_of (need text sort at)
-    unfolding look_of
-    look-gone = rw gone
-
     pub stands-gone : false ≡ stands text sort at
     unfolding stands
     stands-gone = sym (ap (λ (x : Standing). eqb (sort_of x.kind) sort) (got_token (token_at text at) t e) ∙ other_sort sort t.kind n)
@@ -167,13 +130,14 @@ module _ (text : List ℕ) (sort at : ℕ) (n : eqb no_token sort ≡ false) (x 
   pub lost : need text sort at ≡ refuse x
   lost = need-not text sort at not-there ∙ ap (λ (k : Out TokenKind). refuse (refusal_of k)) (lost_token (token_at text at) x e)
 
-  pub look-lost : None ≡ look_of (need text sort at)
-  unfolding look_of
-  look-lost = rw lost
-
   pub stands-lost : false ≡ stands text sort at
   unfolding stands
   stands-lost = sym not-there
+
+-- what does not stand there is not found
+pub look-not : (text : List ℕ) (sort at : ℕ) → false ≡ stands text sort at → None ≡ look_of (need text sort at)
+unfolding look_of stands
+look-not text sort at e = rw (need-not text sort at (sym e))
 
 -- a refusal of what is needed
 module _ (o : Out Standing) (x : ℕ) (e : o ≡ refuse x) where
@@ -252,11 +216,7 @@ module _ (text : List ℕ) (at from mark : ℕ) (f : from ≡ after_spaces text 
         ∙ ap (λ (s : Standing). refuse (refusal_of s.kind)) (got_token (token_at text from) t e)
         ∙ ap (λ (n : ℕ). refuse n) (nine t.kind)
 
-  look-over : length text ≤ from → None ≡ look_of (need text (mark_sort mark) at)
-  unfolding look_of
-  look-over h = rw (over text at mark (of_true (is_mark mark) m) (rw f at h))
-
-  look-found : from < length text → get_or text from 0 ≡ mark → Some (from + 1) ≡ look_of (need text (mark_sort mark) at)
+  pub look-found : from < length text → get_or text from 0 ≡ mark → Some (from + 1) ≡ look_of (need text (mark_sort mark) at)
   unfolding look_of
   look-found h e = rw (found text at mark (of_true (is_mark mark) m) (rw f at h) (rw f at e), f)
 
@@ -271,59 +231,62 @@ mark_no_space m h = Marks.marks (λ (x : ℕ). x ≡ 32 → ⊥) (λ z. omega ar
 mark_more : (m : ℕ) → is_mark m ≡ true → 0 < m
 mark_more m h = Marks.marks (λ (x : ℕ). 0 < x) (omega arith) (omega arith) (omega arith) (omega arith) m (of_true (is_mark m) h)
 
--- with no space before it
-module _ (text : List ℕ) (at mark : ℕ) (m : is_mark mark ≡ true) (h : at < length text) (e : get_or text at 0 ≡ mark) where
-  no-space : at ≡ after_spaces text at
-  no-space = sym (spaces-stop text at h (λ z. mark_no_space mark m (sym e ∙ z)))
+-- with no space before it, and behind one
+pub no-space : (text : List ℕ) (at mark : ℕ) → is_mark mark ≡ true → at < length text → get_or text at 0 ≡ mark → at ≡ after_spaces text at
+no-space text at mark m h e = sym (spaces-stop text at h (λ z. mark_no_space mark m (sym e ∙ z)))
 
-  pub expect-at : done (at + 1) ≡ next_of (need text (mark_sort mark) at)
-  expect-at = expect-here text at at mark no-space m h e
-
-  pub look_at : Some (at + 1) ≡ look_of (need text (mark_sort mark) at)
-  look_at = look-found text at at mark no-space m h e
+pub behind-space : (text : List ℕ) (at from : ℕ) → at < length text → get_or text at 0 ≡ 32 → from ≡ after_spaces text (at + 1) → from ≡ after_spaces text at
+behind-space text at from h s f = f ∙ sym (spaces-go text at h s)
 
 -- looked for from a place on: the text ends, another byte stands there, or there are spaces first
 module _ (text : List ℕ) (at mark : ℕ) (m : is_mark mark ≡ true) where
   pub look-out : length text ≤ at → None ≡ look_of (need text (mark_sort mark) at)
-  look-out h = look-over text at at mark (sym (spaces-out text at h)) m h
+  unfolding look_of
+  look-out h = rw (over text at mark (of_true (is_mark mark) m) (rw (spaces-out text at h) h))
 
   module _ (h : at < length text) where
     pub look-first : (get_or text at 0 ≡ 32 → ⊥) → (get_or text at 0 ≡ mark → ⊥) → None ≡ look_of (need text (mark_sort mark) at)
     look-first s n = look-other text at at mark (sym (spaces-stop text at h s)) m n
 
-    module _ (s : get_or text at 0 ≡ 32) (from : ℕ) (f : from ≡ after_spaces text (at + 1)) where
-      pub look-behind : from < length text → get_or text from 0 ≡ mark → Some (from + 1) ≡ look_of (need text (mark_sort mark) at)
-      look-behind = look-found text at from mark (f ∙ sym (spaces-go text at h s)) m
-
-      pub look-none : (0 < mark → get_or text from 0 ≡ mark → ⊥) → None ≡ look_of (need text (mark_sort mark) at)
-      look-none n = look-other text at from mark (f ∙ sym (spaces-go text at h s)) m (n (mark_more mark m))
+    pub look-none : get_or text at 0 ≡ 32 → (from : ℕ) → from ≡ after_spaces text (at + 1) → (0 < mark → get_or text from 0 ≡ mark → ⊥) → None ≡ look_of (need text (mark_sort mark) at)
+    look-none s from f n = look-other text at from mark (behind-space text at from h s f) m (n (mark_more mark m))
 
 -- ---- nullability
 
 module _ (text : List ℕ) (at : ℕ) where
-  plain : eqb (sort_of (token_at text at).kind) nullability ≡ false → (1 ≡ role_at text at) × (at ≡ after_role text at)
-  unfolding role_at after_role stands
-  plain e = (rw e, rw e)
+  -- left out
+  pub role-out : false ≡ stands text nullability at → 1 ≡ role_at text at
+  unfolding role_at
+  role-out e = rw (← e)
 
+  pub after-out : false ≡ stands text nullability at → at ≡ after_role text at
+  unfolding after_role
+  after-out e = rw (← e)
+
+  -- by the first byte that is no space, and by the token from there
   module _ (from : ℕ) (f : from ≡ after_spaces text at) where
     same-place : token_at text at ≡ token_at text from
     same-place = token-spaces text at ∙ ap (token_at text) (sym f)
 
-    pub null-other : (get_or text from 0 ≡ 110 → ⊥) → (1 ≡ role_at text at) × (at ≡ after_role text at)
-    null-other h = plain (Marks.no-nullability text at (rw f at h))
+    pub null-other : (0 < 110 → get_or text from 0 ≡ 110 → ⊥) → false ≡ stands text nullability at
+    unfolding stands
+    null-other h = sym (Marks.no-nullability text at (rw f at (h (omega arith))))
 
-    pub null-lost : (x : ℕ) → refuse x ≡ token_or_refusal (token_at text from) → (1 ≡ role_at text at) × (at ≡ after_role text at)
-    null-lost x e =
-        let k : (token_at text at).kind ≡ refuse x = ap (λ (s : Standing). s.kind) same-place ∙ lost_token (token_at text from) x e in
-        plain (ap (λ (k : Out TokenKind). eqb (sort_of k) nullability) k)
+    pub null-from : false ≡ stands text nullability from → false ≡ stands text nullability at
+    unfolding stands
+    null-from e = e ∙ ap (λ (x : Standing). eqb (sort_of x.kind) nullability) (sym same-place)
 
     module _ (t : Token) (e : done t ≡ token_or_refusal (token_at text from)) where
       same-token : token_at text at ≡ standing t
       same-token = same-place ∙ got_token (token_at text from) t e
 
-      pub null-not : (t.kind ≡ of_sort t.kind nullability → ⊥) → (1 ≡ role_at text at) × (at ≡ after_role text at)
-      null-not n = plain (ap (λ (x : Standing). eqb (sort_of x.kind) nullability) same-token ∙ other_sort nullability t.kind n)
+      pub null-not : ((r : ℕ) → t.kind ≡ K.Nullability r → ⊥) → false ≡ stands text nullability at
+      null-not n = null-from (stands-gone text nullability from t e (n _))
 
-      pub null-here : (r : ℕ) → t.kind ≡ K.Nullability r → (r ≡ role_at text at) × (t.next ≡ after_role text at)
-      unfolding role_at after_role stands
-      null-here r k = rw (same-token, k) (refl, refl)
+      pub role-here : (r : ℕ) → t.kind ≡ K.Nullability r → r ≡ role_at text at
+      unfolding role_at stands
+      role-here r k = rw (same-token, k)
+
+      pub after-here : (r : ℕ) → t.kind ≡ K.Nullability r → t.next ≡ after_role text at
+      unfolding after_role stands
+      after-here r k = rw (same-token, k)

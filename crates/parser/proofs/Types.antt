@@ -2,29 +2,30 @@
 use mathlib.Core.Path.{◌≡◌, refl, sym, ap, ◌∙◌, subst}
 use mathlib.Core.Bool.{Bool, true, false}
 use mathlib.Core.List.{List, ◌++◌, map}
-use Prim.Native.Nat.{ℕ, zero, suc, ◌+◌, ◌-◌, ◌≤◌, ◌<◌}
+use Prim.Native.Nat.{ℕ, suc, ◌+◌, ◌-◌, ◌≤◌, ◌<◌}
 use native.Mathlib.Omega.{arith}
 use lib.ListN.{length, take, drop}
 use lib.Seq.{length-take-le}
 use Rattle.std.proofs.lemmas.List.{take-append-drop}
-use Rattle.std.specs.Prelude.{Ok}
+use Rattle.std.specs.Prelude.{Ok, Some, None, if◌then◌else◌}
 use Rattle.tokenizer.specs.Answer.{Refusal, Out, refused, done, refuse}
 use Rattle.tokenizer.specs.Token.{Standing, lparen, rparen, comma, union_mode, type_word}
-use Rattle.datatype.proofs.ShapeLaws.{shapes_of, leaf_number}
-use Rattle.datatype.specs.Kind.{Shape, leaf, time, list, decimal, shape_of, ids_fit}
+use Rattle.std.proofs.lemmas.Bool.Decides.{nat_tests}
+use Rattle.datatype.proofs.KindShapes.{shape_by}
+use Rattle.datatype.specs.Kind.{Shape, leaf, timestamp, time, interval, fixed, list, fixed_list, struct, union, dictionary, decimal, mapping, run_end_encoded, shape_of, ids_fit}
 use Rattle.datatype.specs.Tree.{Forest, ∅, count, roots, Row}
 use Rattle.datatype.specs.Table.{row_words}
-use Rattle.parser.specs.Parse.{Tree, bare_row, need, field_at, struct_item, union_field, union_item, struct_at, union_at, shape_at, type_with, type_at}
-use Rattle.parser.specs.Internal.Steps.{word_of, extent, rows_left, Stored, Meets, Put, Closed}
+use Rattle.parser.specs.Parse.{Tree, Fields, bare_row, need, timestamp_at, time_at, interval_at, fixed_size_binary_at, decimal_at, list_at, fixed_size_list_at, dictionary_at, map_at, run_end_encoded_at, field_at, struct_item, union_field, union_item, struct_at, union_at, shape_at, type_with, type_at}
+use Rattle.parser.specs.Internal.Steps.{next_of, look_of, word_of, extent, rows_left, Stored, Meets, Put, Closed}
 use Rattle.parser.specs.declared.Extent.{Extent}
 use Rattle.parser.specs.declared.ReadValue.{ReadValue}
 use Rattle.parser.proofs.Stores.{rows_from, with_rows, in_front, alone}
-use Rattle.parser.proofs.Answers.{Read, behind, GotWord, GotTree, GotFields, got_word}
+use Rattle.parser.proofs.Matched.{Read, behind, GotTree, got_look, got_next, got_word, lost_look, lost_next}
 use Rattle.parser.proofs.Readers.{meets-lost, meets-put, meets-further}
 use Rattle.subtrees.specs.UnionFields.{type_ids_fit}
 use Rattle.parser.proofs.Entries.{ids-read}
 use Rattle.parser.proofs.FieldLaws.{struct-end, struct-field-1, struct_more, struct-last, union-end, union-open, union-lost, union_more}
-use Rattle.parser.proofs.Loops.{Loop, all_fields, loop-lost, loop-end, loop-last, loop-more}
+use Rattle.parser.proofs.Loops.{Loop, all_read, all_stored, all_counted, loop-start, loop-lost, loop-end, loop-last, loop-more}
 
 -- a row in front of its fields
 fronted : (o : Out Tree) (r : Row) (kids : Forest Row) (n used : ℕ) (row row₂ before mid : List ℕ) (a : Extent) → length row ≡ row_words → o ≡ done (record { row = r; kids = kids; next = n })
@@ -46,135 +47,109 @@ module _ (text : List ℕ) (type : ℕ → ℕ → Out Tree) (k at left : ℕ) w
   union-at-2 p b e x f = rw (e, f) refl
 
 -- a Struct before a turn
-module _ (text : List ℕ) (type : ℕ → ℕ → Out Tree) (b next used : ℕ) (before now : List ℕ) (l : Loop (struct_item text type) b before now next used) where
-  abbrev struct_left : ℕ
-  struct_left = rows_left (rows_from used now)
+unfoldable pub struct_of : ℕ → Fields → Out Tree
+struct_of k fs = done (record { row = bare_row k 0 0 0 0; kids = fs.trees; next = fs.next })
 
-  pub struct-loop : (s : Refusal) (n more : ℕ) (sub : List ℕ) (c : Standing) (d : ℕ) → need text rparen next ≡ refused s → GotTree (field_at text type 0 next struct_left) n more (rows_from used now) sub
-      → need text comma n ≡ done (behind c d) → Loop (struct_item text type) b before (with_rows used now sub) d (used + more)
-  struct-loop s n more sub c d z g e = loop-more _ b before now next used l _ n more sub g d (struct_more text type next struct_left s z n more (rows_from used now) sub g c d e)
+abbrev pub StructLoop : List ℕ → (ℕ → ℕ → Out Tree) → ℕ → ℕ → List ℕ → List ℕ → ℕ → ℕ → Type 0
+StructLoop text type k at before now next used = Loop (struct_at text type k at (rows_left before)) (struct_of k) (struct_item text type) before now next used
 
-  module _ (k at : ℕ) (p : Standing) (e : need text lparen at ≡ done (behind p b)) where
-    struct-done : (n : ℕ) (row row₂ mid : List ℕ) (a : Extent) (used : ℕ) → length row ≡ row_words → GotFields (all_fields (struct_item text type) b before) n used before mid
-        → Put n used (bare_row k 0 0 0 0) a row₂ → Meets (struct_at text type k at (rows_left before)) (row ++ before) (Ok a) (row₂ ++ mid)
-    unfolding struct_at
-    struct-done n row row₂ mid a used i g w = fronted (struct_at text type k at (rows_left before)) (bare_row k 0 0 0 0) g.trees n used row row₂ before mid a i (rw (e, g.is) refl) g.stored g.rows w
+module _ (text : List ℕ) (type : ℕ → ℕ → Out Tree) (k at : ℕ) (before : List ℕ) where
+  abbrev struct_type : Out Tree
+  struct_type = struct_at text type k at (rows_left before)
 
-    struct-lost : (x : ℕ) → all_fields (struct_item text type) b before ≡ refuse x → struct_at text type k at (rows_left before) ≡ refuse x
-    unfolding struct_at
-    struct-lost x f = rw (e, f) refl
+  pub struct-start : (b : ℕ) → done b ≡ next_of (need text lparen at) → StructLoop text type k at before before b 0
+  unfolding struct_at struct_of
+  struct-start b o = let p = got_next (need text lparen at) b o in loop-start struct_type (struct_of k) (struct_item text type) before b (rw p.1 refl)
 
-    pub struct-2 : (s : Refusal) (x : ℕ) → need text rparen next ≡ refused s → field_at text type 0 next struct_left ≡ refuse x → struct_at text type k at (rows_left before) ≡ refuse x
-    struct-2 s x z f = struct-lost x (loop-lost _ b before now next used l x (struct-field-1 text type next struct_left s z x f))
+  module _ (now : List ℕ) (next used : ℕ) (l : StructLoop text type k at before now next used) where
+    abbrev struct_left : ℕ
+    struct_left = rows_left (rows_from used now)
 
-    pub struct-3 : (c : Standing) (n : ℕ) (row row₂ : List ℕ) (a : Extent) → length row ≡ row_words → need text rparen next ≡ done (behind c n) → Put n used (bare_row k 0 0 0 0) a row₂
-        → Meets (struct_at text type k at (rows_left before)) (row ++ before) (Ok a) (row₂ ++ now)
-    struct-3 c n row row₂ a i z w = struct-done n row row₂ now a used i (loop-end _ b before now next used l n (struct-end text type next struct_left c n z)) w
+    pub struct-3 : (n : ℕ) → Some n ≡ look_of (need text rparen next) → (row row₂ : List ℕ) (a : Extent) → length row ≡ row_words → Put n used (bare_row k 0 0 0 0) a row₂ → Meets struct_type (row ++ before) (Ok a) (row₂ ++ now)
+    unfolding struct_of
+    struct-3 n z row row₂ a i w =
+        let c = got_look (need text rparen next) n z in
+        fronted struct_type (bare_row k 0 0 0 0) l.trees n used row row₂ before now a i (loop-end _ _ _ before now next used l n (struct-end text type next struct_left c.0 n c.1)) l.stored l.counted w
 
-    -- behind a field that no comma follows
-    module _ (s : Refusal) (z : need text rparen next ≡ refused s) (n more : ℕ) (sub : List ℕ) (g : GotTree (field_at text type 0 next struct_left) n more (rows_from used now) sub)
-        (t : Refusal) (y : need text comma n ≡ refused t) where
-      pub struct-4 : (row row₂ : List ℕ) (a : Read) → length row ≡ row_words → Closed (need text rparen n) (used + more) (bare_row k 0 0 0 0) a row₂
-          → Meets (struct_at text type k at (rows_left before)) (row ++ before) a (row₂ ++ with_rows used now sub)
-      unfolding Closed
-      struct-4 row row₂ a i = go (need text rparen n) refl
-        where
-          go : (o : Out Standing) → need text rparen n ≡ o → Closed o (used + more) (bare_row k 0 0 0 0) a row₂ → Meets (struct_at text type k at (rows_left before)) (row ++ before) a (row₂ ++ with_rows used now sub)
-          go (refused x) e₁ h =
-              meets-lost (row ++ before) (row₂ ++ with_rows used now sub) (struct_at text type k at (rows_left before)) a x.number h
-              (struct-lost x.number (loop-lost _ b before now next used l x.number (struct-last text type next struct_left s z n more (rows_from used now) sub g t y ∙ rw e₁ refl)))
-          go (done c) e₁ h =
-              subst (λ (x : Read). Meets (struct_at text type k at (rows_left before)) (row ++ before) x (row₂ ++ with_rows used now sub)) (sym h.0)
-              (struct-done c.next row row₂ (with_rows used now sub) (extent c.next (used + more + 1)) (used + more) i
-              (loop-last _ b before now next used l _ n more sub g c.next (struct-last text type next struct_left s z n more (rows_from used now) sub g t y ∙ rw e₁ refl)) (refl, h.1))
+    -- no mark closes the fields
+    module _ (s : Refusal) (z : need text rparen next ≡ refused s) where
+      pub struct-2 : (x : ℕ) → field_at text type 0 next struct_left ≡ refuse x → struct_type ≡ refuse x
+      struct-2 x f = loop-lost _ _ _ before now next used l x (struct-field-1 text type next struct_left s z x f)
+
+      module _ (n more : ℕ) (sub : List ℕ) (g : GotTree (field_at text type 0 next struct_left) n more (rows_from used now) sub) where
+        pub struct-loop : (c : Standing) (d : ℕ) → need text comma n ≡ done (behind c d) → StructLoop text type k at before (with_rows used now sub) d (used + more)
+        struct-loop c d e = loop-more _ _ _ before now next used l _ n more sub g d (struct_more text type next struct_left s z n more (rows_from used now) sub g c d e)
+
+        -- behind a field that no comma follows
+        pub struct-4 : (t : Refusal) → need text comma n ≡ refused t → (row row₂ : List ℕ) (a : Read) → length row ≡ row_words → Closed (need text rparen n) (used + more) (bare_row k 0 0 0 0) a row₂
+            → Meets struct_type (row ++ before) a (row₂ ++ with_rows used now sub)
+        unfolding Closed struct_of
+        struct-4 t y row row₂ a i = go (need text rparen n) refl
+          where
+            go : (o : Out Standing) → need text rparen n ≡ o → Closed o (used + more) (bare_row k 0 0 0 0) a row₂ → Meets struct_type (row ++ before) a (row₂ ++ with_rows used now sub)
+            go (refused x) e h =
+                meets-lost (row ++ before) (row₂ ++ with_rows used now sub) struct_type a x.number h
+                (loop-lost _ _ _ before now next used l x.number (struct-last text type next struct_left s z n more (rows_from used now) sub g t y ∙ rw e refl))
+            go (done c) e h =
+                subst (λ (x : Read). Meets struct_type (row ++ before) x (row₂ ++ with_rows used now sub)) (sym h.0)
+                (fronted struct_type (bare_row k 0 0 0 0) (all_read _ _ _ before now next used l _ n more sub g) c.next (used + more) row row₂ before (with_rows used now sub) (extent c.next (used + more + 1)) i
+                (loop-last _ _ _ before now next used l _ n more sub g c.next (struct-last text type next struct_left s z n more (rows_from used now) sub g t y ∙ rw e refl))
+                (all_stored _ _ _ before now next used l _ n more sub g) (all_counted _ _ _ before now next used l _ n more sub g) (refl, h.1))
 
 -- a Union before a turn
-pub union-loop : (text : List ℕ) (type : ℕ → ℕ → Out Tree) (first next used : ℕ) (before now : List ℕ) → Loop (union_item text type) first before now next used → (s : Refusal) (c : Standing) (d n more : ℕ) (sub : List ℕ)
-    → need text rparen next ≡ refused s → need text comma next ≡ done (behind c d) → GotTree (union_field text type d (rows_left (rows_from used now))) n more (rows_from used now) sub
-    → Loop (union_item text type) first before (with_rows used now sub) n (used + more)
-union-loop text type first next used before now l s c d n more sub z e g =
-    loop-more _ first before now next used l _ n more sub g n (union_more text type next (rows_left (rows_from used now)) s z c d e n more (rows_from used now) sub g)
+unfoldable pub union_of : ℕ → ℕ → Fields → Out Tree
+union_of k mode fs = if ids_fit (map (λ r. r.union_id) (roots fs.trees)) then done (record { row = bare_row k mode 0 0 0; kids = fs.trees; next = fs.next }) else refuse 15
 
-module _ (text : List ℕ) (type : ℕ → ℕ → Out Tree) (k at : ℕ) (p : Standing) (b : ℕ) (v : ReadValue ℕ) (e : need text lparen at ≡ done (behind p b)) (h : done v ≡ word_of (need text union_mode b))
-    (next used : ℕ) (before now : List ℕ) (l : Loop (union_item text type) v.next before now next used) where
-  m : GotWord (need text union_mode b) v.value v.next
-  m = got_word (need text union_mode b) v h
+abbrev pub UnionLoop : List ℕ → (ℕ → ℕ → Out Tree) → ℕ → ℕ → ℕ → List ℕ → List ℕ → ℕ → ℕ → Type 0
+UnionLoop text type k mode at before now next used = Loop (union_at text type k at (rows_left before)) (union_of k mode) (union_item text type) before now next used
 
-  abbrev union_rest : ℕ
-  union_rest = rows_left (rows_from used now)
+module _ (text : List ℕ) (type : ℕ → ℕ → Out Tree) (k at : ℕ) (before : List ℕ) where
+  abbrev union_type : Out Tree
+  union_type = union_at text type k at (rows_left before)
 
-  fields-lost : (x : ℕ) → all_fields (union_item text type) v.next before ≡ refuse x → union_at text type k at (rows_left before) ≡ refuse x
-  unfolding union_at
-  fields-lost x f = rw (e, m.is, f) refl
+  pub union-start : (b : ℕ) (v : ReadValue ℕ) → done b ≡ next_of (need text lparen at) → done v ≡ word_of (need text union_mode b) → UnionLoop text type k v.value at before before v.next 0
+  unfolding union_at union_of
+  union-start b v o h =
+      let p = got_next (need text lparen at) b o in
+      let m = got_word (need text union_mode b) v h in
+      loop-start union_type (union_of k v.value) (union_item text type) before v.next (rw (p.1, m.is, m.value) refl)
 
-  pub union-at-3 : (s : Refusal) (x : ℕ) → need text rparen next ≡ refused s → need text comma next ≡ refuse x → union_at text type k at (rows_left before) ≡ refuse x
-  union-at-3 s x z f = fields-lost x (loop-lost _ v.next before now next used l x (union-open text type next union_rest s z x f))
+  module _ (mode : ℕ) (now : List ℕ) (next used : ℕ) (l : UnionLoop text type k mode at before now next used) where
+    abbrev union_left : ℕ
+    union_left = rows_left (rows_from used now)
 
-  pub union-at-4 : (s : Refusal) (c : Standing) (d x : ℕ) → need text rparen next ≡ refused s → need text comma next ≡ done (behind c d) → union_field text type d union_rest ≡ refuse x
-      → union_at text type k at (rows_left before) ≡ refuse x
-  union-at-4 s c d x z f g = fields-lost x (loop-lost _ v.next before now next used l x (union-lost text type next union_rest s z c d f x g))
+    -- no mark closes the fields
+    module _ (z : None ≡ look_of (need text rparen next)) where
+      no_mark : (s : Refusal) × (need text rparen next ≡ refused s)
+      no_mark = lost_look (need text rparen next) z
 
-  -- its fields are read, and their ids judged
-  module _ (c : Standing) (n : ℕ) (f : need text rparen next ≡ done (behind c n)) where
-    all_read : GotFields (all_fields (union_item text type) v.next before) n used before now
-    all_read = loop-end _ v.next before now next used l n (union-end text type next union_rest c n f)
+      pub union-at-3 : (x : ℕ) → refuse x ≡ next_of (need text comma next) → union_type ≡ refuse x
+      union-at-3 x f = loop-lost _ _ _ before now next used l x (union-open text type next union_left no_mark.0 no_mark.1 x (lost_next (need text comma next) x f))
 
-    module _ (fit : Bool) (q : fit ≡ type_ids_fit now 0 used) where
-      ids : fit ≡ ids_fit (map (λ r. r.union_id) (roots all_read.trees))
-      ids = q ∙ ids-read _ n used before now all_read
+      module _ (d : ℕ) (e : done d ≡ next_of (need text comma next)) where
+        separated : (c : Standing) × (need text comma next ≡ done (behind c d))
+        separated = got_next (need text comma next) d e
 
-      pub union-at-5 : fit ≡ false → union_at text type k at (rows_left before) ≡ refuse 15
-      unfolding union_at
-      union-at-5 z = rw (e, m.is, all_read.is, ← ids, z) refl
+        pub union-at-4 : (x : ℕ) → union_field text type d union_left ≡ refuse x → union_type ≡ refuse x
+        union-at-4 x g = loop-lost _ _ _ before now next used l x (union-lost text type next union_left no_mark.0 no_mark.1 separated.0 d separated.1 x g)
 
-      pub union-at-6 : (row row₂ : List ℕ) (a : Extent) → length row ≡ row_words → fit ≡ true → Put n used (bare_row k v.value 0 0 0) a row₂ → Meets (union_at text type k at (rows_left before)) (row ++ before) (Ok a) (row₂ ++ now)
-      unfolding union_at
-      union-at-6 row row₂ a i z w =
-          fronted (union_at text type k at (rows_left before)) (bare_row k v.value 0 0 0) all_read.trees n used row row₂ before now a i
-          (rw (e, m.is, all_read.is, ← ids, z) (ap (λ (i : ℕ). done (record { row = bare_row k i 0 0 0; kids = all_read.trees; next = n })) m.value)) all_read.stored all_read.rows w
+        pub union-loop : (n more : ℕ) (sub : List ℕ) → GotTree (union_field text type d union_left) n more (rows_from used now) sub → UnionLoop text type k mode at before (with_rows used now sub) n (used + more)
+        union-loop n more sub g =
+            loop-more _ _ _ before now next used l _ n more sub g n (union_more text type next union_left no_mark.0 no_mark.1 separated.0 d separated.1 n more (rows_from used now) sub g)
 
--- ---- the shapes of kinds that have an arm together
+    -- the mark is there, and the ids are judged
+    module _ (n : ℕ) (z : Some n ≡ look_of (need text rparen next)) (fit : Bool) (q : fit ≡ type_ids_fit now 0 used) where
+      judged : union_type ≡ (if fit then done (record { row = bare_row k mode 0 0 0; kids = l.trees; next = n }) else refuse 15)
+      unfolding union_of
+      judged =
+          let c = got_look (need text rparen next) n z in
+          rw (q, ids-read l.trees used before now l.stored l.counted) (loop-end _ _ _ before now next used l n (union-end text type next union_left c.0 n c.1))
 
--- by the distance from the first of them
-time_from : (k j : ℕ) → k ≡ 16 + j → j < 3 → shape_of k ≡ time
-time_from k zero e h = ap shape_of e ∙ shapes_of.1
-time_from k (suc zero) e h = ap shape_of e ∙ shapes_of.2
-time_from k (suc (suc zero)) e h = ap shape_of e ∙ shapes_of.3
-time_from k (suc (suc (suc j))) e h = absurd (omega arith)
+      pub union-at-5 : fit ≡ false → union_type ≡ refuse 15
+      union-at-5 e = judged ∙ rw e refl
 
-pub time_kind : (k : ℕ) → 16 ≤ k → k < 19 → shape_of k ≡ time
-time_kind k l h = time_from k (k - 16) (omega arith) (omega arith)
-
-list_from : (k j : ℕ) → k ≡ 27 + j → j < 5 → (k ≡ 29 → ⊥) → shape_of k ≡ list
-list_from k zero e h z = ap shape_of e ∙ shapes_of.6
-list_from k (suc zero) e h z = ap shape_of e ∙ shapes_of.7
-list_from k (suc (suc zero)) e h z = absurd (z (omega arith))
-list_from k (suc (suc (suc zero))) e h z = ap shape_of e ∙ shapes_of.9
-list_from k (suc (suc (suc (suc zero)))) e h z = ap shape_of e ∙ shapes_of.10
-list_from k (suc (suc (suc (suc (suc j))))) e h z = absurd (omega arith)
-
-pub list_kind : (k : ℕ) → 27 ≤ k → k < 32 → (k ≡ 29 → ⊥) → shape_of k ≡ list
-list_kind k l h z = list_from k (k - 27) (omega arith) (omega arith) z
-
-decimal_from : (k j : ℕ) → k ≡ 35 + j → j < 4 → shape_of k ≡ decimal
-decimal_from k zero e h = ap shape_of e ∙ shapes_of.14
-decimal_from k (suc zero) e h = ap shape_of e ∙ shapes_of.15
-decimal_from k (suc (suc zero)) e h = ap shape_of e ∙ shapes_of.16
-decimal_from k (suc (suc (suc zero))) e h = ap shape_of e ∙ shapes_of.17
-decimal_from k (suc (suc (suc (suc j)))) e h = absurd (omega arith)
-
-pub decimal_kind : (k : ℕ) → 32 ≤ k → k < 39 → (k ≡ 32 → ⊥) → (k ≡ 33 → ⊥) → (k ≡ 34 → ⊥) → shape_of k ≡ decimal
-decimal_kind k l h a b c = decimal_from k (k - 35) (omega arith) (omega arith)
-
--- the leaves below the times, from there to the lists, and past the decimals
-pub leaf_low : (k : ℕ) → k < 16 → (k ≡ 13 → ⊥) → shape_of k ≡ leaf
-leaf_low k h a = leaf_number k ((((((((((((((((((((tt, λ e. omega arith), λ e. omega arith), λ e. omega arith), λ e. omega arith), λ e. omega arith), λ e. omega arith), λ e. omega arith), λ e. omega arith), λ e. omega arith), λ e. omega arith), λ e. omega arith), λ e. omega arith), λ e. omega arith), λ e. omega arith), λ e. omega arith), λ e. omega arith), λ e. omega arith), λ e. omega arith), λ e. omega arith), λ e. omega arith)
-
-pub leaf_mid : (k : ℕ) → 19 ≤ k → k < 27 → (k ≡ 19 → ⊥) → (k ≡ 21 → ⊥) → shape_of k ≡ leaf
-leaf_mid k l h a b = leaf_number k ((((((((((((((((((((tt, λ e. omega arith), λ e. omega arith), λ e. omega arith), λ e. omega arith), λ e. omega arith), λ e. omega arith), λ e. omega arith), λ e. omega arith), λ e. omega arith), λ e. omega arith), λ e. omega arith), λ e. omega arith), λ e. omega arith), λ e. omega arith), λ e. omega arith), λ e. omega arith), λ e. omega arith), λ e. omega arith), λ e. omega arith), λ e. omega arith)
-
-pub leaf_high : (k : ℕ) → 39 ≤ k → (k ≡ 39 → ⊥) → (k ≡ 40 → ⊥) → shape_of k ≡ leaf
-leaf_high k l a b = leaf_number k ((((((((((((((((((((tt, λ e. omega arith), λ e. omega arith), λ e. omega arith), λ e. omega arith), λ e. omega arith), λ e. omega arith), λ e. omega arith), λ e. omega arith), λ e. omega arith), λ e. omega arith), λ e. omega arith), λ e. omega arith), λ e. omega arith), λ e. omega arith), λ e. omega arith), λ e. omega arith), λ e. omega arith), λ e. omega arith), λ e. omega arith), λ e. omega arith)
+      pub union-at-6 : fit ≡ true → (row row₂ : List ℕ) (a : Extent) → length row ≡ row_words → Put n used (bare_row k mode 0 0 0) a row₂ → Meets union_type (row ++ before) (Ok a) (row₂ ++ now)
+      union-at-6 e row row₂ a i w = fronted union_type (bare_row k mode 0 0 0) l.trees n used row row₂ before now a i (judged ∙ rw e refl) l.stored l.counted w
 
 -- ---- a type
 
@@ -208,24 +183,75 @@ module _ (text : List ℕ) (level at : ℕ) where
       whole = rw (split.0, split.1) (take-append-drop row_words rows)
 
       -- its word is read: the rest is the reader's of its shape
-      module _ (k n : ℕ) (g : GotWord (need text type_word at) k n) (s : Shape) (i : shape_of k ≡ s) (a : Read) where
-        abbrev shape : Out Tree
-        shape = shape_at text (type_at text (level - 1)) s k n (rows_left below)
+      module _ (w : ReadValue ℕ) (h : done w ≡ word_of (need text type_word at)) where
+        abbrev by_shape : Shape → Out Tree
+        by_shape s = shape_at text (type_at text (level - 1)) s w.value w.next (rows_left below)
 
-        pub type-parent : (after : List ℕ) → Meets shape (row ++ below) a after → Meets (type_at text level at (rows_left rows)) rows a after
+        type-parent : (s : Shape) → shape_of w.value ≡ s → (a : Read) (after : List ℕ) → Meets (by_shape s) (row ++ below) a after → Meets (type_at text level at (rows_left rows)) rows a after
         unfolding type_with
-        type-parent after h =
+        type-parent s i a after m =
+            let g = got_word (need text type_word at) w h in
             let n = split.2 in
-            rw (one-row rows (rows_left below) (omega arith), g.is, g.value, i) (subst (λ (l : List ℕ). Meets shape l a after) whole h)
+            rw (one-row rows (rows_left below) (omega arith), g.is, g.value, i) (subst (λ (l : List ℕ). Meets (by_shape s) l a after) whole m)
 
-        pub type-childless : (row₂ : List ℕ) → Meets shape row a row₂ → Meets (type_at text level at (rows_left rows)) rows a (row₂ ++ below)
-        type-childless row₂ h = type-parent (row₂ ++ below) (meets-further row row₂ shape a below h)
+        type-childless : (s : Shape) → shape_of w.value ≡ s → (a : Read) (row₂ : List ℕ) → Meets (by_shape s) row a row₂ → Meets (type_at text level at (rows_left rows)) rows a (row₂ ++ below)
+        type-childless s i a row₂ m = type-parent s i a (row₂ ++ below) (meets-further row row₂ (by_shape s) a below m)
 
-      -- a leaf's row
-      pub type-leaf : (k n : ℕ) (row₂ : List ℕ) (a : Extent) → GotWord (need text type_word at) k n → shape_of k ≡ leaf → Put n 0 (bare_row k 0 0 0 0) a row₂
-          → Meets (type_at text level at (rows_left rows)) rows (Ok a) (row₂ ++ below)
-      unfolding shape_at
-      type-leaf k n row₂ a g i w =
-          let l : length row ≡ row_words = let n = split.2 in ap length split.0 ∙ length-take-le row_words rows (omega arith) in
-          type-childless k n g leaf i (Ok a) row₂
-          (meets-put row row₂ (done (record { row = bare_row k 0 0 0 0; kids = ∅; next = n })) (bare_row k 0 0 0 0) ∅ n 0 a row₂ refl refl w (alone (bare_row k 0 0 0 0) row row₂ l))
+        -- by the number of its kind: without children
+        module _ (a : Read) (row₂ : List ℕ) where
+          pub type-timestamp : w.value ≡ 13 → Meets (timestamp_at text w.value w.next) row a row₂ → Meets (type_at text level at (rows_left rows)) rows a (row₂ ++ below)
+          unfolding shape_at
+          type-timestamp e = type-childless timestamp (shape_by w.value ∙ grind (arith, nat_tests)) a row₂
+
+          pub type-time : 16 ≤ w.value → w.value < 19 → Meets (time_at text w.value w.next) row a row₂ → Meets (type_at text level at (rows_left rows)) rows a (row₂ ++ below)
+          unfolding shape_at
+          type-time l m = type-childless time (shape_by w.value ∙ grind (arith, nat_tests)) a row₂
+
+          pub type-interval : w.value ≡ 19 → Meets (interval_at text w.value w.next) row a row₂ → Meets (type_at text level at (rows_left rows)) rows a (row₂ ++ below)
+          unfolding shape_at
+          type-interval e = type-childless interval (shape_by w.value ∙ grind (arith, nat_tests)) a row₂
+
+          pub type-fixed : w.value ≡ 21 → Meets (fixed_size_binary_at text w.value w.next) row a row₂ → Meets (type_at text level at (rows_left rows)) rows a (row₂ ++ below)
+          unfolding shape_at
+          type-fixed e = type-childless fixed (shape_by w.value ∙ grind (arith, nat_tests)) a row₂
+
+          pub type-decimal : 35 ≤ w.value → w.value < 39 → Meets (decimal_at text w.value w.next) row a row₂ → Meets (type_at text level at (rows_left rows)) rows a (row₂ ++ below)
+          unfolding shape_at
+          type-decimal l m = type-childless decimal (shape_by w.value ∙ grind (arith, nat_tests)) a row₂
+
+        -- and with them
+        module _ (a : Read) (after : List ℕ) where
+          pub type-list : 27 ≤ w.value → w.value < 32 → (w.value ≡ 29 → ⊥) → Meets (list_at text (type_at text (level - 1)) w.value w.next (rows_left below)) (row ++ below) a after → Meets (type_at text level at (rows_left rows)) rows a after
+          unfolding shape_at
+          type-list l m n = type-parent list (shape_by w.value ∙ grind (arith, nat_tests)) a after
+
+          pub type-fixed-list : w.value ≡ 29 → Meets (fixed_size_list_at text (type_at text (level - 1)) w.value w.next (rows_left below)) (row ++ below) a after → Meets (type_at text level at (rows_left rows)) rows a after
+          unfolding shape_at
+          type-fixed-list e = type-parent fixed_list (shape_by w.value ∙ grind (arith, nat_tests)) a after
+
+          pub type-struct : w.value ≡ 32 → Meets (struct_at text (type_at text (level - 1)) w.value w.next (rows_left below)) (row ++ below) a after → Meets (type_at text level at (rows_left rows)) rows a after
+          unfolding shape_at
+          type-struct e = type-parent struct (shape_by w.value ∙ grind (arith, nat_tests)) a after
+
+          pub type-union : w.value ≡ 33 → Meets (union_at text (type_at text (level - 1)) w.value w.next (rows_left below)) (row ++ below) a after → Meets (type_at text level at (rows_left rows)) rows a after
+          unfolding shape_at
+          type-union e = type-parent union (shape_by w.value ∙ grind (arith, nat_tests)) a after
+
+          pub type-dictionary : w.value ≡ 34 → Meets (dictionary_at text (type_at text (level - 1)) w.value w.next (rows_left below)) (row ++ below) a after → Meets (type_at text level at (rows_left rows)) rows a after
+          unfolding shape_at
+          type-dictionary e = type-parent dictionary (shape_by w.value ∙ grind (arith, nat_tests)) a after
+
+          pub type-map : w.value ≡ 39 → Meets (map_at text (type_at text (level - 1)) w.value w.next (rows_left below)) (row ++ below) a after → Meets (type_at text level at (rows_left rows)) rows a after
+          unfolding shape_at
+          type-map e = type-parent mapping (shape_by w.value ∙ grind (arith, nat_tests)) a after
+
+          pub type-run-ends : w.value ≡ 40 → Meets (run_end_encoded_at text (type_at text (level - 1)) w.value w.next (rows_left below)) (row ++ below) a after → Meets (type_at text level at (rows_left rows)) rows a after
+          unfolding shape_at
+          type-run-ends e = type-parent run_end_encoded (shape_by w.value ∙ grind (arith, nat_tests)) a after
+
+        -- a leaf's row
+        pub type-leaf : shape_of w.value ≡ leaf → (a : Extent) (row₂ : List ℕ) → Put w.next 0 (bare_row w.value 0 0 0 0) a row₂ → Meets (type_at text level at (rows_left rows)) rows (Ok a) (row₂ ++ below)
+        unfolding shape_at
+        type-leaf i a row₂ p =
+            let l : length row ≡ row_words = let n = split.2 in ap length split.0 ∙ length-take-le row_words rows (omega arith) in
+            type-childless leaf i (Ok a) row₂ (meets-put row row₂ (by_shape leaf) (bare_row w.value 0 0 0 0) ∅ w.next 0 a row₂ refl refl p (alone (bare_row w.value 0 0 0 0) row row₂ l))

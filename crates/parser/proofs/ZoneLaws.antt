@@ -10,7 +10,7 @@ use lib.IntN.{ℤ}
 use lib.Dec.{eqb}
 use borrow.Author.Tests.{eq-eqb, le-leb, lt-leb}
 use mir.Val.{Fits, to_z, of_z}
-use mir.Syntax.{w8, w32}
+use mir.Syntax.{w8, w32, w64}
 use Rattle.std.specs.Int.{FitsUnsignedBits}
 use Rattle.std.specs.Int.RustNames.{FitsSigned}
 use Rattle.std.proofs.Common.{to_z-of_z}
@@ -26,10 +26,10 @@ use Rattle.parser.specs.Internal.Steps.{word_of, integer_of, zone_of}
 use Rattle.parser.specs.declared.ReadValue.{ReadValue}
 use Rattle.parser.specs.declared.Span.{Span}
 use Rattle.parser.proofs.Holds.{Holds, holds_bind, holds_then, holds_if}
-use Rattle.parser.proofs.Answers.{standing, got_token, got_word, behind, string, GotWord, GotNumber}
+use Rattle.parser.proofs.Matched.{standing, got_token, got_word, got_integer, behind, string, GotWord, GotNumber}
 use Rattle.parser.proofs.Values.{sign-is, magnitude-is, byte_in, byte_out, positive, positive_out}
 use Rattle.parser.proofs.Looks.{needed-stands, refused-stands}
-use Rattle.parser.proofs.TokenLaws.{here, nine, not-here, other_sort}
+use Rattle.parser.proofs.TokenLaws.{here, nine, not-here, other_sort, word-refused}
 
 -- a word and a string that were read
 abbrev pub word : ℕ → ℕ → ReadValue ℕ
@@ -84,39 +84,41 @@ module _ (text : List ℕ) (least most at : ℕ) where
     unfolding word_of
     word-in v e h = rw (number-in h, magnitude-is _ _ _ g, e)
 
--- a number from 0 on, by the word that it is
-pub unsigned_large : (z : ℤ) (v most : ℕ) → is_below_zero z ≡ false → v ≡ nat_abs z → most < v → (if is_below_zero z then 0 else most) < nat_abs z
-unsigned_large z v most s e h = rw s (omega arith)
+-- a number that was read, and its conversion
+module _ (text : List ℕ) (at : ℕ) (r : ReadValue ℤ) (h : done r ≡ integer_of (need text integer at)) (fits : FitsSigned w64 r.value) where
+  abbrev converted : ℤ
+  converted = to_z w64 (of_z w64 r.value)
 
-pub unsigned_small : (z : ℤ) (v most : ℕ) → is_below_zero z ≡ false → v ≡ nat_abs z → v ≤ most → nat_abs z ≤ (if is_below_zero z then 0 else most)
-unsigned_small z v most s e h = rw s (omega arith)
+  kept : converted ≡ r.value
+  kept = to_z-of_z fits
 
--- a signed byte, as it is converted from a number z that is handed on as y
-module _ (text : List ℕ) (at : ℕ) (z y : ℤ) (n : ℕ) (e : y ≡ z) (g : GotNumber (need text integer at) z n) where
-  pub byte-out : (FitsSigned w8 y → ⊥) → number_in text 128 127 at ≡ refuse 10
-  byte-out h = number-out text 128 127 at z n g (byte_out z (subst (λ (x : ℤ). FitsSigned w8 x → ⊥) e h))
+  got : GotNumber (need text integer at) r.value r.next
+  got = got_integer (need text integer at) r h
 
-  pub byte-in : (v : ℤ) → FitsSigned w8 y × (v ≡ y) → done (record { value = to_z w8 (of_z w8 v); next = n }) ≡ integer_of (number_in text 128 127 at)
-  byte-in v h =
-      let f = subst (FitsSigned w8) e h.0 in
-      let i = h.1 ∙ e in
-      ap (λ (x : ℤ). done (record { value = x; next = n })) (to_z-of_z (subst (FitsSigned w8) (sym i) f) ∙ i)
-      ∙ signed-in text 128 127 at z n g (byte_in z f)
+  pub byte-out : (FitsSigned w8 converted → ⊥) → number_in text 128 127 at ≡ refuse 10
+  byte-out n = number-out text 128 127 at r.value r.next got (byte_out r.value (subst (λ (x : ℤ). FitsSigned w8 x → ⊥) kept n))
 
-  pub positive-out : (most : ℕ) → (FitsUnsignedBits 32 y → ⊥) → most < 4294967296 → number_in text 0 most at ≡ refuse 10
-  positive-out most h m = number-out text 0 most at z n g (positive_out z most (subst (λ (x : ℤ). FitsUnsignedBits 32 x → ⊥) e h) m)
+  pub byte-in : (v : ℤ) → FitsSigned w8 converted × (v ≡ converted) → done (record { value = to_z w8 (of_z w8 v); next = r.next }) ≡ integer_of (number_in text 128 127 at)
+  byte-in v n =
+      let f = subst (FitsSigned w8) kept n.0 in
+      let i = n.1 ∙ kept in
+      ap (λ (x : ℤ). done (record { value = x; next = r.next })) (to_z-of_z (subst (FitsSigned w8) (sym i) f) ∙ i)
+      ∙ signed-in text 128 127 at r.value r.next got (byte_in r.value f)
 
-  module _ (most v : ℕ) (h : FitsUnsignedBits 32 y × (v ≡ unsigned_abs y)) where
-    above : (is_below_zero z ≡ false) × (v ≡ nat_abs z)
+  pub positive-out : (most : ℕ) → (FitsUnsignedBits 32 converted → ⊥) → most < 4294967296 → number_in text 0 most at ≡ refuse 10
+  positive-out most n m = number-out text 0 most at r.value r.next got (positive_out r.value most (subst (λ (x : ℤ). FitsUnsignedBits 32 x → ⊥) kept n) m)
+
+  module _ (most v : ℕ) (n : FitsUnsignedBits 32 converted × (v ≡ unsigned_abs converted)) where
+    above : (is_below_zero r.value ≡ false) × (v ≡ nat_abs r.value)
     above =
-        let p = positive z (subst (FitsUnsignedBits 32) e h.0) in
-        (p.0, h.1 ∙ ap unsigned_abs e ∙ sym p.1)
+        let p = positive r.value (subst (FitsUnsignedBits 32) kept n.0) in
+        (p.0, n.1 ∙ ap unsigned_abs kept ∙ sym p.1)
 
-    pub positive-large : most < v → number_in text 0 most at ≡ refuse 10
-    positive-large l = number-out text 0 most at z n g (unsigned_large z v most above.0 above.1 l)
+    pub positive-large : most < v → refuse 10 ≡ word_of (number_in text 0 most at)
+    positive-large l = word-refused (number_in text 0 most at) 10 (number-out text 0 most at r.value r.next got (let a = above in grind arith))
 
-    pub positive-in : v ≤ most → done (word v n) ≡ word_of (number_in text 0 most at)
-    positive-in l = word-in text 0 most at z n g v above.1 (unsigned_small z v most above.0 above.1 l)
+    pub positive-in : v ≤ most → done (word v r.next) ≡ word_of (number_in text 0 most at)
+    positive-in l = word-in text 0 most at r.value r.next got v above.1 (let a = above in grind arith)
 
 -- ---- zones
 
@@ -278,5 +280,3 @@ module _ (text : List ℕ) (at s l n : ℕ) (short : length text ≤ 16384) wher
     list-name-fits e =
         let h : Holds (TokenIn text) (done (string q s l n)) = rw e at (list_name_inside text at) in
         (omega arith, omega arith)
-
--- ---- list names

@@ -1,8 +1,9 @@
 // Types without children, into a row of their own.
 ghost use Rattle.std.specs.Prelude.{◌≡◌};
 ghost use Rattle.tokenizer.specs.Answer.{answer_of};
-ghost use Rattle.parser.specs.Parse.{unit_at, timestamp_at, time_at, interval_at, fixed_size_binary_at, scale_at, decimal_at};
-ghost use Rattle.parser.specs.Internal.Steps.{Meets, word_of};
+ghost use Rattle.tokenizer.specs.Token.{rparen};
+ghost use Rattle.parser.specs.Parse.{bare_row, need, unit_at, timestamp_at, time_at, interval_at, fixed_size_binary_at, scale_at, decimal_at};
+ghost use Rattle.parser.specs.Internal.Steps.{Closed, Meets, word_of};
 
 use crate::rows::{Head, PLAIN, put_row};
 use crate::{Extent, Parser, ReadValue};
@@ -46,8 +47,26 @@ impl<'a> Parser<'a> {
         Err(Refusal::WrongTimeUnit)
     }
 
+    // The mark that closes a type which is its kind and one value, as that of the three below is.
+    fn close_value(
+        &self,
+        row: &mut [u32; ROW_WORDS],
+        kind: u32,
+        value: ReadValue<u32>,
+    ) -> Result<Extent, Refusal>
+        ensures { Closed (need self.now.text.now rparen value.next) 0 (bare_row kind value.value 0 0 0) result row.new }
+    {
+        let head = Head {
+            kind,
+            number: value.value,
+            ..PLAIN
+        };
+        self.close(row, value.next, 0, head)
+    }
+
     // Time32, Time64 and Duration.
-    // It and the two below differ in the reader called: a clause over any reader would say less plainly what each takes.
+    // It and the two below differ in the reader called: with that as a closure, what each takes would stand in the clauses of
+    // a closure and not of a function.
     #[tactic(auto, using(crate::proofs::Rules::value_steps), unfolding(crate::specs::Parse::time_at))]
     pub(crate) fn parse_time(
         &self,
@@ -59,12 +78,7 @@ impl<'a> Parser<'a> {
     {
         let open = self.expect_token(at, b'(')?;
         let unit = self.parse_unit(kind, open)?;
-        let head = Head {
-            kind,
-            number: unit.value,
-            ..PLAIN
-        };
-        self.close(row, unit.next, 0, head)
+        self.close_value(row, kind, unit)
     }
 
     #[tactic(auto, using(crate::proofs::Rules::value_steps), unfolding(crate::specs::Parse::interval_at))]
@@ -78,12 +92,7 @@ impl<'a> Parser<'a> {
     {
         let open = self.expect_token(at, b'(')?;
         let unit = self.parse_interval_unit(open)?;
-        let head = Head {
-            kind,
-            number: unit.value,
-            ..PLAIN
-        };
-        self.close(row, unit.next, 0, head)
+        self.close_value(row, kind, unit)
     }
 
     #[tactic(auto, using(crate::proofs::Rules::value_steps), unfolding(crate::specs::Parse::fixed_size_binary_at))]
@@ -97,12 +106,7 @@ impl<'a> Parser<'a> {
     {
         let open = self.expect_token(at, b'(')?;
         let length = self.parse_length(open)?;
-        let head = Head {
-            kind,
-            number: length.value,
-            ..PLAIN
-        };
-        self.close(row, length.next, 0, head)
+        self.close_value(row, kind, length)
     }
 
     // A decimal's scale and closing mark, behind which precision and scale are judged.

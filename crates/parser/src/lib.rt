@@ -1,7 +1,8 @@
 // The readers of types: text becomes rows, or is refused. The functions are named after those of the Rust's `Parser`. A
 // row is lent as an array, and the rows below it as a slice, which says how many are left; a parent's row is written once
 // its children are read. That a slice is no longer than 1,024 rows stays a clause (`Room`): its type says no length, and a
-// struct that held the loan would be taken apart at each call.
+// struct that held the loan would be taken apart at each call. Row, rows below, kind, place and level are no struct for the
+// same reason: each call hands on others.
 
 #![tactic(auto)]
 
@@ -14,7 +15,7 @@ ghost use Rattle.datatype.specs.Table.{rows_lent};
 ghost use Rattle.parser.specs.Parse.{id_of, scale_of, field_at, list_field, list_name_at, named_run_ends, default_run_ends, list_at, fixed_size_list_at, struct_at, union_at, union_field, dictionary_at, map_at, run_end_encoded_at, type_at, first_type, read_of, rows_of};
 ghost use Rattle.parser.specs.Internal.Steps.{Room, RoomBelow, Meets, MeetsFields, rows_left, span_of};
 
-use crate::rows::{Head, ITEM, PLAIN, RUN_ENDS, VALUES, put_field, put_row};
+use crate::rows::{Head, PLAIN, put_field, put_row};
 use datatype::kind::{
     DECIMAL32, DECIMAL64, DECIMAL128, DECIMAL256, DICTIONARY, DURATION, FIXED_SIZE_BINARY,
     FIXED_SIZE_LIST, INTERVAL, LARGE_LIST, LARGE_LIST_VIEW, LIST, LIST_VIEW, MAP, RUN_END_ENCODED,
@@ -29,7 +30,7 @@ mod rows;
 mod tokens;
 mod zones;
 
-// A text, and the table of its words. The table is lent once for a text, since a constant array is built anew at each use.
+// A text, and the table of its words, which is lent once for a text.
 #[derive(Drop)]
 pub(crate) struct Parser<'a> {
     words: &'a WordTable,
@@ -57,24 +58,14 @@ impl ReadValue<i8> {
     fn as_union_id(self) -> u32
         ensures { result ≡ id_of (done (Integer self.value)) }
     {
-        let magnitude = self.value.unsigned_abs() as u32;
-        if self.value < 0 {
-            256 - magnitude
-        } else {
-            magnitude
-        }
+        u32::from(self.value.cast_unsigned())
     }
 
     // A row keeps a decimal's scale plus 128, which is never negative.
     pub(crate) fn as_scale(self) -> u32
         ensures { result ≡ scale_of (done (Integer self.value)) }
     {
-        let magnitude = self.value.unsigned_abs() as u32;
-        if self.value < 0 {
-            128 - magnitude
-        } else {
-            128 + magnitude
-        }
+        (i32::from(self.value) + 128) as u32
     }
 }
 
@@ -83,13 +74,6 @@ impl ReadValue<i8> {
 pub(crate) struct Span {
     pub start: usize,
     pub size: usize,
-    pub next: usize,
-}
-
-// A field's role, and the place behind the nullability word if there is one.
-#[derive(Clone, Copy)]
-pub(crate) struct Nullability {
-    pub role: u32,
     pub next: usize,
 }
 
@@ -156,7 +140,7 @@ impl<'a> Parser<'a> {
             start: name.start as u32,
             size: name.size as u32,
         };
-        put_field(rows, null.role, id, label);
+        put_field(rows, null.value, id, label);
         Ok(tree)
     }
 
@@ -170,7 +154,7 @@ impl<'a> Parser<'a> {
         let null = self.parse_opt_nullable(at);
         let item = self.parse_next_type(rows, null.next, level)?;
         let Some(comma) = self.next_if(item.next, b',') else {
-            put_field(rows, null.role, 0, ITEM);
+            put_field(rows, null.value, 0, Field::LIST_FIELD);
             return Ok(item);
         };
         let name = self.parse_list_name(comma)?;
@@ -179,7 +163,7 @@ impl<'a> Parser<'a> {
             start: name.start as u32,
             size: name.size as u32,
         };
-        put_field(rows, null.role, 0, label);
+        put_field(rows, null.value, 0, label);
         Ok(Extent {
             next: name.next,
             used: item.used,
@@ -245,7 +229,7 @@ impl<'a> Parser<'a> {
         }
         let comma = self.expect_token(length.next, b',')?;
         let item = self.parse_next_type(below, comma, level)?;
-        put_field(below, NULLABLE, 0, ITEM);
+        put_field(below, NULLABLE, 0, Field::LIST_FIELD);
         self.close(row, item.next, item.used, head)
     }
 
@@ -444,16 +428,16 @@ impl<'a> Parser<'a> {
         ensures { MeetsFields (default_run_ends self.now.text.now (type_at self.now.text.now level) at (rows_left rows.old)) rows.old result rows.new }
     {
         let sure = self.parse_opt_nullable(at);
-        if sure.role != NON_NULL {
+        if sure.value != NON_NULL {
             return Err(Refusal::MustBeNonNull);
         }
         let run_ends = self.parse_next_type(rows, sure.next, level)?;
-        put_field(rows, NON_NULL, 0, RUN_ENDS);
+        put_field(rows, NON_NULL, 0, Field::REE_RUN_ENDS_FIELD);
         let comma = self.expect_token(run_ends.next, b',')?;
         let null = self.parse_opt_nullable(comma);
         let behind = &mut rows[ROW_WORDS * run_ends.used..];
         let values = self.parse_next_type(behind, null.next, level)?;
-        put_field(behind, null.role, 0, VALUES);
+        put_field(behind, null.value, 0, Field::REE_VALUES_FIELD);
         Ok(Extent {
             next: values.next,
             used: run_ends.used + values.used,
@@ -464,7 +448,7 @@ impl<'a> Parser<'a> {
 // ---- the type that a text begins with
 
 // Reads the type that a text begins with. The rows are left open on a refusal.
-#[tactic(auto, using(crate::proofs::Rules::text_steps))]
+#[tactic(auto, using(crate::proofs::Rules::text_steps), unfolding(tokenizer::specs::Edges::edges))]
 fn parse_text(text: &[u8], rows: &mut [u32]) -> Result<Extent, Refusal>
     ensures { Meets (first_type text.now (rows_lent (length rows.old))) rows.old result rows.new }
 {
@@ -484,16 +468,14 @@ fn parse_text(text: &[u8], rows: &mut [u32]) -> Result<Extent, Refusal>
 
 // Reads the type that a text begins with into lent rows: the place behind it and how many rows it fills, or the refusal.
 // A refusal leaves the rows all zeros.
-#[tactic(auto, using(crate::proofs::FirstType::first_read))]
+#[tactic(auto, using(crate::proofs::Rules::first_type_steps))]
 pub fn parse_first_type(text: &[u8], rows: &mut [u32]) -> Result<Extent, Refusal>
     ensures answer { answer_of result ≡ read_of (first_type text.now (rows_lent (length rows.old))) }
     ensures contents { rows.new ≡ rows_of rows.old (first_type text.now (rows_lent (length rows.old))) }
 {
-    match parse_text(text, rows) {
-        Ok(extent) => Ok(extent),
-        Err(refusal) => {
-            rows.fill(0);
-            Err(refusal)
-        }
+    let read = parse_text(text, rows);
+    if read.is_err() {
+        rows.fill(0);
     }
+    read
 }

@@ -24,32 +24,14 @@ pub(crate) struct Head {
     pub zone_length: u32,
 }
 
-// What it says besides the kind where there is nothing to say.
+// What it says besides the kind where there is nothing to say. By a derived `Default` thirteen functions were not proved:
+// each has to be told what that call answers, where a constant is read.
 pub(crate) const PLAIN: Head = Head {
     kind: 0,
     number: 0,
     scale: 0,
     zone_start: 0,
     zone_length: 0,
-};
-
-// The names of the name list.
-pub(crate) const ITEM: Field = Field {
-    home: Field::IN_NAME_LIST,
-    start: Field::LIST_FIELD_START,
-    size: Field::LIST_FIELD_LENGTH,
-};
-
-pub(crate) const RUN_ENDS: Field = Field {
-    home: Field::IN_NAME_LIST,
-    start: Field::REE_RUN_ENDS_START,
-    size: Field::REE_RUN_ENDS_LENGTH,
-};
-
-pub(crate) const VALUES: Field = Field {
-    home: Field::IN_NAME_LIST,
-    start: Field::REE_VALUES_START,
-    size: Field::REE_VALUES_LENGTH,
 };
 
 // Writes the row of a type that is no field, once all of it is read: its children fill the `used` rows behind it.

@@ -5,7 +5,7 @@ ghost use Rattle.tokenizer.specs.Token.{token_at, token_or_refusal, integer, dou
 ghost use Rattle.parser.specs.Parse.{need, role_at, after_role, number_in, length_at, precision_at, signed_byte_at, stands};
 ghost use Rattle.parser.specs.Internal.Steps.{mark_sort, is_mark, next_of, look_of, word_of, integer_of, span_of};
 
-use crate::{Nullability, Parser, ReadValue, Span};
+use crate::{Parser, ReadValue, Span};
 use datatype::rows::NULLABLE;
 use tokenizer::{Refusal, Token, TokenKind};
 
@@ -22,6 +22,7 @@ fn starts(text: &[u8], at: usize, byte: u8) -> bool
 
 impl<'a> Parser<'a> {
     // The token at or behind a place.
+    #[tactic(auto, using(crate::proofs::Rules::next_token_steps))]
     pub(crate) fn next_token(&self, at: usize) -> Result<Token, Refusal>
         ensures { answer_of result ≡ token_or_refusal (token_at self.now.text.now at) }
     {
@@ -72,31 +73,27 @@ impl<'a> Parser<'a> {
     }
 
     // Nullability, which may be left out. Both of its words begin with an n, so that the word of a type is not read twice.
-    pub(crate) fn parse_opt_nullable(&self, at: usize) -> Nullability
-        ensures role { result.role ≡ role_at self.now.text.now at }
+    #[tactic(auto, using(crate::proofs::Rules::nullability_steps))]
+    pub(crate) fn parse_opt_nullable(&self, at: usize) -> ReadValue<u32>
+        ensures role { result.value ≡ role_at self.now.text.now at }
         ensures next { result.next ≡ after_role self.now.text.now at }
     {
+        let left_out = ReadValue {
+            value: NULLABLE,
+            next: at,
+        };
         let from = tokenizer::skip_spaces(self.text, at);
         if !starts(self.text, from, b'n') {
-            return Nullability {
-                role: NULLABLE,
-                next: at,
-            };
+            return left_out;
         }
         let Ok(token) = self.next_token(from) else {
-            return Nullability {
-                role: NULLABLE,
-                next: at,
-            };
+            return left_out;
         };
-        let TokenKind::Nullability(role) = token.kind else {
-            return Nullability {
-                role: NULLABLE,
-                next: at,
-            };
+        let TokenKind::Nullability(value) = token.kind else {
+            return left_out;
         };
-        Nullability {
-            role,
+        ReadValue {
+            value,
             next: token.next,
         }
     }
@@ -115,8 +112,8 @@ impl<'a> Parser<'a> {
         true
     }
 
-    // The seven readers of a string or of a word differ in a variant, which is no value: one for all would take from each a
-    // closure with the same `match`, and its clause would say what that answers and not which token is needed.
+    // The eight readers of a string, a word or a number differ in a variant, which is no value. One for all would take the
+    // number of a sort, as the definition does, and compare a kind's with it: numbers in place of the enum.
 
     // A double-quoted string is needed.
     #[tactic(auto, using(crate::proofs::Rules::string_steps))]
@@ -238,9 +235,7 @@ impl<'a> Parser<'a> {
     pub(crate) fn next_if_x(&self, at: usize) -> Option<usize>
         ensures { result ≡ look_of (need self.now.text.now x_word at) }
     {
-        let Ok(token) = self.next_token(at) else {
-            return None;
-        };
+        let token = self.next_token(at).ok()?;
         let TokenKind::X = token.kind else {
             return None;
         };

@@ -13,6 +13,7 @@ use round_trip::{NotReadBack, PrintedAndRead};
 
 // Prints a tree into one lent buffer and reads just those bytes back into another. For a tree that demand 3 speaks of and
 // buffers that hold its text and its rows, neither call refuses, and the rows are the same tree.
+#[tactic(auto, unfolding(datatype_display::specs::Print::print_answer, datatype_display::specs::Print::print_bytes, round_trip::specs::PrintAndRead::printed_and_read_means, round_trip::specs::PrintAndRead::print_and_read_answer, round_trip::specs::PrintAndRead::print_and_read_rows))]
 pub fn print_and_read(
     tree: Tree<'_>,
     out: &mut [u8],

@@ -39,7 +39,8 @@ struct Number {
 }
 
 // How many cases were replayed, how many of them gave what is stored, the number of the first that did not, and the
-// place behind the last.
+// place behind the last. A function takes it beside the sample and lent words and answers the next: no struct of the three,
+// since it alone changes hands.
 #[derive(Clone, Copy)]
 struct Tally {
     all: u32,
@@ -82,7 +83,8 @@ struct Table {
     next: usize,
 }
 
-// A stored answer: the status, and the value.
+// A stored answer: the status, and the value. Statuses, here and above, and a yes or no as 1 and 0 are numbers, as
+// the sample has them.
 #[derive(Clone, Copy)]
 struct Answer {
     status: u32,

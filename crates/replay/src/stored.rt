@@ -44,8 +44,7 @@ pub(crate) fn rest_at(sample: &[u8], at: usize) -> &[u8]
 pub(crate) fn part_at(sample: &[u8], at: usize, size: u32) -> &[u8]
     ensures { result.now ≡ part sample.now at size }
 {
-    let rest = sample.get(at..).unwrap_or(&[]);
-    rest.get(..size as usize).unwrap_or(&[])
+    rest_at(sample, at).get(..size as usize).unwrap_or(&[])
 }
 
 // The bytes that such a number stands before: the value is their number, the next place is theirs.

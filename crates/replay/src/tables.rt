@@ -80,8 +80,8 @@ fn word(words: &[u32], place: usize) -> u32
     words.get(place).copied().unwrap_or(0)
 }
 
-// Sets a word of a table, unless it is past its end, as `output::put_byte` does a byte: one function for both would be no
-// plainer, since its clause would speak of values of any type.
+// Sets a word of a table, unless it is past its end, as `output::put_byte` does a byte. One function for both would be
+// `output`'s, which writes bytes alone, for the sake of a test.
 fn put(words: &mut [u32], place: usize, value: u32)
     ensures { words.new ≡ set words.old place value }
 {

@@ -1,10 +1,10 @@
 -- Kinds that share their theorem (document 01, 'The strength of each statement').
---   decimals        over the width: the text of any precision and scale is read as one row of the width's kind, or is refused
---                   with 12. `decimal_fits` says which, and `width_fits` (datatype) says what it is for each width
---   decimals-read   any text behind a decimal's word is read by one reader, given the kind
---   decimal-text    and the text of a precision and a scale is what such a row prints
---   lists-read      over the kind: the four plain lists are read alike, but for the kind in the row
---   list-text       and printed alike, but for the kind's word
+--   decimals          over the width: the text of any precision and scale is read as one row of the width's kind, or is
+--                     refused with 12. `decimal_fits` says which, and `width_fits` (datatype) says what it is for each width
+--   decimals_read     any text behind a decimal's word is read by one reader, given the kind
+--   decimal_text_lem  and the text of a precision and a scale is what such a row prints
+--   lists-read        over the kind: the four plain lists are read alike, but for the kind in the row
+--   list_text         and printed alike, but for the kind's word
 use Rattle.std.specs.Prelude.{if◌then◌else◌}
 use mathlib.Core.Path.{◌≡◌, refl, sym, ap, ◌∙◌}
 use mathlib.Core.Bool.{Bool, true, false}

@@ -8,10 +8,11 @@ use native.Mathlib.Decide.{dec_lt}
 use native.Mathlib.Omega.{arith}
 use lib.ListN.{length, length-append}
 use lib.Dec.{T}
-use borrow.Author.Tests.{lt-ltb, le-ltb, le-leb}
+use borrow.Author.Tests.{lt-ltb, le-ltb}
 use Rattle.tokenizer.specs.Text.{all}
 use Rattle.tokenizer.specs.Token.{is_digit, number_from}
-use Rattle.tokenizer.proofs.Basics.{and_l, and_r, both}
+use Rattle.tokenizer.proofs.Basics.{both}
+use Rattle.std.proofs.lemmas.Bool.Decides.{nat_tests}
 use Rattle.output.specs.Digits.{digits_with, digits}
 
 number_snoc : (v : ℕ) (s : List ℕ) (c : ℕ) → number_from v (s ++ (c ∷ [])) ≡ number_from v s * 10 + (c - 48)
@@ -20,13 +21,12 @@ number_snoc v [] c = refl
 number_snoc v (d ∷ s) c = number_snoc (v * 10 + (d - 48)) s c
 
 digits_snoc : (s : List ℕ) (c : ℕ) → T (all is_digit s) → T (is_digit c) → T (all is_digit (s ++ (c ∷ [])))
-digits_snoc [] c h k = both (is_digit c) true k tt
-digits_snoc (d ∷ s) c h k =
-    both (is_digit d) (all is_digit (s ++ (c ∷ []))) (and_l (is_digit d) (all is_digit s) h) (digits_snoc s c (and_r (is_digit d) (all is_digit s) h) k)
+digits_snoc [] c h k = grind (arith, nat_tests)
+digits_snoc (d ∷ s) c h k = let t = digits_snoc s c (grind (arith, nat_tests)) k in grind (arith, nat_tests)
 
 digit : (d : ℕ) → d < 10 → T (is_digit (48 + d))
 unfolding is_digit
-digit d h = rw (le-leb 48 (48 + d) (omega arith), le-leb (48 + d) 57 (omega arith)) tt
+digit d h = grind (arith, nat_tests)
 
 -- digits that spell a number
 pub record Spelled (n : ℕ) (s : List ℕ) : Type 0 where

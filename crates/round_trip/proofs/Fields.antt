@@ -11,9 +11,9 @@ use Rattle.tokenizer.specs.Answer.{Out, done}
 use Rattle.tokenizer.specs.Words.{words}
 use Rattle.tokenizer.specs.Token.{Standing, is_separator, is_digit, token_at, sort_of, double_quoted, single_quoted, comma, field_word}
 use Rattle.tokenizer.proofs.Basics.{skip, of_true}
+use Rattle.tokenizer.proofs.Listed.{same_path}
 use Rattle.datatype.specs.Tree.{Forest, count, Label, name_list, name_of, part}
 use Rattle.row_table.specs.Sound.{is_name}
-use Rattle.datatype.proofs.Same.{same_eq}
 use Rattle.parser.specs.Parse.{Name, Tree, item, text_name, field_row, role_at, after_role, list_name_at, field_at, default_field, list_field}
 use Rattle.display_length.specs.Display.{Shown, quoted, nullity_text, field_text, list_name_text, list_field_text, type_text, shown}
 use Rattle.round_trip.specs.Plain.{is_plain}
@@ -138,7 +138,7 @@ module _ (text : List ℕ) (type : ℕ → ℕ → Out Tree) where
     name_out : (s : List ℕ) → T (same l.name (bytes "item")) → RoleRead text l kids at (41 ∷ s)
         → TreeRead text (type (after_role text at) rows) (bare_label l) kids (41 ∷ s) → TreeRead text (list_field text type at rows) l kids (41 ∷ s)
     unfolding list_field name_of
-    name_out s h r t = whole (default-step item l kids at rows (41 ∷ s) (sym i) (sym (same_eq l.name (bytes "item") h)) r t)
+    name_out s h r t = whole (default-step item l kids at rows (41 ∷ s) (sym i) (sym (same_path l.name (bytes "item") h)) r t)
       where
         whole : TreeRead text (default_field text type item at rows) l kids (41 ∷ s) → TreeRead text (list_field text type at rows) l kids (41 ∷ s)
         whole g =

@@ -12,8 +12,8 @@ use Rattle.tokenizer.specs.Answer.{Out}
 use Rattle.tokenizer.specs.Words.{words}
 use Rattle.tokenizer.specs.Token.{is_separator, is_digit, token_at, double_quoted, nullability}
 use Rattle.tokenizer.proofs.Basics.{skip, of_true, and_l, and_r}
+use Rattle.tokenizer.proofs.Listed.{same_path}
 use Rattle.datatype.specs.Tree.{Forest, ∅, node, count, Label, name_of, labels}
-use Rattle.datatype.proofs.Same.{same_eq}
 use Rattle.parser.specs.Parse.{Tree, run_ends, values, pair, stands, named_run_ends, default_run_ends, run_end_fields}
 use Rattle.display_length.specs.Display.{nullity_text, field_text, default_names, run_end_text, type_text, shown}
 use Rattle.round_trip.proofs.Tokens.{mark_stop, comma_stop, is_listed_word, is_word_of, word_is}
@@ -72,7 +72,7 @@ module _ (text : List ℕ) (type : ℕ → ℕ → Out Tree) (m n : Label) (kids
         trees = λ j. node (f.tree.row j) (f.tree.below j) (node (v.tree.row j) (v.tree.below j) ∅);
       }
 
-  -- the word `non_null_lem` is no string
+  -- the word `non-null` is no string
   no-string : (t : List ℕ) → m.role ≡ 2 → drop at text ≡ nullity_text m ++ t → stands text double_quoted at ≡ false
   unfolding nullity_text is_word_of is_listed_word words is_separator is_digit
   no-string t ro e =
@@ -143,6 +143,6 @@ module _ (text : List ℕ) (type : ℕ → ℕ → Out Tree) (m n : Label) (kids
             → PairRead
         go true q e =
             let t : T (same m.name (bytes "run_ends") && same n.name (bytes "values")) = of_true _ q in
-            short-pair (same_eq m.name (bytes "run_ends") (and_l (same m.name (bytes "run_ends")) (same n.name (bytes "values")) t))
-            (same_eq n.name (bytes "values") (and_r (same m.name (bytes "run_ends")) (same n.name (bytes "values")) t)) e
+            short-pair (same_path m.name (bytes "run_ends") (and_l (same m.name (bytes "run_ends")) (same n.name (bytes "values")) t))
+            (same_path n.name (bytes "values") (and_r (same m.name (bytes "run_ends")) (same n.name (bytes "values")) t)) e
         go false q e = long-pair e

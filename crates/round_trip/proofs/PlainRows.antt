@@ -1,16 +1,17 @@
 -- Sound trees with plain names and zones, row by row: what the round trip starts from.
 use mathlib.Core.Path.{◌≡◌, refl, sym}
-use mathlib.Core.Bool.{Bool, false, ◌&&◌, ◌||◌}
+use mathlib.Core.Bool.{false, ◌||◌}
 use mathlib.Core.Logic.{◌⊎◌, inl, inr}
 use mathlib.Core.List.{List, [], ◌∷◌}
 use Prim.Native.Nat.{ℕ, ◌<◌}
 use lib.ListN.{length}
 use lib.Dec.{T, eqb, ltb→lt, eqb→eq}
 use Rattle.tokenizer.specs.Text.{all, is_empty}
-use Rattle.tokenizer.proofs.Basics.{and_l, and_r, both}
 use Rattle.datatype.specs.Kind.{Shape, kinds, shape_of}
 use Rattle.datatype.specs.Tree.{Forest, ∅, node, roots, Label}
 use Rattle.row_table.specs.Sound.{Standing, bare, field, union_field, arity_fits, role_fits, id_fits, is_name, name_fits, rules_of, zone_fits, shape_fits, rows_fit}
+use native.Mathlib.Omega.{arith}
+use Rattle.std.proofs.lemmas.Bool.Decides.{nat_tests}
 use Rattle.row_table.proofs.SoundTree.{RowFits, rules_at, rows_fit_lem}
 use Rattle.round_trip.specs.Plain.{is_plain, all_plain}
 
@@ -25,15 +26,10 @@ abbrev pub PlainRows : Standing → Forest Label → Type 0
 PlainRows place ∅ = Unit {0}
 PlainRows place (node l kids next) = PlainRow place l kids × PlainRows (rules_at l).below kids × PlainRows place next
 
--- four tests that all pass
-four : (a b c d : Bool) → T (a && b && c && d) → T a × T b × T c × T d
-four a b c d t =
-    (and_l a b (and_l (a && b) c (and_l (a && b && c) d t)), and_r a b (and_l (a && b) c (and_l (a && b && c) d t)), and_r (a && b) c (and_l (a && b && c) d t), and_r (a && b && c) d t)
-
 pub plain_parts : (l : Label) (kids next : Forest Label) → T (all_plain (node l kids next))
     → T (all is_plain l.name) × T (all is_plain l.zone) × T (all_plain kids) × T (all_plain next)
 unfolding all_plain
-plain_parts l kids next p = four (all is_plain l.name) (all is_plain l.zone) (all_plain kids) (all_plain next) p
+plain_parts l kids next p = (grind (arith, nat_tests), grind (arith, nat_tests), grind (arith, nat_tests), grind (arith, nat_tests))
 
 -- the other way round: a tree is plain if the name and the zone of each of its rows are
 abbrev pub In : Label → Forest Label → Type 0
@@ -45,11 +41,9 @@ unfolding all_plain
 rows_plain ∅ h = tt
 rows_plain (node l kids next) h =
     let r = h l (inl refl) in
-    let a : Bool = all is_plain l.name in
-    let b : Bool = all is_plain l.zone in
-    both (a && b && all_plain kids) (all_plain next)
-    (both (a && b) (all_plain kids) (both a b r.0 r.1) (rows_plain kids (λ m i. h m (inr (inl i)))))
-    (rows_plain next (λ m i. h m (inr (inr i))))
+    let k = rows_plain kids (λ m i. h m (inr (inl i))) in
+    let n = rows_plain next (λ m i. h m (inr (inr i))) in
+    grind (arith, nat_tests)
 
 pub plain_rows : (place : Standing) (f : Forest Label) → T (rows_fit place f) → T (all_plain f) → PlainRows place f
 plain_rows place ∅ h p = tt

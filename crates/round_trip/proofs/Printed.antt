@@ -1,5 +1,4 @@
 -- What a tree with plain names and zones prints in double quotes is ASCII.
-use mathlib.Core.Bool.{Bool, true, false, not, ◌&&◌, ◌||◌}
 use mathlib.Core.List.{List, [], ◌∷◌}
 use Prim.Native.Nat.{ℕ, ◌≤◌}
 use native.Mathlib.Omega.{arith}
@@ -7,9 +6,9 @@ use lib.Dec.{T, leb, le→leb}
 use borrow.Author.Tests.{leb-true}
 use Rattle.tokenizer.specs.Text.{all}
 use Rattle.tokenizer.proofs.Basics.{and_l, and_r, both}
-use Rattle.datatype.specs.Kind.{shape_of}
 use Rattle.datatype.specs.Tree.{Forest, ∅, node, roots, Label}
-use Rattle.display_length.specs.PrintedLength.{quotes_names, is_ascii, names_ascii, quoted_ascii}
+use Rattle.std.proofs.lemmas.Bool.Decides.{nat_tests}
+use Rattle.display_length.specs.PrintedLength.{is_ascii, names_ascii, quoted_ascii}
 use Rattle.round_trip.specs.Plain.{is_plain, all_plain}
 use Rattle.round_trip.proofs.Tokens.{plain_byte}
 use Rattle.round_trip.proofs.PlainRows.{plain_parts}
@@ -24,11 +23,9 @@ names_ascii_lem : (f : Forest Label) → T (all_plain f) → T (names_ascii (roo
 names_ascii_lem ∅ h = tt
 names_ascii_lem (node l kids next) h =
     let p = plain_parts l kids next h in
-    both (is_ascii l.name) (names_ascii (roots next)) (plain_ascii l.name p.0) (names_ascii_lem next p.3)
-
-or_right : (a b : Bool) → T b → T (a || b)
-or_right true b h = tt
-or_right false b h = h
+    let a = plain_ascii l.name p.0 in
+    let n = names_ascii_lem next p.3 in
+    grind (arith, nat_tests)
 
 -- no double-quoted name or zone holds a byte above 127
 pub plain_quoted : (f : Forest Label) → T (all_plain f) → T (quoted_ascii f)
@@ -36,10 +33,8 @@ unfolding quoted_ascii
 plain_quoted ∅ h = tt
 plain_quoted (node l kids next) h =
     let p = plain_parts l kids next h in
-    let a : Bool = is_ascii l.zone in
-    let b : Bool = not (quotes_names (shape_of l.kind) (roots kids)) || names_ascii (roots kids) in
-    both (a && b && quoted_ascii kids) (quoted_ascii next)
-    (both (a && b) (quoted_ascii kids)
-    (both a b (plain_ascii l.zone p.1) (or_right (not (quotes_names (shape_of l.kind) (roots kids))) (names_ascii (roots kids)) (names_ascii_lem kids p.2)))
-    (plain_quoted kids p.2))
-    (plain_quoted next p.3)
+    let z = plain_ascii l.zone p.1 in
+    let n = names_ascii_lem kids p.2 in
+    let k = plain_quoted kids p.2 in
+    let r = plain_quoted next p.3 in
+    grind (arith, nat_tests)

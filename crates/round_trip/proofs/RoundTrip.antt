@@ -1,23 +1,24 @@
 -- Demand 3 on the definitions. For every text, name list and table that meet its conditions (`in_demand3`):
---   in-demand3      which are: a sound tree, plain names and zones, a printed text of at most 16,384 bytes
+--   in_demand3_lem  which are: a sound tree, plain names and zones, a printed text of at most 16,384 bytes
 --   round_trip      the printed text is accepted, with any number of rows lent that holds the tree, and the tree that is
 --                   read is sound and says the same as the one printed: it has as many rows, and the two are equal trees
---   printed-utf8    the printed text is UTF-8
+--   printed_utf8    the printed text is UTF-8
 --   prints          the printer gives exactly the printed text, into any room that holds it: no refusal 17, 18 or 19
 --   prints-apart    two such trees with one printed text say the same, whatever their texts and tables are
 --   not_equal       so two such trees that are not equal have different printed texts
 use mathlib.Core.Path.{◌≡◌, sym, ap, ◌∙◌, subst}
-use mathlib.Core.Bool.{Bool, false, ◌&&◌}
+use mathlib.Core.Bool.{false}
 use mathlib.Core.List.{List}
 use Prim.Native.Nat.{ℕ, suc, ◌≤◌, min}
 use native.Mathlib.Omega.{arith}
 use lib.ListN.{length}
-use lib.Dec.{T, leb, leb→le, le→leb}
+use lib.Dec.{T}
 use borrow.Author.Tests.{le-leb}
+use Rattle.std.proofs.lemmas.Bool.Decides.{nat_tests}
 use Rattle.tokenizer.specs.Text.{all}
 use Rattle.tokenizer.specs.Answer.{Out, done}
 use Rattle.tokenizer.specs.Utf8.{is_utf8}
-use Rattle.tokenizer.proofs.Basics.{and_l, and_r, both, is_true}
+use Rattle.tokenizer.proofs.Basics.{is_true}
 use Rattle.datatype.specs.Tree.{Forest, ∅, node, count, depth, Row, Label, name_list, label_of, labels}
 use Rattle.datatype.specs.Table.{table_of, tree_of}
 use Rattle.row_table.specs.Sound.{bare, rows_fit, is_sound}
@@ -59,16 +60,8 @@ pub record Conditions (text names table : List ℕ) : Type 0 where
 pub conditions : (text names table : List ℕ) → T (in_demand3 text names table) → Conditions text names table
 unfolding in_demand3 is_plain_tree
 conditions text names table h =
-    let a : Bool = is_sound text names table in
-    let b : Bool = all_plain (tree_of text names table) in
-    let c : Bool = leb (length (printed text names table)) 16384 in
-    let s : T a = and_l a b (and_l (a && b) c h) in
-    record {
-      is_sound = s;
-      tree = sound_tree text names table s;
-      plain = and_r a b (and_l (a && b) c h);
-      short = leb→le (length (printed text names table)) 16384 (and_r (a && b) c h);
-    }
+    let s : T (is_sound text names table) = grind (arith, nat_tests) in
+    record { is_sound = s; tree = sound_tree text names table s; plain = grind (arith, nat_tests); short = grind (arith, nat_tests) }
 
 -- the other way round, and no more is asked: a sound tree, names and zones that are plain, row by row, and a printed text
 -- that is not too long
@@ -76,10 +69,7 @@ pub in_demand3_lem : (text names table : List ℕ) → T (is_sound text names ta
     → ((l : Label) → In l (tree_of text names table) → T (all is_plain l.name) × T (all is_plain l.zone))
     → length (printed text names table) ≤ 16384 → T (in_demand3 text names table)
 unfolding in_demand3 is_plain_tree
-in_demand3_lem text names table s p l =
-    let a : Bool = is_sound text names table in
-    let b : Bool = all_plain (tree_of text names table) in
-    both (a && b) (leb (length (printed text names table)) 16384) (both a b s (rows_plain (tree_of text names table) p)) (le→leb (length (printed text names table)) 16384 l)
+in_demand3_lem text names table s p l = let r = rows_plain (tree_of text names table) p in grind (arith, nat_tests)
 
 module _ (text names table : List ℕ) (c : Conditions text names table) where
   abbrev root_row : Row

@@ -3,41 +3,22 @@
 use mathlib.Core.Path.{◌≡◌, refl, sym, ap, ◌∙◌}
 use mathlib.Core.Bool.{Bool, true, false, ◌&&◌}
 use mathlib.Core.List.{List, [], ◌∷◌, ◌++◌}
-use Prim.Native.Nat.{ℕ, zero, suc, ◌+◌, ◌≤◌, ◌<◌}
+use Prim.Native.Nat.{ℕ, suc, ◌+◌, ◌≤◌, ◌<◌}
 use native.Mathlib.Omega.{arith}
 use lib.ListN.{length, take, drop, get_or, take-append-drop, length-drop}
 use lib.Seq.{drop-cons, take_all, take-add, get_or-take, get_or-drop, length-take-le}
-use lib.Dec.{T, leb, eqb, leb→le}
+use lib.Dec.{T}
 use borrow.Author.Tests.{lt-ltb, le-ltb, eq-eqb, ne_eqb, eqb-true, eqb-false}
-use Rattle.tokenizer.specs.Utf8.{further, utf8_step, utf8_state, is_utf8}
-use Rattle.tokenizer.proofs.Basics.{and_l, and_r, of_true}
-use Rattle.tokenizer.proofs.Utf8Laws.{state_append, utf8_state_lem, step-9, state_broken}
+use Rattle.std.proofs.lemmas.Bool.{true_from_ne_false}
+use Rattle.std.proofs.lemmas.Bool.Decides.{nat_tests}
+use Rattle.tokenizer.specs.Utf8.{utf8_step, utf8_state, is_utf8}
+use Rattle.tokenizer.proofs.Utf8Laws.{state_append, utf8_state_lem, state_broken}
 use Rattle.row_table.specs.Internal.Check.{boundary}
-
--- a further byte that is taken is one of 128 to 191
-further_taken : (lo hi b q : ℕ) → (further lo hi b q ≡ 8 → ⊥) → 128 ≤ lo → hi < 192 → (128 ≤ b) × (b < 192)
-further_taken lo hi b q h l k = go (leb lo b && leb b hi) refl
-  where
-    go : (t : Bool) → (leb lo b && leb b hi) ≡ t → (128 ≤ b) × (b < 192)
-    go true e =
-        let x = leb→le lo b (and_l (leb lo b) (leb b hi) (of_true _ e)) in
-        let y = leb→le b hi (and_r (leb lo b) (leb b hi) (of_true _ e)) in
-        (omega arith, omega arith)
-    go false e = absurd (h (rw e))
 
 -- a byte that continues a character is one of 128 to 191
 step_inside : (q b : ℕ) → (q ≡ 0 → ⊥) → (utf8_step q b ≡ 8 → ⊥) → (128 ≤ b) × (b < 192)
 unfolding utf8_step
-step_inside zero b z h = absurd (z refl)
-step_inside (suc zero) b z h = further_taken 0x80 0xBF b 0 h (omega arith) (omega arith)
-step_inside (suc (suc zero)) b z h = further_taken 0x80 0xBF b 1 h (omega arith) (omega arith)
-step_inside (suc (suc (suc zero))) b z h = further_taken 0x80 0xBF b 2 h (omega arith) (omega arith)
-step_inside (suc (suc (suc (suc zero)))) b z h = further_taken 0xA0 0xBF b 1 h (omega arith) (omega arith)
-step_inside (suc (suc (suc (suc (suc zero))))) b z h = further_taken 0x80 0x9F b 1 h (omega arith) (omega arith)
-step_inside (suc (suc (suc (suc (suc (suc zero)))))) b z h = further_taken 0x90 0xBF b 2 h (omega arith) (omega arith)
-step_inside (suc (suc (suc (suc (suc (suc (suc zero))))))) b z h = further_taken 0x80 0x8F b 2 h (omega arith) (omega arith)
-step_inside (suc (suc (suc (suc (suc (suc (suc (suc q)))))))) b z h =
-    absurd (h (sym (step-9 (suc (suc (suc (suc (suc (suc (suc (suc q)))))))) b 8 z (λ e. omega arith) (λ e. omega arith) (λ e. omega arith) (λ e. omega arith) (λ e. omega arith) (λ e. omega arith) (λ e. omega arith))))
+step_inside q b z h = (grind (arith, nat_tests), grind (arith, nat_tests))
 
 -- a byte from 128 to 191 begins no character
 step_first : (b : ℕ) → 128 ≤ b → b < 192 → utf8_step 0 b ≡ 8
@@ -56,22 +37,6 @@ module _ (text : List ℕ) (good : T (is_utf8 text)) (at : ℕ) where
         let z : ◌≡◌ {A = ℕ} 0 8 = sym (utf8_state_lem text good) ∙ s ∙ ap (λ (q : ℕ). utf8_state q (drop (suc at) text)) e ∙ state_broken (drop (suc at) text) in
         omega arith
 
-    pub boundary-low : get_or text at 0 < 128 → boundary text at ≡ true
-    unfolding boundary
-    boundary-low h = go (eqb (utf8_state 0 (take at text)) 0) refl
-      where
-        go : (t : Bool) → eqb (utf8_state 0 (take at text)) 0 ≡ t → eqb (utf8_state 0 (take at text)) 0 ≡ true
-        go true e = e
-        go false e = absurd (let w = step_inside (utf8_state 0 (take at text)) (get_or text at 0) (eqb-false (utf8_state 0 (take at text)) 0 e) leads in omega arith)
-
-    pub boundary-high : 192 ≤ get_or text at 0 → boundary text at ≡ true
-    unfolding boundary
-    boundary-high h = go (eqb (utf8_state 0 (take at text)) 0) refl
-      where
-        go : (t : Bool) → eqb (utf8_state 0 (take at text)) 0 ≡ t → eqb (utf8_state 0 (take at text)) 0 ≡ true
-        go true e = e
-        go false e = absurd (let w = step_inside (utf8_state 0 (take at text)) (get_or text at 0) (eqb-false (utf8_state 0 (take at text)) 0 e) leads in omega arith)
-
     pub boundary-inside : 128 ≤ get_or text at 0 → get_or text at 0 < 192 → boundary text at ≡ false
     unfolding boundary
     boundary-inside l h = ne_eqb (utf8_state 0 (take at text)) 0 (λ e. leads (ap (λ (q : ℕ). utf8_step q (get_or text at 0)) e ∙ step_first (get_or text at 0) l h))
@@ -80,6 +45,12 @@ module _ (text : List ℕ) (good : T (is_utf8 text)) (at : ℕ) where
     pub not-boundary : boundary text at ≡ false → (128 ≤ get_or text at 0) × (get_or text at 0 < 192)
     unfolding boundary
     not-boundary e = step_inside (utf8_state 0 (take at text)) (get_or text at 0) (eqb-false (utf8_state 0 (take at text)) 0 e) leads
+
+    pub boundary-low : get_or text at 0 < 128 → boundary text at ≡ true
+    boundary-low h = true_from_ne_false _ (λ e. let w = not-boundary e in omega arith)
+
+    pub boundary-high : 192 ≤ get_or text at 0 → boundary text at ≡ true
+    boundary-high h = true_from_ne_false _ (λ e. let w = not-boundary e in omega arith)
 
   pub boundary_end : length text ≤ at → boundary text at ≡ true
   unfolding boundary

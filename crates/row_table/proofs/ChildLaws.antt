@@ -1,6 +1,6 @@
 -- What the functions of `children.rt` say of the children of a row.
 use mathlib.Core.Path.{◌≡◌, refl, sym, ◌∙◌}
-use mathlib.Core.Bool.{Bool, true, false, not, ◌&&◌, ◌||◌, and-true, false≢true}
+use mathlib.Core.Bool.{Bool, true, false, ◌&&◌, false≢true}
 use mathlib.Core.List.{List, map}
 use Prim.Native.Nat.{ℕ, zero, suc, ◌+◌, ◌-◌, ◌*◌, ◌≤◌, ◌<◌}
 use native.Mathlib.Omega.{arith}
@@ -13,16 +13,16 @@ use Rattle.tokenizer.specs.declared.refusal.Refusal as R
 use Rattle.tokenizer.specs.declared.refusal.Refusal.TheVariants.{TextTooLong, NotUtf8, TooDeep, TooManyRows, TextEnds, StringNeverEnds, StringEmpty, UnknownWord, UnexpectedToken, NumberOutOfRange, WrongTimeUnit, WrongDecimal, MustBeNonNull, WrongMapEntries, WrongUnionId, TrailingText, NotSound, NotAscii, PrintTooLong}
 use Rattle.tokenizer.specs.Answer.{number_of}
 use Rattle.tokenizer.proofs.Basics.{is_true, of_true}
-use Rattle.datatype.specs.Kind.{Shape, leaf, timestamp, time, interval, fixed, list, fixed_list, struct, union, dictionary, decimal, mapping, run_end_encoded, shape_of, ids_fit}
+use Rattle.datatype.specs.Kind.{ids_fit}
 use Rattle.datatype.specs.Tree.{Forest, ∅, node, count, roots, Row}
 use Rattle.datatype.specs.Table.{row_words, rows_at}
-use Rattle.row_table.specs.Sound.{Arity, no_child, one_child, two_children, any_count, arity_fits, rules_of}
+use Rattle.row_table.specs.Sound.{no_child, one_child, two_children, any_count, arity_fits, rules_of}
 use Rattle.subtrees.specs.Internal.Run.{row_at, run_at, is_run, entries_of, Nests}
-use Rattle.row_table.specs.Internal.Check.{trees, entries_ok, first_non_null, over_kids, children_fit}
+use Rattle.row_table.specs.Internal.Check.{trees, entries_ok, first_non_null, children_fit}
 use Rattle.subtrees.specs.MapEntries.{refused_with, entries_refusal_at}
 use Rattle.subtrees.specs.UnionFields.{type_ids_fit}
-use Rattle.datatype.proofs.Tests.{iff_eq, same_bool, same_bool_lem}
-use Rattle.row_table.proofs.RuleLaws.{by_number}
+use Rattle.datatype.proofs.Tests.{iff_eq}
+use Rattle.datatype.proofs.KindShapes.{shape_by}
 use Rattle.subtrees.proofs.EntryLaws.{entries_nest}
 use Rattle.subtrees.proofs.UnionLaws.{type_ids_fit_lem}
 use Rattle.subtrees.proofs.Runs.{Turn, turn, forest_none, count_forest}
@@ -128,109 +128,45 @@ module _ (table : List ℕ) (first end : ℕ) (l : first ≤ end) (room : row_wo
 
 -- ---- the children of a kind
 
--- the one count that an arity takes; 3 stands for any
-abbrev arity_number : Arity → ℕ
-arity_number no_child = 0
-arity_number one_child = 1
-arity_number two_children = 2
-arity_number any_count = 3
-
-arity_is : (a : Arity) (n : ℕ) → arity_number a < 3 → arity_fits a n ≡ eqb n (arity_number a)
+no_child_fits : (n : ℕ) → arity_fits no_child n ≡ eqb n 0
 unfolding arity_fits
-arity_is no_child zero h = refl
-arity_is no_child (suc n) h = sym (ne_eqb (suc n) 0 (λ e. omega arith))
-arity_is one_child zero h = refl
-arity_is one_child (suc zero) h = refl
-arity_is one_child (suc (suc n)) h = sym (ne_eqb (suc (suc n)) 1 (λ e. omega arith))
-arity_is two_children zero h = refl
-arity_is two_children (suc zero) h = refl
-arity_is two_children (suc (suc zero)) h = refl
-arity_is two_children (suc (suc (suc n))) h = sym (ne_eqb (suc (suc (suc n))) 2 (λ e. omega arith))
-arity_is any_count n h = absurd (omega arith)
+no_child_fits zero = refl
+no_child_fits (suc n) = grind (arith, nat_tests)
 
-arity_alone : (a : Arity) (n : ℕ) → arity_number a < 3 → (arity_fits a n && true) ≡ eqb n (arity_number a)
-arity_alone a n h = rw (arity_is a n h) (and-true _)
+one_child_fits : (n : ℕ) → arity_fits one_child n ≡ eqb n 1
+unfolding arity_fits
+one_child_fits zero = refl
+one_child_fits (suc zero) = refl
+one_child_fits (suc (suc n)) = grind (arith, nat_tests)
 
--- how many children a shape has, where it asks nothing else of them; 3 stands for all others
-abbrev shape_number : Shape → ℕ
-shape_number leaf = 0
-shape_number timestamp = 0
-shape_number time = 0
-shape_number interval = 0
-shape_number fixed = 0
-shape_number list = 1
-shape_number fixed_list = 1
-shape_number struct = 3
-shape_number union = 3
-shape_number dictionary = 2
-shape_number decimal = 0
-shape_number mapping = 3
-shape_number run_end_encoded = 3
+two_children_fit : (n : ℕ) → arity_fits two_children n ≡ eqb n 2
+unfolding arity_fits
+two_children_fit zero = refl
+two_children_fit (suc zero) = refl
+two_children_fit (suc (suc zero)) = refl
+two_children_fit (suc (suc (suc n))) = grind (arith, nat_tests)
 
-count_alone : (s : Shape) (f : Forest Row) → shape_number s < 3 → (arity_fits (rules_of s).children (length (roots f)) && over_kids s f) ≡ eqb (length (roots f)) (shape_number s)
-unfolding rules_of
-count_alone leaf f h = arity_alone no_child (length (roots f)) h
-count_alone timestamp f h = arity_alone no_child (length (roots f)) h
-count_alone time f h = arity_alone no_child (length (roots f)) h
-count_alone interval f h = arity_alone no_child (length (roots f)) h
-count_alone fixed f h = arity_alone no_child (length (roots f)) h
-count_alone list f h = arity_alone one_child (length (roots f)) h
-count_alone fixed_list f h = arity_alone one_child (length (roots f)) h
-count_alone struct f h = absurd (omega arith)
-count_alone union f h = absurd (omega arith)
-count_alone dictionary f h = arity_alone two_children (length (roots f)) h
-count_alone decimal f h = arity_alone no_child (length (roots f)) h
-count_alone mapping f h = absurd (omega arith)
-count_alone run_end_encoded f h = absurd (omega arith)
+any_count_fits : (n : ℕ) → arity_fits any_count n ≡ true
+unfolding arity_fits
+any_count_fits n = refl
 
--- the same by the kind's number
-abbrev child_count : ℕ → ℕ
-child_count k = if leb 27 k && leb k 31 then 1 else (if eqb k 34 then 2 else 0)
+-- what a kind asks of its children, by its number
+abbrev pub kids_at : ℕ → Forest Row → Bool
+kids_at k f =
+    if eqb k 32 then true
+    else if eqb k 33 then ids_fit (map (λ c. c.union_id) (roots f))
+    else if eqb k 39 then eqb (length (roots f)) 1 && entries_ok f
+    else if eqb k 40 then eqb (length (roots f)) 2 && first_non_null f
+    else if eqb k 34 then eqb (length (roots f)) 2
+    else if leb 27 k && leb k 31 then eqb (length (roots f)) 1
+    else eqb (length (roots f)) 0
 
-abbrev number_at : ℕ → ℕ
-number_at k = if eqb k 32 || eqb k 33 || eqb k 39 || eqb k 40 then 3 else child_count k
-
-count_few : (k : ℕ) → child_count k < 3
-count_few k = grind (arith, nat_tests)
-
-count_by : (k : ℕ) → shape_number (shape_of k) ≡ number_at k
-unfolding shape_of
-count_by k = by_number eqb eqb→eq shape_number number_at tt (λ k h. grind (arith, nat_tests)) k
-
-module _ (k : ℕ) (f : Forest Row) where
-  pub kids_struct : k ≡ 32 → children_fit k f ≡ true
-  unfolding children_fit rules_of shape_of arity_fits
-  kids_struct e = rw e
-
-  pub kids_union : k ≡ 33 → children_fit k f ≡ ids_fit (map (λ c. c.union_id) (roots f))
-  unfolding children_fit rules_of shape_of arity_fits
-  kids_union e = rw e
-
-  pub kids_map : k ≡ 39 → children_fit k f ≡ (eqb (length (roots f)) 1 && entries_ok f)
-  unfolding children_fit rules_of shape_of
-  kids_map e = rw (e, arity_is one_child (length (roots f)) (omega arith))
-
-  pub kids_run_ends : k ≡ 40 → children_fit k f ≡ (eqb (length (roots f)) 2 && first_non_null f)
-  unfolding children_fit rules_of shape_of
-  kids_run_ends e = rw (e, arity_is two_children (length (roots f)) (omega arith))
-
-  pub kids_plain : (k ≡ 32 → ⊥) → (k ≡ 33 → ⊥) → (k ≡ 39 → ⊥) → (k ≡ 40 → ⊥) → children_fit k f ≡ eqb (length (roots f)) (child_count k)
-  unfolding children_fit
-  kids_plain a b c d =
-      let e : shape_number (shape_of k) ≡ child_count k = count_by k ∙ rw (ne_eqb k 32 a, ne_eqb k 33 b, ne_eqb k 39 c, ne_eqb k 40 d) in
-      count_alone (shape_of k) f (omega (arith, e, count_few k)) ∙ rw e
+pub kids_by : (k : ℕ) (f : Forest Row) → children_fit k f ≡ kids_at k f
+unfolding children_fit rules_of
+kids_by k f = rw (shape_by k) (grind (arith, nat_tests, no_child_fits, one_child_fits, two_children_fit, any_count_fits))
 
 -- what `fit` uses
-pub ruleset kids = (kids_struct, kids_union, kids_map, kids_run_ends, kids_plain, no_child_is, one_some, two_some, ok_is, ids_are, entries_are, first_role_is)
+pub ruleset kids = (kids_by, nat_tests, no_child_is, one_some, two_some, ok_is, ids_are, entries_are, first_role_is)
 
 -- what counts the children
 pub ruleset counts = (none_here, one_is, two_are, behind_from, behind_whole)
-
--- ---- kinds that may have no children
-
-abbrev childless_at : ℕ → Bool
-childless_at k = not ((leb 27 k && leb k 31) || eqb k 34 || eqb k 39 || eqb k 40)
-
-pub childless_by : (k : ℕ) → children_fit k ∅ ≡ childless_at k
-unfolding same_bool children_fit rules_of shape_of arity_fits ids_fit
-childless_by k = by_number same_bool same_bool_lem (λ s. arity_fits (rules_of s).children 0 && over_kids s ∅) childless_at tt (λ k h. grind (arith, nat_tests)) k

@@ -1,4 +1,3 @@
-pub mod AllPass
 pub mod SoundTree
 pub mod Boundary
 pub mod Clauses

@@ -6,19 +6,14 @@ use mathlib.Core.Logic.{inl, inr}
 use Prim.Native.Nat.{ℕ, ◌+◌, ◌≤◌}
 use native.Mathlib.Omega.{arith}
 use lib.ListN.{length, get_or}
-use lib.Dec.{T, leb, eqb}
+use lib.Dec.{T, leb}
 use borrow.Author.Tests.{le-leb, lt-leb}
 use Rattle.std.specs.Str.{IsUtf8, IsCharBoundary}
 use Rattle.std.proofs.lemmas.Bool.{and_parts, cases_lt, false_from_ne_true}
-use Rattle.std.proofs.lemmas.Bool.Decides.{nat_tests}
 use Rattle.tokenizer.specs.Utf8.{is_utf8}
 use Rattle.tokenizer.proofs.Basics.{of_true}
 use Rattle.tokenizer.proofs.RustUtf8.{test_yes}
-use Rattle.datatype.specs.Kind.{shape_of}
-use Rattle.row_table.specs.Sound.{rules_of}
 use Rattle.row_table.specs.Internal.Check.{boundary, part_fits}
-use Rattle.datatype.proofs.Tests.{same_bool, same_bool_lem}
-use Rattle.row_table.proofs.RuleLaws.{by_number}
 use Rattle.row_table.proofs.Boundary.{boundary-low, boundary-high, boundary-inside, boundary_end, part-utf8}
 
 -- ---- places between characters
@@ -68,10 +63,3 @@ module _ (text : List ℕ) (good : IsUtf8 text) where
 
 -- what `part_fits` uses
 pub ruleset parts = (part_empty, part_yes, part_no)
-
--- ---- zones
-
--- exactly a Timestamp may have a zone
-pub zoned : (k : ℕ) → (rules_of (shape_of k)).zoned ≡ eqb k 13
-unfolding same_bool rules_of shape_of
-zoned k = by_number same_bool same_bool_lem (λ s. (rules_of s).zoned) (λ i. eqb i 13) tt (λ k h. grind (arith, nat_tests)) k

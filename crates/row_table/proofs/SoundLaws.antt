@@ -8,21 +8,21 @@ use native.Mathlib.Omega.{arith}
 use lib.ListN.{length, get_or}
 use lib.Dec.{T}
 use borrow.Author.Tests.{le-leb, lt-leb}
+use Rattle.std.proofs.lemmas.Bool.Decides.{nat_tests}
 use Rattle.tokenizer.specs.Text.{same}
 use Rattle.tokenizer.specs.Utf8.{is_utf8}
 use Rattle.tokenizer.proofs.Basics.{of_true}
+use Rattle.tokenizer.proofs.Listed.{same_path}
 use Rattle.datatype.specs.Tree.{Forest, ∅, node, count, depth, Row, name_list, labels}
 use Rattle.datatype.specs.Table.{row_words, words_of, table_of, join, view_of, rows_at}
 use Rattle.row_table.specs.Sound.{Standing, bare, rows_fit, placed, is_sound}
 use Rattle.subtrees.specs.Internal.Run.{row_at, run_at, is_run, run_or, forest_at}
 use Rattle.row_table.specs.Internal.Check.{below_of, trees, own_fits, children_fit, run_fits}
 use Rattle.datatype.proofs.Table.{table_view}
-use Rattle.datatype.proofs.Same.{same_eq}
 use Rattle.datatype.proofs.Tests.{iff_eq, false_of}
 use Rattle.subtrees.specs.Parents.{parents_fit}
 use Rattle.subtrees.proofs.ParentFit.{view_fits as parents-view}
 use Rattle.subtrees.proofs.Runs.{run_step, run_none, no_rows, forest_none, run_all, run_is, view_rows}
-use Rattle.row_table.proofs.AllPass.{four, all_four}
 use Rattle.row_table.proofs.SoundTree.{SoundTree, sound_tree, tree_sound, sound-count}
 use Rattle.row_table.proofs.Clauses.{Run, run_of, of_run, run_in, run_out}
 
@@ -35,8 +35,8 @@ join_fits text standing l r none b = sym (rw (and-false (own_fits text standing 
 join_fits text standing l r (some k) none = sym (and-false (own_fits text standing r && run_fits text (below_of r.kind) l (some k) && children_fit r.kind k))
 join_fits text standing l r (some k) (some n) =
     iff_eq (run_fits text standing (suc l) (some (node r k n))) (own_fits text standing r && run_fits text (below_of r.kind) l (some k) && children_fit r.kind k && run_fits text standing (suc l) (some n))
-    (λ t. let w = run_out text standing l r k n (run_of text standing (suc l) (node r k n) t) in all_four (own_fits text standing r) (run_fits text (below_of r.kind) l (some k)) (children_fit r.kind k) (run_fits text standing (suc l) (some n)) w.0 (of_run text (below_of r.kind) l k w.1) w.2 (of_run text standing (suc l) n w.3))
-    (λ t. let w = four (own_fits text standing r) (run_fits text (below_of r.kind) l (some k)) (children_fit r.kind k) (run_fits text standing (suc l) (some n)) t in of_run text standing (suc l) (node r k n) (run_in text standing l r k n w.0 (run_of text (below_of r.kind) l k w.1) w.2 (run_of text standing (suc l) n w.3)))
+    (λ t. let w = run_out text standing l r k n (run_of text standing (suc l) (node r k n) t) in let a = of_run text (below_of r.kind) l k w.1 in let b = of_run text standing (suc l) n w.3 in grind (arith, nat_tests))
+    (λ t. of_run text standing (suc l) (node r k n) (run_in text standing l r k n (grind (arith, nat_tests)) (run_of text (below_of r.kind) l k (grind (arith, nat_tests))) (grind (arith, nat_tests)) (run_of text standing (suc l) n (grind (arith, nat_tests)))))
 
 -- rows need a level
 no_level : (text : List ℕ) (standing : Standing) (f : Forest Row) → 1 ≤ count f → run_fits text standing 0 (some f) ≡ false
@@ -164,7 +164,7 @@ module _ (text names table : List ℕ) where
 
   module _ (short : length text ≤ 16384) (listed : same names name_list ≡ true) (some-rows : rows ≡ 0 → ⊥) (few : rows ≤ 1024) (whole : length table ≡ row_words * rows) (root : rows_at table 0 ≡ rows) (good : is_utf8 text ≡ true) (parents : parents_fit table ≡ true) where
     names-are : names ≡ name_list
-    names-are = same_eq names name_list (of_true _ listed)
+    names-are = same_path names name_list (of_true _ listed)
 
     sound-in : (f : Forest Row) → view_of table ≡ some f → Run text bare 64 f → SoundTree text names table
     sound-in f v w = go (one_tree f rows (let c = view_rows table f v in omega arith) (omega arith) (ap (λ (t : List ℕ). get_or t 1 0) (table_view table f v) ∙ root))

@@ -1,17 +1,13 @@
 -- A walk over the rows of a sound tree, for other crates: what the row at a place says, and what is known of the runs
 -- below it and behind it.
 --   labels-turn   the labels of a run: its first row's, its children's, those of the run behind
---   fits-turn     the clauses of soundness for the same three
 use mathlib.Core.Path.{◌≡◌}
 use mathlib.Core.List.{List}
 use Prim.Native.Nat.{ℕ, ◌+◌, ◌-◌}
-use lib.Dec.{T}
 use Rattle.datatype.specs.Tree.{Forest, node, Row, Label, label_of, labels}
 use Rattle.datatype.specs.Table.{rows_at}
-use Rattle.row_table.specs.Sound.{Standing, rows_fit}
 use Rattle.subtrees.specs.Internal.Run.{row_at, forest_at}
 use Rattle.subtrees.proofs.Runs.{Turn}
-use Rattle.row_table.proofs.SoundTree.{RowFits, rules_at, rows_fit_lem}
 
 module _ (text names table : List ℕ) (at end : ℕ) (t : Turn table at end) where
   abbrev kids_run : Forest Row
@@ -26,7 +22,3 @@ module _ (text names table : List ℕ) (at end : ℕ) (t : Turn table at end) wh
   pub labels-turn : labels text names (forest_at table at (end - at)) ≡ node label (labels text names kids_run) (labels text names rest_run)
   unfolding labels
   labels-turn = rw t.is
-
-  pub fits-turn : (standing : Standing) → T (rows_fit standing (labels text names (forest_at table at (end - at))))
-      → RowFits standing label (labels text names kids_run) × T (rows_fit (rules_at label).below (labels text names kids_run)) × T (rows_fit standing (labels text names rest_run))
-  fits-turn standing h = rows_fit_lem standing label (labels text names kids_run) (labels text names rest_run) (rw labels-turn at h)

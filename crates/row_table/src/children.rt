@@ -11,7 +11,7 @@ use datatype::rows::NON_NULL;
 use subtrees::{check_entries, try_new};
 
 // Whether a row of a kind may have no children.
-#[tactic(auto, using(crate::proofs::ChildLaws::childless_by))]
+#[tactic(auto, using(datatype::proofs::KindShapes::by_shape), unfolding(crate::specs::Internal::Check::children_fit, crate::specs::Sound::rules_of, crate::specs::Sound::arity_fits, datatype::specs::Kind::ids_fit))]
 pub(crate) fn is_childless(kind: u32) -> bool
     ensures { result ≡ children_fit kind ∅ }
 {
@@ -62,7 +62,7 @@ impl Children<'_> {
         run.start < run.end && run.start + run.first_row().subtree() == run.end
     }
 
-    // Whether there are two children.
+    // Whether there are two children: they are whole trees, which `subtrees` cannot say of the rows that it asks it of.
     #[tactic(auto, using(crate::proofs::ChildLaws::counts))]
     fn are_two(self) -> bool
         ensures { result ≡ eqb (length (roots (trees self.entry.run.rows.now self.entry.run.start self.entry.run.end))) 2 }

@@ -20,13 +20,11 @@ pub(crate) fn is_name_list(names: &[u8]) -> bool
 
 // Whether a name is one of the three default names, by the part of the name list that it is.
 fn is_listed(name: Field) -> bool
-    ensures { result ≡ is_listed name.start name.size }
+    ensures { result ≡ (eqb name.home 2 && is_listed name.start name.size) }
 {
     matches!(
-        (name.start, name.size),
-        (Field::LIST_FIELD_START, Field::LIST_FIELD_LENGTH)
-            | (Field::REE_RUN_ENDS_START, Field::REE_RUN_ENDS_LENGTH)
-            | (Field::REE_VALUES_START, Field::REE_VALUES_LENGTH)
+        name,
+        Field::LIST_FIELD | Field::REE_RUN_ENDS_FIELD | Field::REE_VALUES_FIELD
     )
 }
 
@@ -53,8 +51,7 @@ fn is_named(text: &str, name: Field) -> bool
 {
     match name.home {
         Field::IN_TEXT => part_fits(text, name.start, name.size),
-        Field::IN_NAME_LIST => is_listed(name),
-        _ => false,
+        _ => is_listed(name),
     }
 }
 
@@ -72,7 +69,7 @@ pub(crate) fn name_fits(text: &str, standing: Standing, role: u32, name: Field) 
 }
 
 // Whether the zone is one that a row of a kind may have.
-#[tactic(auto, using(crate::proofs::NameLaws::zoned), unfolding(crate::specs::Internal::Check::zone_ok))]
+#[tactic(auto, using(datatype::proofs::KindShapes::by_shape), unfolding(crate::specs::Internal::Check::zone_ok, crate::specs::Sound::rules_of))]
 pub(crate) fn zone_fits(text: &str, kind: u32, start: u32, size: u32) -> bool
     ensures { result ≡ zone_ok text.now (rules_of (shape_of kind)).zoned start size }
 {

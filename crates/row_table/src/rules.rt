@@ -30,7 +30,7 @@ fn is_decimal(kind: u32) -> bool
 }
 
 // How many values word 4 has in rows of a kind.
-#[tactic(auto, using(crate::proofs::RuleLaws::params_by))]
+#[tactic(auto, using(datatype::proofs::KindShapes::by_shape), unfolding(crate::specs::Sound::rules_of))]
 fn params(kind: u32) -> u32
     ensures { result ≡ (rules_of (shape_of kind)).params }
 {
@@ -62,7 +62,7 @@ pub(crate) fn numbers_fit(kind: u32, param: u32, scale: u32) -> bool
 }
 
 // The standing of a kind's children.
-#[tactic(auto, using(crate::proofs::RuleLaws::below_by))]
+#[tactic(auto, using(datatype::proofs::KindShapes::by_shape), unfolding(crate::specs::Sound::rules_of))]
 pub(crate) fn below(kind: u32) -> Standing
     ensures { standing_of result ≡ below_of kind }
 {

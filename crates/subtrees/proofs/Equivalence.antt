@@ -2,18 +2,18 @@
 --   equal_refl, equal_sym, equal_trans   on all texts, name lists and words
 --   equal-labels, labels-equal           equal tables are tables of equal labels, and the other way round
 use mathlib.Core.Path.{◌≡◌, refl, sym, ap, ◌∙◌}
-use mathlib.Core.Bool.{Bool, ◌&&◌}
+use mathlib.Core.Bool.{Bool}
 use mathlib.Core.List.{List, [], ◌∷◌, ◌++◌}
 use Prim.Native.Nat.{ℕ, suc}
 use native.Mathlib.Omega.{arith}
 use lib.ListN.{length, take, get_or, length-append}
 use lib.Dec.{T}
-use Rattle.tokenizer.specs.Text.{same}
-use Rattle.tokenizer.proofs.Basics.{and_l, and_r, both}
+use Rattle.std.proofs.lemmas.Bool.Decides.{nat_tests}
+use Rattle.tokenizer.proofs.Listed.{same_path}
 use Rattle.datatype.specs.Tree.{Forest, ∅, node, count, Row, Label, label_of, labels}
 use Rattle.datatype.specs.Table.{words_of, row_of, table_of}
 use Rattle.subtrees.specs.Equal.{whole_rows, equal_row, equal_rows, equal_trees}
-use Rattle.datatype.proofs.Same.{same_eq, eq_same}
+use Rattle.datatype.proofs.Same.{eq_same}
 use Rattle.subtrees.proofs.RowList.{rows_of, whole_rows_lem, count_labels}
 
 -- ---- one row
@@ -33,22 +33,15 @@ module _ (text names text' names' ws ws' : List ℕ) where
 
   pub same_row : T (equal_row text names text' names' ws ws') → SameRow text names text' names' ws ws'
   unfolding equal_row
-  same_row t =
-      let x : Bool = same (take 6 ws) (take 6 ws') in
-      let y : Bool = same a.name b.name in
-      let z : Bool = same a.zone b.zone in
-      record {
-        words = same_eq (take 6 ws) (take 6 ws') (and_l x y (and_l (x && y) z t));
-        name = same_eq a.name b.name (and_r x y (and_l (x && y) z t));
-        zone = same_eq a.zone b.zone (and_r (x && y) z t);
-      }
+  same_row t = record { words = same_path (take 6 ws) (take 6 ws') (grind (arith, nat_tests)); name = same_path a.name b.name (grind (arith, nat_tests)); zone = same_path a.zone b.zone (grind (arith, nat_tests)) }
 
   pub row_same : SameRow text names text' names' ws ws' → T (equal_row text names text' names' ws ws')
   unfolding equal_row
   row_same s =
-      let x : Bool = same (take 6 ws) (take 6 ws') in
-      let y : Bool = same a.name b.name in
-      both (x && y) (same a.zone b.zone) (both x y (eq_same (take 6 ws) (take 6 ws') s.words) (eq_same a.name b.name s.name)) (eq_same a.zone b.zone s.zone)
+      let w = eq_same (take 6 ws) (take 6 ws') s.words in
+      let n = eq_same a.name b.name s.name in
+      let z = eq_same a.zone b.zone s.zone in
+      grind (arith, nat_tests)
 
 -- ---- an equivalence
 
@@ -56,7 +49,9 @@ rows_refl : (text names : List ℕ) (rs : List (List ℕ)) → T (equal_rows tex
 unfolding equal_rows
 rows_refl text names [] = tt
 rows_refl text names (r ∷ rs) =
-    both (equal_row text names text names r r) (equal_rows text names text names rs rs) (row_same text names text names r r (record { words = refl; name = refl; zone = refl })) (rows_refl text names rs)
+    let h = row_same text names text names r r (record { words = refl; name = refl; zone = refl }) in
+    let t = rows_refl text names rs in
+    grind (arith, nat_tests)
 
 module _ (text names text' names' : List ℕ) where
   rows-sym : (rs rs' : List (List ℕ)) → T (equal_rows text names text' names' rs rs') → T (equal_rows text' names' text names rs' rs)
@@ -65,10 +60,10 @@ module _ (text names text' names' : List ℕ) where
   rows-sym [] (r ∷ rs) t = absurd t
   rows-sym (r ∷ rs) [] t = absurd t
   rows-sym (r ∷ rs) (r' ∷ rs') t =
-      let s = same_row text names text' names' r r' (and_l (equal_row text names text' names' r r') (equal_rows text names text' names' rs rs') t) in
-      both (equal_row text' names' text names r' r) (equal_rows text' names' text names rs' rs)
-      (row_same text' names' text names r' r (record { words = sym s.words; name = sym s.name; zone = sym s.zone }))
-      (rows-sym rs rs' (and_r (equal_row text names text' names' r r') (equal_rows text names text' names' rs rs') t))
+      let s = same_row text names text' names' r r' (grind (arith, nat_tests)) in
+      let h = row_same text' names' text names r' r (record { words = sym s.words; name = sym s.name; zone = sym s.zone }) in
+      let u = rows-sym rs rs' (grind (arith, nat_tests)) in
+      grind (arith, nat_tests)
 
   module _ (text'' names'' : List ℕ) where
     rows-trans : (rs rs' rs'' : List (List ℕ)) → T (equal_rows text names text' names' rs rs') → T (equal_rows text' names' text'' names'' rs' rs'') → T (equal_rows text names text'' names'' rs rs'')
@@ -79,11 +74,11 @@ module _ (text names text' names' : List ℕ) where
     rows-trans (r ∷ rs) [] rs'' t u = absurd t
     rows-trans (r ∷ rs) (r' ∷ rs') [] t u = absurd u
     rows-trans (r ∷ rs) (r' ∷ rs') (r'' ∷ rs'') t u =
-        let s = same_row text names text' names' r r' (and_l (equal_row text names text' names' r r') (equal_rows text names text' names' rs rs') t) in
-        let w = same_row text' names' text'' names'' r' r'' (and_l (equal_row text' names' text'' names'' r' r'') (equal_rows text' names' text'' names'' rs' rs'') u) in
-        both (equal_row text names text'' names'' r r'') (equal_rows text names text'' names'' rs rs'')
-        (row_same text names text'' names'' r r'' (record { words = s.words ∙ w.words; name = s.name ∙ w.name; zone = s.zone ∙ w.zone }))
-        (rows-trans rs rs' rs'' (and_r (equal_row text names text' names' r r') (equal_rows text names text' names' rs rs') t) (and_r (equal_row text' names' text'' names'' r' r'') (equal_rows text' names' text'' names'' rs' rs'') u))
+        let s = same_row text names text' names' r r' (grind (arith, nat_tests)) in
+        let w = same_row text' names' text'' names'' r' r'' (grind (arith, nat_tests)) in
+        let h = row_same text names text'' names'' r r'' (record { words = s.words ∙ w.words; name = s.name ∙ w.name; zone = s.zone ∙ w.zone }) in
+        let v = rows-trans rs rs' rs'' (grind (arith, nat_tests)) (grind (arith, nat_tests)) in
+        grind (arith, nat_tests)
 
 pub equal_refl : (text names table : List ℕ) → T (equal_trees text names text names table table)
 unfolding equal_trees
@@ -99,19 +94,6 @@ unfolding equal_trees
 equal_trans text names text' names' text'' names'' table table' table'' = rows-trans text names text' names' text'' names'' (whole_rows table) (whole_rows table') (whole_rows table'')
 
 -- ---- equal tables say the same
-
--- the parts of a run that is not empty
-root_or : Label → Forest Label → Label
-root_or l ∅ = l
-root_or l (node a k n) = a
-
-kids_of : Forest Label → Forest Label
-kids_of ∅ = ∅
-kids_of (node a k n) = k
-
-next_of : Forest Label → Forest Label
-next_of ∅ = ∅
-next_of (node a k n) = n
 
 -- two rows with their subtrees' sizes
 module _ (text names text' names' : List ℕ) (r r' : Row) (c c' : ℕ) where
@@ -156,19 +138,14 @@ module _ (text names text' names' : List ℕ) where
   rows_split [] ys [] vs e t = (tt, t)
   rows_split [] ys (c ∷ us) vs e t = absurd (omega arith)
   rows_split (a ∷ xs) ys [] vs e t = absurd (omega arith)
-  rows_split (a ∷ xs) ys (c ∷ us) vs e t =
-      let h : Bool = equal_row text names text' names' a c in
-      let w = rows_split xs ys us vs (omega arith) (and_r h (eq_rows (xs ++ ys) (us ++ vs)) t) in
-      (both h (eq_rows xs us) (and_l h (eq_rows (xs ++ ys) (us ++ vs)) t) w.0, w.1)
+  rows_split (a ∷ xs) ys (c ∷ us) vs e t = let w = rows_split xs ys us vs (omega arith) (grind (arith, nat_tests)) in (grind (arith, nat_tests), w.1)
 
   rows_join : (xs ys us vs : List (List ℕ)) → T (eq_rows xs us) → T (eq_rows ys vs) → T (eq_rows (xs ++ ys) (us ++ vs))
   unfolding equal_rows
   rows_join [] ys [] vs t u = u
   rows_join [] ys (c ∷ us) vs t u = absurd t
   rows_join (a ∷ xs) ys [] vs t u = absurd t
-  rows_join (a ∷ xs) ys (c ∷ us) vs t u =
-      let h : Bool = equal_row text names text' names' a c in
-      both h (eq_rows (xs ++ ys) (us ++ vs)) (and_l h (eq_rows xs us) t) (rows_join xs ys us vs (and_r h (eq_rows xs us) t) u)
+  rows_join (a ∷ xs) ys (c ∷ us) vs t u = let w = rows_join xs ys us vs (grind (arith, nat_tests)) u in grind (arith, nat_tests)
 
   rows-labels : (f g : Forest Row) → T (eq_rows (rows_of f) (rows_of g)) → labels text names f ≡ labels text' names' g
   unfolding equal_rows labels
@@ -176,10 +153,9 @@ module _ (text names text' names' : List ℕ) where
   rows-labels ∅ (node r k n) t = absurd t
   rows-labels (node r k n) ∅ t = absurd t
   rows-labels (node r k n) (node r' k' n') t =
-      let h : Bool = equal_row text names text' names' (words_of r (suc (count k))) (words_of r' (suc (count k'))) in
-      let w = words_same text names text' names' r r' (suc (count k)) (suc (count k')) (same_row text names text' names' (words_of r (suc (count k))) (words_of r' (suc (count k'))) (and_l h (eq_rows (rows_of k ++ rows_of n) (rows_of k' ++ rows_of n')) t)) in
+      let w = words_same text names text' names' r r' (suc (count k)) (suc (count k')) (same_row text names text' names' (words_of r (suc (count k))) (words_of r' (suc (count k'))) (grind (arith, nat_tests))) in
       let c = w.0 in
-      let s = rows_split (rows_of k) (rows_of n) (rows_of k') (rows_of n') (omega (arith, length_rows k, length_rows k')) (and_r h (eq_rows (rows_of k ++ rows_of n) (rows_of k' ++ rows_of n')) t) in
+      let s = rows_split (rows_of k) (rows_of n) (rows_of k') (rows_of n') (omega (arith, length_rows k, length_rows k')) (grind (arith, nat_tests)) in
       let a = rows-labels k k' s.0 in
       let b = rows-labels n n' s.1 in
       let l = w.1 in
@@ -189,17 +165,17 @@ module _ (text names text' names' : List ℕ) where
   labels-count f g e = sym (count_labels text names f) ∙ ap count e ∙ count_labels text' names' g
 
   labels-rows : (f g : Forest Row) → labels text names f ≡ labels text' names' g → T (eq_rows (rows_of f) (rows_of g))
-  unfolding equal_rows labels root_or kids_of next_of
+  unfolding equal_rows labels
   labels-rows ∅ ∅ e = tt
   labels-rows ∅ (node r k n) e = absurd (let c = labels-count ∅ (node r k n) e in omega arith)
   labels-rows (node r k n) ∅ e = absurd (let c = labels-count (node r k n) ∅ e in omega arith)
   labels-rows (node r k n) (node r' k' n') e =
-      let l : label_of text names r ≡ label_of text' names' r' = ap (root_or (label_of text names r)) e in
-      let a : labels text names k ≡ labels text' names' k' = ap kids_of e in
-      let b : labels text names n ≡ labels text' names' n' = ap next_of e in
-      both (equal_row text names text' names' (words_of r (suc (count k))) (words_of r' (suc (count k')))) (eq_rows (rows_of k ++ rows_of n) (rows_of k' ++ rows_of n'))
-      (row_same text names text' names' (words_of r (suc (count k))) (words_of r' (suc (count k'))) (same-words text names text' names' r r' (suc (count k)) (suc (count k')) (ap suc (labels-count k k' a)) l))
-      (rows_join (rows_of k) (rows_of n) (rows_of k') (rows_of n') (labels-rows k k' a) (labels-rows n n' b))
+      let l : label_of text names r ≡ label_of text' names' r' = cc in
+      let a : labels text names k ≡ labels text' names' k' = cc in
+      let b : labels text names n ≡ labels text' names' n' = cc in
+      let h = row_same text names text' names' (words_of r (suc (count k))) (words_of r' (suc (count k'))) (same-words text names text' names' r r' (suc (count k)) (suc (count k')) (ap suc (labels-count k k' a)) l) in
+      let t = rows_join (rows_of k) (rows_of n) (rows_of k') (rows_of n') (labels-rows k k' a) (labels-rows n n' b) in
+      grind (arith, nat_tests)
 
   -- equal tables are the tables of trees that say the same
   pub equal-labels : (f g : Forest Row) → T (equal_trees text names text' names' (table_of f) (table_of g)) → labels text names f ≡ labels text' names' g

@@ -28,10 +28,7 @@ fn equal_row(one: Tree<'_>, other: Tree<'_>, i: usize) -> bool
         at: i,
     };
     equal_words(&one.rows[from..to], &other.rows[from..to])
-        && equal_bytes(
-            row.name(one.text, one.names),
-            second.name(other.text, other.names),
-        )
+        && equal_bytes(row.name(&one), second.name(&other))
         && equal_bytes(row.zone(one.text), second.zone(other.text))
 }
 

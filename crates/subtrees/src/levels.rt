@@ -1,4 +1,5 @@
-// How many levels rows have.
+// How many levels rows have. Rows, a first and an end are handed over as they are, here and in map_entries.rt and
+// union_fields.rt: nothing is known of such rows there, and that they are in the table is asked by `levels` alone.
 ghost use Rattle.std.specs.Prelude.{◌≡◌, ◌+◌, ◌-◌, ◌*◌, ◌≤◌, length, IfSome};
 ghost use Rattle.datatype.specs.Limits.{max_levels};
 ghost use Rattle.datatype.specs.Table.{row_words};

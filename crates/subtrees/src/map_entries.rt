@@ -24,7 +24,8 @@ fn behind(rows: &[u32], at: usize, end: usize) -> Option<usize>
     Some(at + size)
 }
 
-// Whether two rows stand side by side from row `first` up to row `end`.
+// Whether two rows stand side by side from row `first` up to row `end`: what `row_table` asks of whole trees, of rows of which
+// nothing is known.
 #[tactic(auto, using(crate::proofs::SiblingLaws::beside_steps), unfolding(crate::specs::Internal::Beside::behind_at))]
 fn are_two(rows: &[u32], first: usize, end: usize) -> bool
     ensures { result ≡ eqb (length (listed (beside 2 rows.now first end))) 2 }

@@ -18,7 +18,8 @@ fn parent_of(row: Row<'_>) -> usize
         return 0;
     }
     let mut p = row.at - 1;
-    // It climbs from parent to parent, and no range has their places.
+    // It climbs from parent to parent, and no range has their places; by `successors` a closure's clauses would have to say
+    // of each place what the loop's invariant says once.
     while 0 < p {
         let above = Row {
             rows: row.rows,

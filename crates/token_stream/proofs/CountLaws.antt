@@ -1,109 +1,50 @@
 -- Tokens that are read one behind another: the place behind each, and what the loop that counts them meets.
 use mathlib.Core.Path.{◌≡◌, refl, sym, ap, ◌∙◌}
-use mathlib.Core.Bool.{true, false, not}
+use mathlib.Core.Bool.{Bool, true, false}
 use mathlib.Core.List.{List, [], ◌∷◌}
-use Prim.Native.Nat.{ℕ, zero, suc, ◌+◌, ◌≤◌, ◌<◌}
+use Prim.Native.Nat.{ℕ, zero, suc, ◌+◌, ◌-◌, ◌≤◌, ◌<◌}
 use native.Mathlib.Omega.{arith}
 use lib.ListN.{length}
-use lib.Dec.{eqb}
-use Rattle.std.specs.declared.result.Result.{Result}
-use Rattle.std.specs.declared.result.Result.TheVariants.{Ok, Err}
-use Rattle.tokenizer.specs.Answer.{Refusal, Out, refused, done, refuse, number_of, answer_of}
-use Rattle.tokenizer.specs.declared.refusal.Refusal as R
-use Rattle.tokenizer.specs.declared.refusal.Refusal.TheVariants.{TextTooLong, NotUtf8, TooDeep, TooManyRows, TextEnds, StringNeverEnds, StringEmpty, UnknownWord, UnexpectedToken, NumberOutOfRange, WrongTimeUnit, WrongDecimal, MustBeNonNull, WrongMapEntries, WrongUnionId, TrailingText, NotSound, NotAscii, PrintTooLong}
+use Rattle.tokenizer.specs.Answer.{Refusal, Out, refused, done, refuse}
 use Rattle.tokenizer.specs.Places.{after_spaces, word_end}
-use Rattle.tokenizer.specs.Token.{Standing, token_or_refusal, no_token, sort_of, value_of, token_at}
-use Rattle.tokenizer.specs.declared.Token.{Token}
+use Rattle.tokenizer.specs.Token.{Standing, no_token, sort_of, value_of, token_at}
 use Rattle.tokenizer.specs.declared.TokenKind.{TokenKind}
-use Rattle.tokenizer.specs.declared.TokenKind.TheVariants.{LParen, RParen, Comma, Colon, Integer, DoubleQuotedString, SingleQuotedString, DataType, TimeUnit, IntervalUnit, UnionMode, MapSorted, Nullability, Field, Some, None, X}
 use Rattle.tokenizer.proofs.Marks.{bounds}
 use Rattle.tokenizer.proofs.Places.{refused_next}
-use Rattle.token_stream.specs.Count.{is_read, tokens_from, tokens_of, place_behind, count_tokens}
+use Rattle.token_stream.specs.Count.{is_read, tokens_from, place_behind, count_tokens}
 
--- ---- what is answered, and what stands there
+-- a token stands there
+abbrev pub is_done : {A : Type 0} → Out A → Bool
+is_done (refused r) = false
+is_done (done a) = true
 
-module _ (s : Standing) (r : Result Token R.Refusal) (e : answer_of r ≡ token_or_refusal s) where
-  pub token-is : (t : Token) → r ≡ Ok t → (s.kind ≡ done t.kind) × (t.next ≡ s.next)
-  token-is t h = by-kind s.kind refl
-    where
-      by-kind : (k : Out TokenKind) → s.kind ≡ k → (s.kind ≡ done t.kind) × (t.next ≡ s.next)
-      by-kind (refused x) q = let z : done t ≡ refused x = ap answer_of (sym h) ∙ e ∙ rw q in absurd (let y : ◌≡◌ {A = ℕ} 0 1 = cc in omega arith)
-      by-kind (done k) q =
-          let z : done t ≡ done (record { kind = k; start = s.start; size = s.size; next = s.next }) = ap answer_of (sym h) ∙ e ∙ rw q in
-          let y : t ≡ record { kind = k; start = s.start; size = s.size; next = s.next } = cc in
-          (q ∙ ap (λ (x : Token). done x.kind) (sym y), ap (λ (x : Token). x.next) y)
+read_done : (k : Out TokenKind) → is_read k ≡ is_done k
+read_done k = grind arith
 
-  pub refusal-is : (n : R.Refusal) → r ≡ Err n → s.kind ≡ refuse (number_of n)
-  refusal-is n h = by-kind s.kind refl
-    where
-      by-kind : (k : Out TokenKind) → s.kind ≡ k → s.kind ≡ refuse (number_of n)
-      by-kind (refused x) q = let z : ◌≡◌ {A = Out Token} (refuse (number_of n)) (refused x) = ap answer_of (sym h) ∙ e ∙ rw q in q ∙ cc
-      by-kind (done k) q = let z : ◌≡◌ {A = Out Token} (refuse (number_of n)) (done (record { kind = k; start = s.start; size = s.size; next = s.next })) = ap answer_of (sym h) ∙ e ∙ rw q in absurd (let y : ◌≡◌ {A = ℕ} 0 1 = cc in omega arith)
+refused_is : (k : Out TokenKind) → is_done k ≡ false → k ≡ refuse (value_of k)
+refused_is k d = grind arith
 
 -- ---- the place behind what is refused
 
--- only an unknown word has the number 8
-eight : (n : R.Refusal) → (n ≡ UnknownWord → ⊥) → number_of n ≡ 8 → ⊥
-eight TextTooLong o e = omega arith
-eight NotUtf8 o e = omega arith
-eight TooDeep o e = omega arith
-eight TooManyRows o e = omega arith
-eight TextEnds o e = omega arith
-eight StringNeverEnds o e = omega arith
-eight StringEmpty o e = omega arith
-eight UnknownWord o e = o refl
-eight UnexpectedToken o e = omega arith
-eight NumberOutOfRange o e = omega arith
-eight WrongTimeUnit o e = omega arith
-eight WrongDecimal o e = omega arith
-eight MustBeNonNull o e = omega arith
-eight WrongMapEntries o e = omega arith
-eight WrongUnionId o e = omega arith
-eight TrailingText o e = omega arith
-eight NotSound o e = omega arith
-eight NotAscii o e = omega arith
-eight PrintTooLong o e = omega arith
-
-module _ (text : List ℕ) (at : ℕ) (r : Result Token R.Refusal) (e : answer_of r ≡ token_or_refusal (token_at text at)) where
-  pub next-token : (t : Token) → r ≡ Ok t → t.next ≡ (token_at text at).next
-  next-token t h = (token-is (token_at text at) r e t h).1
-
-  pub next-word : r ≡ Err UnknownWord → word_end text (after_spaces text at) ≡ (token_at text at).next
+module _ (text : List ℕ) (at : ℕ) where
+  pub next-word : (token_at text at).kind ≡ refuse 8 → (token_at text at).next ≡ word_end text (after_spaces text at)
   unfolding word_end
-  next-word h = sym ((refused_next text at 8 (refusal-is (token_at text at) r e _ h)).0 refl)
+  next-word e = (refused_next text at 8 e).0 refl
 
-  pub next-refused : (n : R.Refusal) → r ≡ Err n → (n ≡ UnknownWord → ⊥) → after_spaces text at ≡ (token_at text at).next
-  next-refused n h o = sym ((refused_next text at (number_of n) (refusal-is (token_at text at) r e n h)).1 (eight n o))
+  pub next-refused : is_done (token_at text at).kind ≡ false → (value_of (token_at text at).kind ≡ 8 → ⊥) → (token_at text at).next ≡ after_spaces text at
+  next-refused d v = (refused_next text at (value_of (token_at text at).kind) (refused_is (token_at text at).kind d)).1 v
+
+pub ruleset behind_steps = (next-word, next-refused)
 
 -- ---- one turn of the loop
 
--- every token is read
-token-read : (k : TokenKind) → is_read (done k) ≡ true
-token-read LParen = refl
-token-read RParen = refl
-token-read Comma = refl
-token-read Colon = refl
-token-read (Integer n) = refl
-token-read DoubleQuotedString = refl
-token-read SingleQuotedString = refl
-token-read (DataType k) = refl
-token-read (TimeUnit u) = refl
-token-read (IntervalUnit u) = refl
-token-read (UnionMode m) = refl
-token-read (MapSorted b) = refl
-token-read (Nullability r) = refl
-token-read Field = refl
-token-read Some = refl
-token-read None = refl
-token-read X = refl
-
 -- every kind but a refusal is that of a token that is read
 pub other_kind : (k : Out TokenKind) → ((r : Refusal) → k ≡ refused r → ⊥) → is_read k ≡ true
-other_kind (done k) o = token-read k
+other_kind (done k) o = read_done (done k)
 other_kind (refused r) o = absurd (o r refl)
 
 some-sort : (k : Out TokenKind) → is_read k ≡ true → sort_of k ≡ no_token → ⊥
-some-sort k h e = let z : true ≡ false = sym h ∙ ap (λ n. not (eqb n no_token)) e in let y : ◌≡◌ {A = ℕ} 0 1 = cc in omega arith
+some-sort k h e = grind arith
 
 -- a token that is read takes a byte at least, and lies in the text
 pub record Moves (text : List ℕ) (at : ℕ) (t : Standing) : Type 0 where
@@ -116,17 +57,12 @@ token_moves text at h =
     let k = some-sort (token_at text at).kind h in
     record { further = b.past k; within = b.inside k }
 
--- `tokens` of them stand before the place, and the others from it on
-pub record Turn (text : List ℕ) (at tokens : ℕ) : Type 0 where
-  pub most : ℕ
-  pub enough : length text ≤ at + most
-  pub inside : at ≤ length text
-  pub fewer : tokens ≤ at
-  pub counted : length (tokens_of text) ≡ tokens + length (tokens_from text most at)
-  pub behind : place_behind 0 (tokens_of text) ≡ place_behind at (tokens_from text most at)
+-- how many tokens there are from a place on, and where the last of them ends
+unfoldable pub tokens_left : List ℕ → ℕ → ℕ
+tokens_left text at = length (tokens_from text (length text - at) at)
 
-pub turn_start : (text : List ℕ) → Turn text 0 0
-turn_start text = record { most = length text; enough = omega arith; inside = omega arith; fewer = omega arith; counted = omega arith; behind = refl }
+unfoldable pub last_end : List ℕ → ℕ → ℕ
+last_end text at = place_behind at (tokens_from text (length text - at) at)
 
 none_read : (text : List ℕ) (most at : ℕ) → is_read (token_at text at).kind ≡ false → tokens_from text most at ≡ []
 unfolding tokens_from
@@ -137,49 +73,67 @@ one_read : (text : List ℕ) (most at : ℕ) → is_read (token_at text at).kind
 unfolding tokens_from
 one_read text most at e = rw e
 
+-- how many are asked for at most decides nothing where they are as many as bytes are left
+enough : (text : List ℕ) (at : ℕ) (b : Bool) → is_read (token_at text at).kind ≡ b → (m n : ℕ) → length text ≤ at + m → length text ≤ at + n → tokens_from text m at ≡ tokens_from text n at
+enough text at false e m n p q = none_read text m at e ∙ sym (none_read text n at e)
+enough text at true e zero n p q = let t = token_moves text at e in let f = t.further in let w = t.within in absurd (omega arith)
+enough text at true e (suc m) zero p q = let t = token_moves text at e in let f = t.further in let w = t.within in absurd (omega arith)
+enough text at true e (suc m) (suc n) p q =
+    let f = (token_moves text at e).further in
+    let next = (token_at text at).next in
+    one_read text m at e ∙ ap (λ (ts : List Standing). token_at text at ∷ ts) (enough text next (is_read (token_at text next).kind) refl m n (omega arith) (omega arith)) ∙ sym (one_read text n at e)
+
 behind_one : (at : ℕ) (s : Standing) (ss : List Standing) → place_behind at (s ∷ ss) ≡ place_behind s.next ss
 unfolding place_behind
 behind_one at s ss = refl
 
-module _ (text : List ℕ) (at tokens : ℕ) (u : Turn text at tokens) (r : Result Token R.Refusal) (e : answer_of r ≡ token_or_refusal (token_at text at)) where
-  -- no token is read: the count is done
-  pub turn-stop : (n : R.Refusal) → r ≡ Err n → record { tokens = tokens; refusal = number_of n } ≡ count_tokens text
-  unfolding count_tokens place_behind
-  turn-stop n h =
-      let kind : (token_at text at).kind ≡ refuse (number_of n) = refusal-is (token_at text at) r e n h in
-      let rest : tokens_from text u.most at ≡ [] = none_read text u.most at (rw kind) in
-      let size : tokens ≡ length (tokens_of text) = omega (arith, u.counted, ap length rest) in
-      let place : at ≡ place_behind 0 (tokens_of text) = sym (u.behind ∙ ap (place_behind at) rest) in
-      let value : number_of n ≡ value_of (token_at text at).kind = sym (ap value_of kind) in
-      λ i. record { tokens = size i; refusal = (value ∙ ap (λ (x : ℕ). value_of (token_at text x).kind) place) i }
+module _ (text : List ℕ) (at : ℕ) where
+  module _ (d : is_done (token_at text at).kind ≡ false) where
+    h : is_read (token_at text at).kind ≡ false
+    h = read_done (token_at text at).kind ∙ d
 
-  module _ (t : Token) (h : r ≡ Ok t) where
-    is-read : is_read (token_at text at).kind ≡ true
-    is-read = ap is_read (token-is (token_at text at) r e t h).0 ∙ token-read t.kind
+    pub left_none : tokens_left text at ≡ 0
+    unfolding tokens_left
+    left_none = ap length (none_read text (length text - at) at h)
 
-    pub further : at < t.next
-    further = let x = (token_moves text at is-read).further in let y = next-token text at r e t h in omega arith
+    pub end_none : last_end text at ≡ at
+    unfolding last_end place_behind
+    end_none = ap (place_behind at) (none_read text (length text - at) at h)
 
-    within : t.next ≤ length text
-    within = let x = (token_moves text at is-read).within in let y = next-token text at r e t h in omega arith
+  module _ (d : is_done (token_at text at).kind ≡ true) where
+    r : is_read (token_at text at).kind ≡ true
+    r = read_done (token_at text at).kind ∙ d
 
-    pub turn_step : Turn text t.next (tokens + 1)
-    turn_step = go u.most u.enough u.counted u.behind
-      where
-        go : (most : ℕ) → length text ≤ at + most → length (tokens_of text) ≡ tokens + length (tokens_from text most at)
-            → place_behind 0 (tokens_of text) ≡ place_behind at (tokens_from text most at) → Turn text t.next (tokens + 1)
-        go zero l c b = let x = further in let y = within in absurd (omega arith)
-        go (suc most) l c b =
-            let x = further in
-            let y = within in
-            let z = u.fewer in
-            let one : tokens_from text (suc most) at ≡ token_at text at ∷ tokens_from text most t.next =
-            one_read text most at is-read ∙ ap (λ (k : ℕ). token_at text at ∷ tokens_from text most k) (sym (next-token text at r e t h)) in
-            record {
-              most = most;
-              enough = omega arith;
-              inside = y;
-              fewer = omega arith;
-              counted = omega (arith, c, ap length one);
-              behind = b ∙ ap (place_behind at) one ∙ behind_one at (token_at text at) (tokens_from text most t.next) ∙ ap (λ (k : ℕ). place_behind k (tokens_from text most t.next)) (sym (next-token text at r e t h));
-            }
+    abbrev next : ℕ
+    next = (token_at text at).next
+
+    pub further : at < (token_at text at).next
+    further = (token_moves text at r).further
+
+    pub within : (token_at text at).next ≤ length text
+    within = (token_moves text at r).within
+
+    one : tokens_from text (length text - at) at ≡ token_at text at ∷ tokens_from text (length text - next) next
+    one =
+        let f = further in
+        let w = within in
+        let e : length text - at ≡ suc (length text - at - 1) = omega arith in
+        ap (λ (n : ℕ). tokens_from text n at) e
+        ∙ one_read text (length text - at - 1) at r
+        ∙ ap (λ (ts : List Standing). token_at text at ∷ ts) (enough text next (is_read (token_at text next).kind) refl (length text - at - 1) (length text - next) (omega arith) (omega arith))
+
+    pub left_one : tokens_left text at ≡ tokens_left text (token_at text at).next + 1
+    unfolding tokens_left
+    left_one = omega (arith, ap length one)
+
+    pub end_one : last_end text at ≡ last_end text (token_at text at).next
+    unfolding last_end
+    end_one = ap (place_behind at) one ∙ behind_one at (token_at text at) (tokens_from text (length text - next) next)
+
+pub counted : (text : List ℕ) → count_tokens text ≡ record { tokens = tokens_left text 0; refusal = value_of (token_at text (last_end text 0)).kind }
+unfolding count_tokens tokens_left last_end
+counted text =
+    let e : length text ≡ length text - 0 = omega arith in
+    ap (λ (n : ℕ). record { tokens = length (tokens_from text n 0); refusal = value_of (token_at text (place_behind 0 (tokens_from text n 0))).kind }) e
+
+pub ruleset count_steps = (further, within, left_none, left_one, end_none, end_one, counted)

@@ -55,6 +55,7 @@ impl<'a> Tokenizer<'a> {
 }
 
 // The place behind the token that is read at a place, or behind a word that is none; else where it would begin.
+#[tactic(auto, using(crate::proofs::CountLaws::behind_steps))]
 fn place_behind(text: &[u8], at: usize, token: Result<Token, Refusal>) -> usize
     requires { answer_of token ≡ token_or_refusal (token_at text.now at) }
     ensures { result ≡ (token_at text.now at).next }
@@ -69,7 +70,8 @@ fn place_behind(text: &[u8], at: usize, token: Result<Token, Refusal>) -> usize
     }
 }
 
-// The token at or behind a place, by a tokenizer that stands there. Its contract says nothing of a tokenizer.
+// The token at or behind a place, by a tokenizer that stands there: what `tokenizer::next_token` answers. What is public
+// stays.
 pub fn token_from(text: &[u8], at: usize) -> Result<Token, Refusal>
     ensures { answer_of result ≡ token_or_refusal (token_at text.now at) }
 {
@@ -85,6 +87,7 @@ pub struct TokenCount {
 }
 
 // Counts the tokens of a text.
+#[tactic(auto, using(crate::proofs::CountLaws::count_steps))]
 pub fn count_tokens(text: &[u8]) -> TokenCount
     ensures { count_of result ≡ count_tokens text.now }
 {

@@ -32,9 +32,6 @@ is_false false t = refl
 pub of_true : (b : Bool) → b ≡ true → T b
 of_true b e = subst T (sym e) tt
 
-pub of_false : (b : Bool) → b ≡ false → T (not b)
-of_false b e = subst (λ (x : Bool). T (not x)) (sym e) tt
-
 -- a choice between equal values
 pub if_same : {X : Type 0} (b : Bool) (x : X) → (if b then x else x) ≡ x
 if_same true x = refl

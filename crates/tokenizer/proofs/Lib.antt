@@ -4,10 +4,10 @@ pub mod Runs
 pub mod Numbers
 pub mod Listed
 pub mod Tokens
-pub mod StringLaws
 pub mod Marks
 pub mod Places
 pub mod Walks
 pub mod WordTokens
 pub mod Utf8Laws
 pub mod RustUtf8
+pub mod Rules

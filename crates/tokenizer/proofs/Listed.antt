@@ -1,4 +1,4 @@
--- Two words compared, and what the last arm of a match over numbers knows.
+-- Two words compared.
 use mathlib.Core.Path.{◌≡◌, refl}
 use mathlib.Core.List.{List, [], ◌∷◌}
 use Prim.Native.Nat.{ℕ}
@@ -14,8 +14,3 @@ same_path (x ∷ xs) (y ∷ ys) t =
     let p = eqb→eq x y (and_l (eqb x y) (same xs ys) t) in
     let q = same_path xs ys (and_r (eqb x y) (same xs ys) t) in
     λ j. p j ∷ q j
-
--- what the last arm knows: a number is none of a list
-abbrev pub NoneOf : ℕ → Type 0 → List ℕ → Type 0
-NoneOf k A [] = A
-NoneOf k A (x ∷ xs) = NoneOf k (A × (k ≡ x → ⊥)) xs

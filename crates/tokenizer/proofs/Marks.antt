@@ -11,10 +11,11 @@ use lib.ListN.{length, drop, get_or, length-drop}
 use lib.Seq.{drop-cons}
 use lib.Dec.{T, leb, ltb, eqb, leb→le, eqb→eq}
 use borrow.Author.Tests.{eqb-true, eqb-false, eq-eqb, ne_eqb, le-leb}
+use Rattle.std.proofs.lemmas.Bool.Decides.{nat_tests}
 use Rattle.tokenizer.specs.Answer.{Out, done, refuse}
 use Rattle.tokenizer.specs.Text.{all, same}
 use Rattle.tokenizer.specs.Words.{Listed, words, find}
-use Rattle.tokenizer.specs.Token.{lparen, rparen, comma, colon, integer, double_quoted, single_quoted, type_word, time_unit, interval_unit, union_mode, map_sorted, nullability, no_token, sort_of, value_of, Standing, token, is_separator, word_of, is_digit, number_from, is_number, signed, number_kind, word_kind, until_quote, string_token, token_at}
+use Rattle.tokenizer.specs.Token.{lparen, rparen, comma, colon, integer, double_quoted, single_quoted, type_word, time_unit, interval_unit, union_mode, map_sorted, nullability, no_token, sort_of, value_of, Standing, token, is_separator, word_of, is_digit, number_from, is_number, signed, number_kind, word_kind, until_quote, string_token, token_from, token_at}
 use Rattle.tokenizer.specs.Places.{after_spaces}
 use Rattle.tokenizer.specs.declared.TokenKind.{TokenKind}
 use Rattle.tokenizer.specs.declared.TokenKind.TheVariants.{LParen, RParen, Comma, Colon, Integer, DoubleQuotedString, SingleQuotedString}
@@ -22,7 +23,7 @@ use Rattle.tokenizer.proofs.Basics.{and_l, and_r, of_true}
 use Rattle.tokenizer.proofs.Listed.{same_path}
 use Rattle.tokenizer.proofs.Numbers.{limit, limit_most, abs_signed}
 use Rattle.tokenizer.proofs.Runs.{Within, until_within, Skipped, spaces-end, word_part}
-use Rattle.tokenizer.proofs.Tokens.{token_end, token-40, token-41, token-44, token-58, token-34, token-39, token-word}
+use Rattle.tokenizer.proofs.Tokens.{token_end, here, token-34, token-39}
 
 -- ---- the four marks
 
@@ -42,7 +43,7 @@ case {A} a b f g = go (eqb a b) refl where
   go false e = g (eqb-false a b e)
 
 -- a choice by a test
-choice : {X : Type 0} (P : X → Type 0) (b : Bool) (x y : X) → (b ≡ true → P x) → (b ≡ false → P y) → P (if b then x else y)
+pub choice : {X : Type 0} (P : X → Type 0) (b : Bool) (x y : X) → (b ≡ true → P x) → (b ≡ false → P y) → P (if b then x else y)
 choice P true x y f g = f refl
 choice P false x y f g = g refl
 
@@ -58,6 +59,27 @@ pub not_separator : (c : ℕ) → (c ≡ 40 → ⊥) → (c ≡ 41 → ⊥) → 
 unfolding is_separator
 not_separator c p q r s t = rw (ne_eqb c 40 p, ne_eqb c 41 q, ne_eqb c 44 r, ne_eqb c 58 s, ne_eqb c 32 t)
 
+-- ---- the token at a place, by its first byte
+
+module _ (text : List ℕ) (at : ℕ) (h : after_spaces text at < length text) where
+  -- where a mark stands, its token does
+  pub mark-token : (m : ℕ) → T (is_mark m) → get_or text (after_spaces text at) 0 ≡ m → token_at text at ≡ token (mark_kind m) (after_spaces text at) 1
+  unfolding token_from
+  mark-token m t e = rw (here text at (after_spaces text at) refl h, e) (grind (arith, nat_tests))
+
+  no_mark : is_mark (get_or text (after_spaces text at) 0) ≡ false → is_separator (get_or text (after_spaces text at) 0) ≡ false
+  unfolding is_separator
+  no_mark m = let n = (spaces-end text at).no_space h in grind (arith, nat_tests)
+
+  -- and where neither a mark nor a quote mark does, a word's
+  pub token-word : is_mark (get_or text (after_spaces text at) 0) ≡ false → (get_or text (after_spaces text at) 0 ≡ 34 → ⊥) → (get_or text (after_spaces text at) 0 ≡ 39 → ⊥)
+      → token_at text at ≡ token (word_kind (word_of (drop (after_spaces text at) text))) (after_spaces text at) (length (word_of (drop (after_spaces text at) text)))
+  unfolding token_from
+  token-word m d q =
+      let c = get_or text (after_spaces text at) 0 in
+      let n = (spaces-end text at).no_space h in
+      rw (here text at (after_spaces text at) refl h, drop-cons text (after_spaces text at) 0 h) (grind (arith, nat_tests))
+
 -- every token, by the first byte behind the spaces: P holds of it where P holds in each of the five cases
 pub record Cases (text : List ℕ) (p : ℕ) (P : Standing → Type 0) : Type 0 where
   pub over : length text ≤ p → P (token (refuse 5) p 0)
@@ -68,16 +90,16 @@ pub record Cases (text : List ℕ) (p : ℕ) (P : Standing → Type 0) : Type 0 
 
 module _ (text : List ℕ) (at : ℕ) (P : Standing → Type 0) (k : Cases text (after_spaces text at) P) where
   inside : after_spaces text at < length text → P (token_at text at)
-  inside h =
-      let p = after_spaces text at in
-      let c = get_or text (after_spaces text at) 0 in
-      case c 40 (λ e. subst P (token-40 text at p refl h e) (k.mark 40 tt h e)) (λ n₁.
-      case c 41 (λ e. subst P (token-41 text at p refl h e) (k.mark 41 tt h e)) (λ n₂.
-      case c 44 (λ e. subst P (token-44 text at p refl h e) (k.mark 44 tt h e)) (λ n₃.
-      case c 58 (λ e. subst P (token-58 text at p refl h e) (k.mark 58 tt h e)) (λ n₄.
-      case c 34 (λ e. subst P (token-34 text at p refl h e) (k.double h e)) (λ n₅.
-      case c 39 (λ e. subst P (token-39 text at p refl h e) (k.single h e)) (λ n₆.
-      subst P (token-word text at p refl h n₁ n₂ n₃ n₄ n₅ n₆) (k.word h (not_separator c n₁ n₂ n₃ n₄ ((spaces-end text at).no_space h)))))))))
+  inside h = go (is_mark (get_or text (after_spaces text at) 0)) refl
+    where
+      go : (b : Bool) → is_mark (get_or text (after_spaces text at) 0) ≡ b → P (token_at text at)
+      go true e =
+          let t = of_true (is_mark (get_or text (after_spaces text at) 0)) e in
+          subst P (sym (mark-token text at h (get_or text (after_spaces text at) 0) t refl)) (k.mark (get_or text (after_spaces text at) 0) t h refl)
+      go false e =
+          case (get_or text (after_spaces text at) 0) 34 (λ d. subst P (token-34 text at (after_spaces text at) refl h d) (k.double h d)) (λ n.
+          case (get_or text (after_spaces text at) 0) 39 (λ q. subst P (token-39 text at (after_spaces text at) refl h q) (k.single h q)) (λ m.
+          subst P (sym (token-word text at h e n m)) (k.word h (no_mark text at h e))))
 
   pub by_cases : P (token_at text at)
   by_cases =
@@ -85,20 +107,6 @@ module _ (text : List ℕ) (at : ℕ) (P : Standing → Type 0) (k : Cases text 
         | yes h ↦ inside h
         | no h ↦ let o : length text ≤ after_spaces text at = omega arith in subst P (token_end text at (after_spaces text at) refl o) (k.over o)
       ]
-
--- ---- a mark
-
-module _ (text : List ℕ) (at : ℕ) (h : after_spaces text at < length text) where
-  -- where a mark stands, its token does
-  pub mark-token : (m : ℕ) → T (is_mark m) → get_or text (after_spaces text at) 0 ≡ m → token_at text at ≡ token (mark_kind m) (after_spaces text at) 1
-  mark-token m t =
-      let p = after_spaces text at in
-      marks (λ (x : ℕ). get_or text p 0 ≡ x → token_at text at ≡ token (mark_kind x) p 1)
-      (λ e. sym (token-40 text at p refl h e))
-      (λ e. sym (token-41 text at p refl h e))
-      (λ e. sym (token-44 text at p refl h e))
-      (λ e. sym (token-58 text at p refl h e))
-      m t
 
 -- ---- what holds of every word's token
 
@@ -163,9 +171,7 @@ starts sort c =
 
 -- the byte that begins a sort does, or the token is none
 string_starts : (k : TokenKind) (c p : ℕ) (o : Option ℕ) → T (starts (sort_of (done k)) c) → T (starts (sort_of (string_token k p o).kind) c)
-string_starts k c p none t = tt
-string_starts k c p (some zero) t = tt
-string_starts k c p (some (suc n)) t = t
+string_starts k c p o t = grind arith
 
 word_starts : (c : ℕ) (w : List ℕ) → T (starts (sort_of (word_kind (c ∷ w))) c)
 unfolding words
@@ -231,50 +237,16 @@ pub record Bounds (text : List ℕ) (at : ℕ) (t : Standing) : Type 0 where
 
 module _ (text : List ℕ) (at p : ℕ) (e : Skipped text at p) where
   refused-bounds : (n : ℕ) → Bounds text at (token (refuse n) p 0)
-  refused-bounds n =
-      let b = e.behind in
-      let i = e.inside in
-      record {
-        behind = omega arith;
-        onward = omega arith;
-        within = omega arith;
-        held = omega arith;
-        some = λ f. absurd (f refl);
-        past = λ f. absurd (f refl);
-        inside = λ f. absurd (f refl);
-        bytes = λ f. absurd (f refl);
-      }
+  refused-bounds n = search arith
 
   token-bounds : (k : Out TokenKind) (size : ℕ) → 1 ≤ size → p + size ≤ length text → Bounds text at (token k p size)
-  token-bounds k size s h =
-      let b = e.behind in
-      record {
-        behind = omega arith;
-        onward = omega arith;
-        within = omega arith;
-        held = omega arith;
-        some = λ f. s;
-        past = λ f. omega arith;
-        inside = λ f. h;
-        bytes = λ f. h;
-      }
+  token-bounds k size s h = search arith
 
   string-bounds : (k : TokenKind) (o : Option ℕ) → Within (length text - (p + 1)) o → Bounds text at (string_token k p o)
   unfolding Within
   string-bounds k none w = refused-bounds 6
   string-bounds k (some zero) w = refused-bounds 7
-  string-bounds k (some (suc n)) w =
-      let b = e.behind in
-      record {
-        behind = omega arith;
-        onward = omega arith;
-        within = omega arith;
-        held = omega arith;
-        some = λ f. omega arith;
-        past = λ f. omega arith;
-        inside = λ f. omega arith;
-        bytes = λ f. omega arith;
-      }
+  string-bounds k (some (suc n)) w = search arith
 
   quoted-bounds : (k : TokenKind) (quote : ℕ) → Bounds text at (string_token k p (until_quote quote false (drop (p + 1) text)))
   quoted-bounds k quote =
@@ -317,9 +289,7 @@ in_range sort v =
 
 string_values : (k : TokenKind) (p : ℕ) (o : Option ℕ) → T (in_range (sort_of (done k)) (value_of (done k)))
     → T (in_range (sort_of (string_token k p o).kind) (value_of (string_token k p o).kind))
-string_values k p none t = tt
-string_values k p (some zero) t = tt
-string_values k p (some (suc n)) t = t
+string_values k p o t = grind arith
 
 word_values : (c : ℕ) (w : List ℕ) → T (in_range (sort_of (word_kind (c ∷ w))) (value_of (word_kind (c ∷ w))))
 unfolding words

@@ -9,7 +9,7 @@ use lib.ListN.{length, get_or}
 use lib.IntN.{ℤ}
 use lib.Dec.{T, leb, eqb, leb→le}
 use borrow.Author.Rules.{rules}
-use borrow.Author.Tests.{le-leb, eqb-true, eqb-false}
+use borrow.Author.Tests.{eqb-true, eqb-false}
 use mir.Syntax.{w64}
 use mir.Val.{to_z, of_z}
 use Rattle.std.specs.Int.RustNames.{FitsSigned}
@@ -18,6 +18,7 @@ use Rattle.std.specs.declared.result.Result.TheVariants.{Ok, Err}
 use Rattle.std.specs.declared.num.ParseIntError.{ParseIntError}
 use Rattle.std.specs.Str.{IsAscii, IsUtf8}
 use Rattle.std.specs.Str.Parse.{ParsesSigned}
+use Rattle.std.proofs.lemmas.Bool.Decides.{nat_tests}
 use Rattle.std.proofs.lemmas.Str.{IsUtf8-from_ascii}
 use Rattle.std.proofs.lemmas.Str.Parse.{IsNumeralModel, numerals_by_fold, parse_signed_minus, parse_signed_plain}
 use Rattle.tokenizer.specs.Answer.{Out, done, refuse}
@@ -27,7 +28,7 @@ use Rattle.tokenizer.specs.Token.{is_digit, number_from, is_number, signed, is_b
 use Rattle.tokenizer.specs.Internal.Digits.{begins_number}
 use Rattle.tokenizer.specs.declared.TokenKind.{TokenKind}
 use Rattle.tokenizer.specs.declared.TokenKind.TheVariants.{Integer}
-use Rattle.tokenizer.proofs.Basics.{and_l, and_r, is_true, of_true}
+use Rattle.tokenizer.proofs.Basics.{and_l, and_r, of_true}
 
 pub digit_least : (b : ℕ) → is_digit b ≡ true → 48 ≤ b
 unfolding is_digit
@@ -42,14 +43,11 @@ abbrev pub limit : Bool → ℕ
 limit negative = if negative then 2 ^ 63 else (2 ^ 63 - 1)
 
 pub limit_most : (negative : Bool) → limit negative ≤ 9223372036854775808
-limit_most true = omega arith
-limit_most false = omega arith
+limit_most negative = grind arith
 
 -- a sign changes no magnitude
 pub abs_signed : (negative : Bool) (n : ℕ) → nat_abs (signed negative n) ≡ n
-abs_signed true zero = refl
-abs_signed true (suc n) = refl
-abs_signed false n = refl
+abs_signed negative n = grind arith
 
 -- a number with a minus sign that is not 0 is below 0
 pub below_signed : (n : ℕ) → 1 ≤ n → is_below_zero (signed true n) ≡ true
@@ -62,37 +60,22 @@ unfolding is_digit number_from
 own = numerals_by_fold _ (search rules) number_from (search rules)
 
 module _ (negative : Bool) where
-  -- a choice by a test that is told
-  chosen : (x : TokenKind) (b : Bool) → b ≡ true → done x ≡ (if b then done x else refuse 8)
-  chosen x true e = refl
-  chosen x false e = absurd (subst T (sym e) tt)
-
   pub kind_ok : (ds : List ℕ) (n : ℤ) → all is_digit ds ≡ true → 0 < length ds → number_from 0 ds ≤ limit negative → n ≡ signed negative (number_from 0 ds)
       → done (Integer n) ≡ number_kind negative ds
-  kind_ok [] n a l v e = absurd (omega arith)
-  kind_ok (d ∷ ds) n a l v e = rw (e, a, le-leb (number_from 0 (d ∷ ds)) (limit negative) v)
+  kind_ok ds n a l v e = grind (arith, nat_tests)
 
   told : (ds : List ℕ) → is_number negative ds ≡ true → (all is_digit ds ≡ true) × (0 < length ds) × (number_from 0 ds ≤ limit negative)
-  told [] e = absurd (subst T (sym e) tt)
-  told (d ∷ ds) e =
-      let t = of_true (is_number negative (d ∷ ds)) e in (
-        is_true (all is_digit (d ∷ ds)) (and_l (all is_digit (d ∷ ds)) (leb (number_from 0 (d ∷ ds)) (limit negative)) t),
-        omega arith,
-        leb→le (number_from 0 (d ∷ ds)) (limit negative) (and_r (all is_digit (d ∷ ds)) (leb (number_from 0 (d ∷ ds)) (limit negative)) t),
-      )
+  told ds e = grind (arith, nat_tests)
 
   pub kind_err : (ds : List ℕ) → ((all is_digit ds ≡ true) × (0 < length ds) × (number_from 0 ds ≤ limit negative) → ⊥) → refuse 8 ≡ number_kind negative ds
-  kind_err ds f = go (is_number negative ds) refl where
-    go : (b : Bool) → is_number negative ds ≡ b → refuse 8 ≡ (if b then done (Integer (signed negative (number_from 0 ds))) else refuse 8)
-    go true e = absurd (f (told ds e))
-    go false e = refl
+  kind_err ds f = grind (arith, nat_tests, told ds)
 
 -- ---- by the first byte
 
 digits_ascii : (ds : List ℕ) → all is_digit ds ≡ true → IsAscii ds
 digits_ascii [] a k = omega arith
-digits_ascii (d ∷ ds) a zero = omega (arith, digit_most d (is_true (is_digit d) (and_l (is_digit d) (all is_digit ds) (of_true (is_digit d && all is_digit ds) a))))
-digits_ascii (d ∷ ds) a (suc k) = digits_ascii ds (is_true (all is_digit ds) (and_r (is_digit d) (all is_digit ds) (of_true (is_digit d && all is_digit ds) a))) k
+digits_ascii (d ∷ ds) a zero = let l = digit_most d in grind (arith, nat_tests)
+digits_ascii (d ∷ ds) a (suc k) = let r = digits_ascii ds in grind (arith, nat_tests)
 
 minus_ascii : (ds : List ℕ) → all is_digit ds ≡ true → IsAscii (45 ∷ ds)
 minus_ascii ds a zero = omega arith
@@ -139,15 +122,16 @@ module _ (w : List ℕ) (t : T (begins_number w)) where
       (λ m d h. let p = parse_signed_plain own {E = ParseIntError} w64 w (Ok n) h (λ e. omega (arith, digit_least (get_or w 0 0) d)) m in kind_ok false w n p.0.0 p.0.1 (omega (arith, p.0.2)) p.1)
       h
 
-  not_parsed_of : (e : ParseIntError) → ParsesSigned {E = ParseIntError} w64 10 w (Err e) → refuse 8 ≡ word_kind w
-  not_parsed_of e =
-      by_sign (λ v k. ParsesSigned {E = ParseIntError} w64 10 v (Err e) → refuse 8 ≡ k) w t
-      (λ ds h. kind_err true ds (λ k. parse_signed_minus own {E = ParseIntError} w64 (45 ∷ ds) (Err e) h refl (k.0, k.1, omega (arith, k.2))))
-      (λ m d h. kind_err false w (λ k. parse_signed_plain own {E = ParseIntError} w64 w (Err e) h (λ f. omega (arith, digit_least (get_or w 0 0) d)) m (k.0, k.1, omega (arith, k.2))))
+  -- of which error it is nothing is asked
+  not_parsed_of : ParsesSigned {E = Unit {0}} w64 10 w (Err tt) → refuse 8 ≡ word_kind w
+  not_parsed_of =
+      by_sign (λ v k. ParsesSigned {E = Unit {0}} w64 10 v (Err tt) → refuse 8 ≡ k) w t
+      (λ ds h. kind_err true ds (λ k. parse_signed_minus own {E = Unit {0}} w64 (45 ∷ ds) (Err tt) h refl (k.0, k.1, omega (arith, k.2))))
+      (λ m d h. kind_err false w (λ k. parse_signed_plain own {E = Unit {0}} w64 w (Err tt) h (λ f. omega (arith, digit_least (get_or w 0 0) d)) m (k.0, k.1, omega (arith, k.2))))
 
 module _ (v w : List ℕ) (e : v ≡ w) (t : T (begins_number w)) where
   pub parsed : (n : ℤ) → ParsesSigned {E = ParseIntError} w64 10 v (Ok n) → done (Integer (to_z w64 (of_z w64 n))) ≡ word_kind w
   parsed n h = parsed_of w t n (subst (λ (u : List ℕ). ParsesSigned {E = ParseIntError} w64 10 u (Ok n)) e h)
 
-  pub not_parsed : (f : ParseIntError) → ParsesSigned {E = ParseIntError} w64 10 v (Err f) → refuse 8 ≡ word_kind w
-  not_parsed f h = not_parsed_of w t f (subst (λ (u : List ℕ). ParsesSigned {E = ParseIntError} w64 10 u (Err f)) e h)
+  pub not_parsed : ParsesSigned {E = Unit {0}} w64 10 v (Err tt) → refuse 8 ≡ word_kind w
+  not_parsed h = not_parsed_of w t (subst (λ (u : List ℕ). ParsesSigned {E = Unit {0}} w64 10 u (Err tt)) e h)

@@ -1,5 +1,5 @@
 -- The token at a place, by the first byte there that is no space.
-use mathlib.Core.Path.{◌≡◌, refl, sym, ◌∙◌, subst}
+use mathlib.Core.Path.{◌≡◌, refl, sym, ◌∙◌}
 use mathlib.Core.Bool.{Bool, true, false}
 use mathlib.Core.List.{List, [], ◌∷◌}
 use Prim.Native.Nat.{ℕ, suc, ◌+◌, ◌≤◌, ◌<◌}
@@ -7,13 +7,11 @@ use native.Mathlib.Numerals.{add-one}
 use lib.ListN.{length, drop, get_or, drop_of_length-le}
 use lib.Seq.{drop-cons}
 use lib.Dec.{eqb}
-use borrow.Author.Tests.{ne_eqb}
-use Rattle.tokenizer.specs.Answer.{done, refuse}
-use Rattle.tokenizer.specs.Token.{token, word_of, word_kind, until_quote, string_token, token_from, token_at}
+use Rattle.tokenizer.specs.Answer.{refuse}
+use Rattle.tokenizer.specs.Token.{token, until_quote, string_token, token_from, token_at}
 use Rattle.tokenizer.specs.Places.{spaces_from, after_spaces}
-use Rattle.tokenizer.specs.declared.TokenKind.TheVariants.{LParen, RParen, Comma, Colon, DoubleQuotedString, SingleQuotedString}
+use Rattle.tokenizer.specs.declared.TokenKind.TheVariants.{DoubleQuotedString, SingleQuotedString}
 use Rattle.tokenizer.proofs.Basics.{skip}
-use Rattle.tokenizer.proofs.Runs.{spaces-end}
 
 -- ---- spaces
 
@@ -42,25 +40,9 @@ module _ (text : List ℕ) (from at : ℕ) (e : at ≡ after_spaces text from) w
   token_end h = sym (token-spaces text from ∙ rw (← e, drop_of_length-le text h))
 
   module _ (h : at < length text) where
-    here : token_at text from ≡ token_from at (get_or text at 0 ∷ drop (suc at) text)
+    pub here : token_at text from ≡ token_from at (get_or text at 0 ∷ drop (suc at) text)
     unfolding token_at
     here = token-spaces text from ∙ rw (← e, drop-cons text at 0 h)
-
-    pub token-40 : get_or text at 0 ≡ 40 → token (done LParen) at 1 ≡ token_at text from
-    unfolding token_from
-    token-40 c = rw (here, c)
-
-    pub token-41 : get_or text at 0 ≡ 41 → token (done RParen) at 1 ≡ token_at text from
-    unfolding token_from
-    token-41 c = rw (here, c)
-
-    pub token-44 : get_or text at 0 ≡ 44 → token (done Comma) at 1 ≡ token_at text from
-    unfolding token_from
-    token-44 c = rw (here, c)
-
-    pub token-58 : get_or text at 0 ≡ 58 → token (done Colon) at 1 ≡ token_at text from
-    unfolding token_from
-    token-58 c = rw (here, c)
 
     pub token-34 : get_or text at 0 ≡ 34 → string_token DoubleQuotedString at (until_quote 34 false (drop (at + 1) text)) ≡ token_at text from
     unfolding token_from
@@ -69,12 +51,3 @@ module _ (text : List ℕ) (from at : ℕ) (e : at ≡ after_spaces text from) w
     pub token-39 : get_or text at 0 ≡ 39 → string_token SingleQuotedString at (until_quote 39 false (drop (at + 1) text)) ≡ token_at text from
     unfolding token_from
     token-39 c = rw (here, c, add-one at)
-
-    pub token-word : (get_or text at 0 ≡ 40 → ⊥) → (get_or text at 0 ≡ 41 → ⊥) → (get_or text at 0 ≡ 44 → ⊥)
-        → (get_or text at 0 ≡ 58 → ⊥) → (get_or text at 0 ≡ 34 → ⊥) → (get_or text at 0 ≡ 39 → ⊥)
-        → token (word_kind (word_of (drop at text))) at (length (word_of (drop at text))) ≡ token_at text from
-    unfolding token_from
-    token-word p₁ p₂ p₃ p₄ p₅ p₆ =
-        let c = get_or text at 0 in
-        let p₀ : get_or text at 0 ≡ 32 → ⊥ = subst (λ (p : ℕ). get_or text p 0 ≡ 32 → ⊥) (sym e) ((spaces-end text from).no_space (subst (λ (p : ℕ). p < length text) e h)) in
-        rw (here, drop-cons text at 0 h, ne_eqb c 32 p₀, ne_eqb c 40 p₁, ne_eqb c 41 p₂, ne_eqb c 44 p₃, ne_eqb c 58 p₄, ne_eqb c 34 p₅, ne_eqb c 39 p₆)

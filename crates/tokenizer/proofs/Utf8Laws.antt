@@ -2,10 +2,8 @@
 use mathlib.Core.Path.{◌≡◌, refl, ap, ◌∙◌}
 use mathlib.Core.List.{List, [], ◌∷◌, ◌++◌}
 use Prim.Native.Nat.{ℕ, ◌<◌}
-use native.Mathlib.Omega.{arith}
 use lib.Dec.{T, eqb→eq}
 use borrow.Author.Tests.{lt-ltb, eq-eqb}
-use Rattle.std.proofs.lemmas.Bool.Decides.{nat_tests}
 use Rattle.tokenizer.specs.Utf8.{utf8_step, utf8_state, is_utf8}
 use Rattle.tokenizer.proofs.Basics.{of_true}
 
@@ -35,12 +33,6 @@ utf8_append a b p q = state_utf8 (a ++ b) (state_append 0 a b ∙ ap (λ (s : �
 pub step_ascii : (b : ℕ) → b < 128 → utf8_step 0 b ≡ 0
 unfolding utf8_step
 step_ascii b h = rw (lt-ltb b 0x80 h)
-
--- a state behind the seventh is no UTF-8 any more
-pub step-9 : (q b r : ℕ) → (q ≡ 0 → ⊥) → (q ≡ 1 → ⊥) → (q ≡ 2 → ⊥) → (q ≡ 3 → ⊥) → (q ≡ 4 → ⊥) → (q ≡ 5 → ⊥) → (q ≡ 6 → ⊥) → (q ≡ 7 → ⊥)
-    → 8 ≡ utf8_step q b
-unfolding utf8_step
-step-9 q b r h0 h1 h2 h3 h4 h5 h6 h7 = grind (arith, nat_tests)
 
 -- what is no UTF-8 any more stays so
 pub state_broken : (s : List ℕ) → utf8_state 8 s ≡ 8

@@ -1,7 +1,7 @@
 -- A walk through the table of the listed words: every word ends at the token that `find` gives it.
 use Rattle.std.specs.Prelude.{if◌then◌else◌}
 use mathlib.Core.Path.{◌≡◌, refl, sym, ap, ◌∙◌}
-use mathlib.Core.Bool.{Bool, true, false, not, ◌&&◌, ◌||◌}
+use mathlib.Core.Bool.{Bool, true, false, ◌&&◌, ◌||◌}
 use mathlib.Core.List.{List, [], ◌∷◌}
 use Prim.Native.Nat.{ℕ, zero, suc, ◌+◌, ◌/◌, ◌<◌}
 use native.Mathlib.Omega.{arith}
@@ -10,8 +10,9 @@ use native.Mathlib.Nat.{zero-add}
 use lib.ListN.{length, drop, get_or, get_or-eq_default}
 use lib.Seq.{get_or-drop}
 use lib.Dec.{T, eqb}
-use borrow.Author.Tests.{eq-eqb, eqb-true, lt-ltb, le-ltb}
-use Rattle.tokenizer.specs.Answer.{Out, done, refuse}
+use borrow.Author.Tests.{lt-ltb, le-ltb}
+use Rattle.std.proofs.lemmas.Bool.Decides.{nat_tests}
+use Rattle.tokenizer.specs.Answer.{Out, done}
 use Rattle.tokenizer.specs.Text.{same}
 use Rattle.tokenizer.specs.Words.{Listed, words, find}
 use Rattle.tokenizer.specs.Edges.{places, edges}
@@ -68,20 +69,13 @@ rule = refl
 
 -- a place without an edge takes no byte
 pub no_edge : (b : ℕ) → leads_on 32 b ≡ false
-no_edge b = go (eqb 32 b) refl where
-  go : (x : Bool) → eqb 32 b ≡ x → (x && not (eqb b 32)) ≡ false
-  go true e = rw (eq-eqb b 32 (sym (eqb-true 32 b e)))
-  go false e = refl
+no_edge b = grind (arith, nat_tests)
 
 -- a word of a list behind its first byte
-after_choice : (x : Bool) (v u : List ℕ) (us : List (List ℕ)) → is_one_of v (if x then u ∷ us else us) ≡ ((x && same v u) || is_one_of v us)
-after_choice true v u us = refl
-after_choice false v u us = refl
-
 after_one : (b : ℕ) (v : List ℕ) (us : List (List ℕ)) → is_one_of v (after b us) ≡ is_one_of (b ∷ v) us
 after_one b v [] = refl
 after_one b v ([] ∷ us) = after_one b v us
-after_one b v ((c ∷ u) ∷ us) = after_choice (eqb b c) v u (after b us) ∙ ap (λ (x : Bool). (eqb b c && same v u) || x) (after_one b v us)
+after_one b v ((c ∷ u) ∷ us) = let r = after_one b v us in grind arith
 
 module _ (below : ℕ → List (List ℕ) → Bool) (us : List (List ℕ)) where
   edge-right : (b : ℕ) (es : List ℕ) → T (edges_right below us b es) → (k : ℕ) → T (edge_right below us (b + k) (get_or es k 32) (leads_on (get_or es k 32) (b + k)))
@@ -147,10 +141,7 @@ module _ (w : List ℕ) where
 
   found : (ls : List Listed) → walked ls ≡ kinds_of ls → Told 0 w (words_of ls) → walk_kind edges w ≡ find w ls
   unfolding token_of_number head_or tail_of
-  found [] k t = go (eqb (walk edges 0 w) 0) refl t where
-    go : (x : Bool) → eqb (walk edges 0 w) 0 ≡ x → T (x || false) → walk_kind edges w ≡ refuse 8
-    go true e t = rw (eqb-true (walk edges 0 w) 0 e)
-    go false e t = absurd t
+  found [] k t = grind (arith, nat_tests)
   found (l ∷ ls) k t =
       one-of-more l ls (same w l.word) refl (ap (head_or (done l.kind)) k) (λ u. found ls (ap tail_of k) u) t
 

@@ -7,6 +7,7 @@ ghost use Rattle.tokenizer.specs.Internal.Digits.{BeginsNumber};
 use crate::{Refusal, TokenKind};
 
 // The number that a word is, which begins with a digit or a minus sign.
+#[tactic(auto, using(crate::proofs::Rules::parse_steps))]
 pub(crate) fn parse_integer(word: &[u8]) -> Result<TokenKind, Refusal>
     requires { BeginsNumber word.now }
     ensures { answer_of result ≡ word_kind word.now }

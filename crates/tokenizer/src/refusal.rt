@@ -28,7 +28,8 @@ pub enum Refusal {
 }
 
 impl Refusal {
-    // The number of document 01, as callers from C and the line program get it.
+    // The number of document 01, as callers from C and the line program get it. A method and no `From`: it is that number, and
+    // the definitions have a word for it.
     pub fn number(self) -> u32
         ensures { result ≡ number_of self }
     {

@@ -12,6 +12,7 @@ use crate::{Refusal, Token, TokenKind};
 
 // The first place at or behind `from` that holds no space.
 // A `for`: measured, by `position` a call takes twice the instructions, and the tokens of a text 6 in 100 more.
+#[tactic(auto, using(crate::proofs::Rules::space_steps))]
 pub fn skip_spaces(text: &[u8], from: usize) -> usize
     ensures { result ≡ after_spaces text.now from }
 {
@@ -32,6 +33,7 @@ pub fn is_separator(b: u8) -> bool
 }
 
 // The place behind the word that starts at `from`.
+#[tactic(auto, using(crate::proofs::Runs::word_out))]
 pub fn word_end(text: &[u8], from: usize) -> usize
     ensures { result ≡ word_end text.now from }
 {
@@ -59,6 +61,7 @@ fn escaped_after(quote: u8, escaped: bool, b: u8) -> bool
 }
 
 // The place of the mark that ends a string, from a place in it on that no escape reaches.
+#[tactic(auto, using(crate::proofs::Rules::escaped_steps))]
 fn escaped_end(text: &[u8], from: usize, quote: u8) -> Option<usize>
     ensures { result ≡ mark_place text.now quote false from }
 {
@@ -74,6 +77,7 @@ fn escaped_end(text: &[u8], from: usize, quote: u8) -> Option<usize>
 }
 
 // The place of the mark that ends the string whose bytes start at `from`.
+#[tactic(auto, using(crate::proofs::Rules::quote_steps))]
 fn quote_end(text: &[u8], from: usize, quote: u8) -> Option<usize>
     ensures { result ≡ mark_place text.now quote false from }
 {
@@ -90,8 +94,9 @@ fn quote_end(text: &[u8], from: usize, quote: u8) -> Option<usize>
 }
 
 // A place at or behind `from` before which all bytes are above the backslash, as most letters are: no string ends there.
-// Names are most of a text, and their letters are passed faster four at a time than one by one. A `while`, since the place
-// is answered, and a `for` that steps by four would have to find it anew.
+// Names are most of a text. Measured: with letters looked at one by one, a text of ten-letter names takes 8 in 100 more
+// instructions. A `while`, since the place is answered, and a `for` that steps by four would have to find it anew.
+#[tactic(auto, using(crate::proofs::Rules::letter_steps))]
 fn past_letters(text: &[u8], from: usize, quote: u8) -> usize
     requires { (from ≤ length text.now) × (quote ≤ 92) }
     ensures { (result ≤ length text.now) × (quote_end text.now quote false result ≡ quote_end text.now quote false from) }
@@ -129,6 +134,7 @@ pub(crate) fn token_of(kind: TokenKind, at: usize, size: usize) -> Token
 }
 
 // The string whose opening mark stands at a place.
+#[tactic(auto, using(crate::proofs::Rules::string_steps))]
 fn quoted_string(text: &[u8], at: usize, quote: u8, kind: TokenKind) -> Result<Token, Refusal>
     requires { (at < length text.now) × (quote ≤ 92) }
     ensures { answer_of result ≡ token_or_refusal (string_token kind at (until_quote quote false (drop (at + 1) text.now))) }
@@ -150,6 +156,7 @@ fn quoted_string(text: &[u8], at: usize, quote: u8, kind: TokenKind) -> Result<T
 }
 
 // The token at or behind a place, a word by a walk through the table that is lent. Only the space is skipped.
+#[tactic(auto, using(crate::proofs::Rules::token_steps))]
 pub fn next_token_by(table: &WordTable, text: &[u8], from: usize) -> Result<Token, Refusal>
     ensures { answer_of result ≡ token_or_refusal (token_by table.now text.now from) }
 {
@@ -169,6 +176,7 @@ pub fn next_token_by(table: &WordTable, text: &[u8], from: usize) -> Result<Toke
 }
 
 // The token at or behind a place.
+#[tactic(auto, using(crate::proofs::Rules::table_steps), unfolding(crate::specs::Edges::edges))]
 pub fn next_token(text: &[u8], from: usize) -> Result<Token, Refusal>
     ensures { answer_of result ≡ token_or_refusal (token_at text.now from) }
 {

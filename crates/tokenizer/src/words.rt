@@ -10,7 +10,8 @@ use crate::number::parse_integer;
 use crate::tokenizer::{is_separator, token_of, word_end};
 use crate::{Refusal, Token, TokenKind};
 
-// An edge is HALF * d + byte: it leads to the state d + byte, and at a word's end d is the number of the token.
+// An edge is HALF * d + byte: it leads to the state d + byte, and at a word's end d is the number of the token. A table of
+// numbers that is walked by hand, and no map or `match`: document 02 [8] asks for it.
 const HALF: u16 = 256;
 
 // The byte whose edge is a word's end: no word holds it.
@@ -38,6 +39,7 @@ fn token_of_number(number: u16) -> Result<TokenKind, Refusal>
 }
 
 // The token of a word that ends in a state.
+#[tactic(auto, unfolding(crate::specs::WordTable::ending, crate::specs::WordTable::token_of_number))]
 fn end_kind(table: &WordTable, state: usize) -> Result<TokenKind, Refusal>
     requires { state ≤ 510 }
     ensures { answer_of result ≡ token_of_number (ending table.now state) }
@@ -61,8 +63,9 @@ fn state_behind(e: u16, b: u8) -> usize
 }
 
 // The word at a place by a walk through the table: on to the separator behind it, or to a byte that no edge takes. That the
-// place is inside the text stands in four contracts here: a struct that says so would be made at one place, in
-// `next_token_by`, and taken apart in each of the four.
+// place is inside the text stands in four contracts, here and in tokenizer.rt: a struct that says so would be made at one
+// place, in `next_token_by`, where the place has just been compared with the text's length.
+#[tactic(auto, using(crate::proofs::Rules::walk_steps))]
 fn walk_word(table: &WordTable, text: &[u8], at: usize) -> Result<Token, Refusal>
     requires { at < length text.now }
     ensures { answer_of result ≡ token_or_refusal (token (walk_kind table.now (word_of (drop at text.now))) at (length (word_of (drop at text.now)))) }
@@ -87,6 +90,7 @@ fn walk_word(table: &WordTable, text: &[u8], at: usize) -> Result<Token, Refusal
 }
 
 // The number that starts at a place.
+#[tactic(auto, using(crate::proofs::Rules::number_steps))]
 fn number_token(text: &[u8], at: usize) -> Result<Token, Refusal>
     requires { (at < length text.now) × BeginsNumber (word_of (drop at text.now)) }
     ensures { answer_of result ≡ token_or_refusal (token (word_kind (word_of (drop at text.now))) at (length (word_of (drop at text.now)))) }
@@ -97,6 +101,7 @@ fn number_token(text: &[u8], at: usize) -> Result<Token, Refusal>
 }
 
 // The word that starts at a place.
+#[tactic(auto, using(crate::proofs::Rules::word_steps), unfolding(crate::specs::WordTable::word_kind_by, crate::specs::Token::word_kind, crate::specs::Token::is_digit))]
 pub(crate) fn word_token(table: &WordTable, text: &[u8], at: usize) -> Result<Token, Refusal>
     requires { (at < length text.now) × (is_separator (get_or text.now at 0) ≡ false) }
     ensures { answer_of result ≡ token_or_refusal (token (word_kind_by table.now (word_of (drop at text.now))) at (length (word_of (drop at text.now)))) }

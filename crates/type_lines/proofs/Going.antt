@@ -185,7 +185,7 @@ module _ (input out : List ℕ) where
   goes-nowhere p i = record { inside = i; behind = behind-none out p.wrote i.answers; same = λ rest. refl }
 
   module _ (p q : Progress) (out₁ : List ℕ) (g : Goes input p out q out₁) where
-    pub goes_then : (r : Progress) (out₂ : List ℕ) → Goes input q out₁ r out₂ → Goes input p out r out₂
+    goes_then : (r : Progress) (out₂ : List ℕ) → Goes input q out₁ r out₂ → Goes input p out r out₂
     goes_then r out₂ h = record { inside = h.inside; behind = behind-then out p.wrote q.wrote out₁ g.behind r.wrote out₂ h.behind; same = λ rest. g.same rest ∙ h.same rest }
 
 -- where the line that begins at a place ends
@@ -269,7 +269,7 @@ module _ (input out : List ℕ) (from wrote : ℕ) (read : from ≤ length input
 
   -- a line that is too long, not read to its end
   module _ (next : ℕ) (out' : List ℕ) (h : before_newline (drop from input) ≡ length (drop from input)) (long : 16384 < length input - from) where
-    pub goes-long : Wrote (take (length input - from) (drop from input)) out wrote next out' → Goes input (line_at from wrote) out (record { from = length input; wrote = next; skip = true }) out'
+    goes-long : Wrote (take (length input - from) (drop from input)) out wrote next out' → Goes input (line_at from wrote) out (record { from = length input; wrote = next; skip = true }) out'
     unfolding printed_at output_from
     goes-long w =
         let s : List ℕ = drop from input in
@@ -293,14 +293,18 @@ left_short input from h k = let l = length-drop from input in record { partial =
 nothing_left : (s : List ℕ) → length s ≡ 0 → Unfinished s
 nothing_left s h = let w = before_within s in record { partial = omega arith; short = omega arith }
 
-pub left_none : (input : List ℕ) (from : ℕ) → length input ≤ from → Unfinished (drop from input)
+left_none : (input : List ℕ) (from : ℕ) → length input ≤ from → Unfinished (drop from input)
 left_none input from h = nothing_left (drop from input) (let l = length-drop from input in omega arith)
 
 pub halts_short : (input out : List ℕ) (p : Progress) → length out < p.wrote + answer_bytes → Halts input p out
 halts_short input out p h = record { left = λ l. absurd (omega arith) }
 
-pub halts_left : (input out : List ℕ) (p : Progress) → Unfinished (drop p.from input) → Halts input p out
+halts_left : (input out : List ℕ) (p : Progress) → Unfinished (drop p.from input) → Halts input p out
 halts_left input out p u = record { left = λ l. u }
+
+pub part-long : (input out : List ℕ) (from wrote next : ℕ) (out' : List ℕ) → from ≤ length input → before_newline (drop from input) ≡ length (drop from input) → 16384 < length input - from
+    → Wrote (take (length input - from) (drop from input)) out wrote next out' → Goes input (line_at from wrote) out (record { from = length input; wrote = next; skip = true }) out' × Unfinished (drop (length input) input)
+part-long input out from wrote next out' i h long w = (goes-long input out from wrote i next out' h long w, left_none input (length input) (omega arith))
 
 -- ---- from any place
 
@@ -340,13 +344,16 @@ module _ (input : List ℕ) (start had : ℕ) (out : List ℕ) where
   reached-start i = record { goes = goes-nowhere input out (line_at start had) i; bytes = refl }
 
   module _ (from wrote : ℕ) (out₁ : List ℕ) (t : Reached input start had from wrote out out₁) where
-    pub reached-more : (end next : ℕ) (out₂ : List ℕ) → end ≡ line_end input from → (end ≡ length input → ⊥) → length out₂ ≡ length out₁
-        → Wrote (take (end - from) (drop from input)) out₁ wrote next out₂ → Reached input start had (end + 1) next out out₂
-    reached-more end next out₂ e h l w =
+    pub reached-more : (end next : ℕ) (out₂ : List ℕ) → end ≡ line_end input from → (end ≡ length input → ⊥)
+        → Wrote (take (end - from) (drop from input)) out₁ wrote next out₂ × (length out₂ ≡ length out₁) → Reached input start had (end + 1) next out out₂
+    reached-more end next out₂ e h w =
         record {
-          goes = goes_then input out (line_at start had) (line_at from wrote) out₁ t.goes (line_at (end + 1) next) out₂ (goes-line input out₁ from wrote t.goes.inside.read end next out₂ e h w);
-          bytes = l ∙ t.bytes;
+          goes = goes_then input out (line_at start had) (line_at from wrote) out₁ t.goes (line_at (end + 1) next) out₂ (goes-line input out₁ from wrote t.goes.inside.read end next out₂ e h w.0);
+          bytes = w.1 ∙ t.bytes;
         }
+
+    pub reached-left : (q : Progress) (out₂ : List ℕ) → Goes input (line_at from wrote) out₁ q out₂ × Unfinished (drop q.from input) → Goes input (line_at start had) out q out₂ × Halts input q out₂
+    reached-left q out₂ g = (goes_then input out (line_at start had) (line_at from wrote) out₁ t.goes q out₂ g.0, halts_left input out₂ q g.1)
 
 -- ---- the end of the input
 
@@ -404,7 +411,7 @@ module _ (input : List ℕ) (from : ℕ) where
     pub line-partial : line_end input from ≡ length input → before_newline (drop from input) ≡ length (drop from input)
     line-partial h = no_end input from _ inside refl h
 
-pub ruleset part_steps = (goes-nowhere, left_short)
+pub ruleset part_steps = (goes-nowhere, left_short, part-long)
 
 pub ruleset whole_steps = (line-within, line-from, line-partial, reached-start, halts_short)
 

@@ -31,26 +31,8 @@ handed_all r k n h e = subst (λ (x : Result ℕ Failure). Handed x n) e h
 
 -- ---- reading on
 
--- what is read lies within the part that is read into
-pub part_within : (n left : ℕ) (l : List ℕ) → left ≤ length l → n ≤ length (take (length l - left) (drop left l)) → left + n ≤ length l
-part_within n left l h k =
-    let d = length-drop left l in
-    let e = length-take-le (length l - left) (drop left l) (omega arith) in
-    omega arith
-
 abbrev pub read_turn : ℕ → Bool → ℕ → ℕ → Turn
 read_turn left skip wrote n = record { filled = left + n; from = 0; skip = skip; written = wrote; read = n }
-
-module _ (input : List ℕ) (left : ℕ) (skip : Bool) (wrote : ℕ) (input' : List ℕ) where
-  module _ (n : ℕ) (fits : left + n ≤ length input') (kept : take left input' ≡ take left input) where
-    reads_so : Reads input left skip wrote (read_turn left skip wrote n) input'
-    reads_so = record { is = refl; fits = fits; kept = kept }
-
-    pub read_more : (n ≡ 0 → ⊥) → ReadOn (Ok (Continue (read_turn left skip wrote n))) input left skip wrote input'
-    read_more h = (reads_so, omega arith)
-
-    pub read-end : n ≡ 0 → ReadOn (Ok (Break (read_turn left skip wrote n))) input left skip wrote input'
-    read-end h = (reads_so, h)
 
 -- ---- a turn
 
@@ -293,6 +275,6 @@ module _ (turns : ℕ) (t : Turn) (input : List ℕ) (r : Runs turns t input) wh
           )
 
 -- what the functions use
-pub ruleset turn_steps = (inside-filled)
+pub ruleset turn_steps = (inside-filled, handed_all, within-filled, turn-read, left-fits)
 
-pub ruleset run_steps = (runs-start)
+pub ruleset run_steps = (runs-start, counted, last_fits, last_line, ran-failed, runs_on)

@@ -112,6 +112,7 @@ impl Output {
 }
 
 // Moves a part of a buffer to its front, and gives its length.
+#[tactic(auto, using(std::proofs::lemmas::Slice::between_is))]
 pub(crate) fn move_left(input: &mut [u8], from: usize, to: usize) -> usize
     requires { (from ≤ to) × (to ≤ length input.old) }
     ensures { Moved input.old from to result input.new }

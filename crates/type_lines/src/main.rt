@@ -32,7 +32,8 @@ struct Progress {
 
 // What a turn of the program leaves: how many bytes of the input are in the buffer, the place in them, and, as in
 // `Progress`, whether what comes next is the rest of a line that is answered already; how many bytes of answers it
-// wrote, which stand in the output; and how many it read, the last of those in the buffer.
+// wrote, which stand in the output; and how many it read, the last of those in the buffer. It holds no `Progress`, which is
+// of a turn under way: what is written by then is flushed before the next begins.
 #[derive(Drop)]
 struct Turn {
     filled: usize,
@@ -42,7 +43,8 @@ struct Turn {
     read: usize,
 }
 
-// Why the program stopped before its input ended.
+// Why the program stopped before its input ended. `report` prints it, and no `Display`: the error's number in brackets is
+// cut off from what is written.
 #[derive(Drop)]
 enum Failure {
     Reading(io::Error),
@@ -148,6 +150,7 @@ fn take_turn(
 }
 
 // Answers what is left at the end of the input, and writes the answer: how many bytes.
+#[tactic(auto, using(crate::proofs::Turns::last_handed))]
 fn finish(rt: &HostRuntime, line: &[u8], skip: bool, output: &mut Output) -> Result<usize, Failure>
     requires { Unfinished line.now }
     ensures { LastLine line.now skip result output.new.bytes }

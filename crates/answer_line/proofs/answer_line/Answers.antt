@@ -1,3 +1,4 @@
+-- By rules alone the clause of the bytes reaches grind's limit of terms.
 use Rattle.answer_line.proofs.Whole.{chunk-answers, with-room}
 use mathlib.Core.Path.{refl}
 use Rattle.answer_line.proofs.answer_line.Goals as goal

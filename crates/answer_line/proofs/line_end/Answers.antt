@@ -1,3 +1,4 @@
+-- std's law of `position` takes the closure's test, which the goal does not show.
 use Rattle.std.proofs.Common.{eqb, rules, tests}
 use Rattle.std.proofs.lemmas.Iterator.{YieldsList-from_slice}
 use Rattle.std.proofs.lemmas.Iterator.Search.{position_from_yields_List}

@@ -1,9 +1,7 @@
-use borrow.Author.Rules.{rules}
-use Rattle.datatype_parse.proofs.Whole.{read_done, trailing}
+-- The rows between the two calls are fixed by what the first ensures alone; seven forms of a law were not found.
+use Rattle.std.proofs.Common.{rules}
+use Rattle.datatype_parse.proofs.Whole.{read_rows}
 use Rattle.datatype_parse.proofs.parse_data_type.Goals as goal
 
-pub returns-then-text_over : goal.returns-then-text_over
-returns-then-text_over c = let r = read_done _ _ _ _ c.in_ok-read.ensures.answer _ c.text_over.ensures _ c.in_ok-read.ensures.contents c.set_first_parents.ensures c.if-text_over.true in record { answer = r.0; contents = r.1 }
-
-pub returns : goal.returns
-returns c = let r = trailing _ _ _ _ c.in_ok-read.ensures.answer _ c.text_over.ensures (search rules) c.if-text_over.false in record { answer = r.0; contents = r.1 }
+pub returns-then-text_over-clause-contents : goal.returns-then-text_over-clause-contents
+returns-then-text_over-clause-contents c = read_rows _ _ _ c.in_ok-read.ensures.answer _ _ c.in_ok-read.ensures.contents c.set_first_parents.ensures (search rules)

@@ -1,9 +1,6 @@
 -- What the code's nodes say: their rows' labels, and those of the rows below them.
-use Rattle.std.specs.Prelude.{◌≡◌, ℕ, ◌+◌, ◌-◌, suc, max}
-use Rattle.std.specs.declared.option.Option.{Option}
-use Rattle.std.specs.declared.option.Option.TheVariants.{None, Some}
-use Rattle.datatype.specs.Tree.{Forest, node, depth, Row, Label}
-use Rattle.datatype.specs.Table.{rows_at}
+use Rattle.std.specs.Prelude.{ℕ, ◌-◌}
+use Rattle.datatype.specs.Tree.{Forest, Row, Label}
 use Rattle.subtrees.specs.Internal.Run.{forest_at}
 use Rattle.display_length.specs.declared.nodes.Node.{Node}
 use Rattle.display_length.specs.declared.nodes.Nodes.{Nodes}
@@ -29,16 +26,3 @@ rows_in ns = forest_at ns.whole.now.tree.rows.now ns.start (ns.end - ns.start)
 
 abbrev pub labels_in : Nodes → Forest Label
 labels_in ns = labels_of ns.whole.now.tree.text.now ns.whole.now.tree.names.now ns.whole.now.tree.rows.now ns.start ns.end
-
--- The first of nodes side by side, and those that are left.
-pub record IsFirst (ns : Nodes) (n : Node) (left : Nodes) : Type 0 where
-  pub at : n.at ≡ ns.start
-  pub rows : left.start ≡ ns.start + rows_at n.whole.now.tree.rows.now n.at
-  pub end : left.end ≡ ns.end
-  pub labels : labels_in ns ≡ node (label_in n) (children_in n) (labels_in left)
-  pub levels : depth (rows_in ns) ≡ max (suc (levels_below n)) (depth (rows_in left))
-
--- What the iterator gives.
-abbrev pub GivesNode : Nodes → Option Node → Nodes → Type 0
-GivesNode ns None left = ns.start ≡ ns.end
-GivesNode ns (Some n) left = IsFirst ns n left

@@ -1,3 +1,4 @@
+-- The check would compute a million zeros.
 use mathlib.Core.Path.{sym}
 use Prim.Native.Nat.{ℕ}
 use lib.ListN.{length-replicate}

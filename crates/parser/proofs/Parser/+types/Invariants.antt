@@ -1,6 +1,6 @@
 use Prim.Native.Nat.{◌+◌, ◌-◌, ◌*◌}
-use Rattle.parser.proofs.Loops.{Loop}
-use Rattle.parser.specs.Parse.{struct_item, type_at, union_item}
+use Rattle.parser.proofs.Types.{StructLoop, UnionLoop}
+use Rattle.parser.specs.Parse.{type_at}
 use Rattle.parser.specs.Internal.Steps.{rows_left}
 use Rattle.parser.proofs.Parser.+types.Given as goal
 
@@ -45,13 +45,13 @@ abbrev pub decreases-ree_types : goal.decreases-ree_types
 decreases-ree_types l = 4 * l.level + 1
 
 abbrev pub invariant-parse_struct-loop-end : goal.invariant-parse_struct-loop-end
-invariant-parse_struct-loop-end l = Loop (struct_item l.self.text.now (type_at l.self.text.now l.level)) l.open l.initial.below l.below l.next l.used
+invariant-parse_struct-loop-end l = StructLoop l.self.text.now (type_at l.self.text.now l.level) l.kind l.at l.initial.below l.below l.next l.used
 
 abbrev pub decreases-parse_struct-loop-end : goal.decreases-parse_struct-loop-end
 decreases-parse_struct-loop-end l = rows_left l.initial.below - l.used
 
 abbrev pub invariant-parse_union-loop-end : goal.invariant-parse_union-loop-end
-invariant-parse_union-loop-end l = Loop (union_item l.self.text.now (type_at l.self.text.now l.level)) l.initial.next l.initial.below l.below l.next l.used
+invariant-parse_union-loop-end l = UnionLoop l.self.text.now (type_at l.self.text.now l.level) l.kind l.head.number l.at l.initial.below l.below l.next l.used
 
 abbrev pub decreases-parse_union-loop-end : goal.decreases-parse_union-loop-end
 decreases-parse_union-loop-end l = rows_left l.initial.below - l.used

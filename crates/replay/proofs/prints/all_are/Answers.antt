@@ -1,3 +1,4 @@
+-- std's law of `all` takes the closure's test, which the goal does not show.
 use mathlib.Core.Path.{◌∙◌}
 use lib.Dec.{eqb}
 use Rattle.std.proofs.Common.{rules, tests}

@@ -1,3 +1,4 @@
+-- std's law of `all` takes the closure's test, which the goal does not show.
 use Rattle.std.proofs.Common.{◌≡◌, ◌∙◌, refl, arith, rules, tests}
 use Rattle.std.proofs.lemmas.Iterator.{YieldsList-from_range}
 use Rattle.std.proofs.lemmas.Iterator.Search.{all_from_yields_List}

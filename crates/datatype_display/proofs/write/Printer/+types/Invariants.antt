@@ -1,7 +1,9 @@
-use Rattle.std.proofs.Common.{◌+◌, ◌*◌, ◌-◌}
-use Rattle.display_length.specs.Display.{struct_text, union_text}
-use Rattle.datatype_display.specs.Internal.Steps.{place_below, label_at, struct_in, union_in}
-use Rattle.datatype_display.proofs.Texts.{Fields}
+use Rattle.std.proofs.Common.{◌+◌, ◌*◌}
+use lib.Dec.{eqb}
+use Rattle.datatype.specs.Kind.{struct, union}
+use Rattle.display_length.specs.Display.{union_text}
+use Rattle.datatype_display.specs.Internal.Steps.{shape_in}
+use Rattle.datatype_display.proofs.Texts.{struct_rest, Fields}
 use Rattle.datatype_display.proofs.write.Printer.+types.Given as goal
 
 -- The level falls from a type to those below it; at one level a type with types below it calls fields, they a nullable
@@ -45,14 +47,8 @@ decreases-put_union l = 6 * l.level + 5
 abbrev pub decreases-put_union_field : goal.decreases-put_union_field
 decreases-put_union_field l = 6 * l.level + 4
 
-abbrev pub invariant-put_struct-loop-at : goal.invariant-put_struct-loop-at
-invariant-put_struct-loop-at l = Fields l.tree.text.now l.tree.names.now l.row.rows.now (place_below (label_at l.tree.text.now l.tree.names.now l.row.rows.now l.row.at)) l.level l.end l.fn.self (struct_in l.tree l.row) struct_text l.at l.self
+abbrev pub invariant-put_struct-loop-field : goal.invariant-put_struct-loop-field
+invariant-put_struct-loop-field l = Fields l.node l.level l.fn.self (shape_in struct l.node) (struct_rest (eqb l.field-iterator.start (l.node.at + 1))) l.field-iterator l.self
 
-abbrev pub decreases-put_struct-loop-at : goal.decreases-put_struct-loop-at
-decreases-put_struct-loop-at l = l.end - l.at
-
-abbrev pub invariant-put_union-loop-at : goal.invariant-put_union-loop-at
-invariant-put_union-loop-at l = Fields l.tree.text.now l.tree.names.now l.row.rows.now (place_below (label_at l.tree.text.now l.tree.names.now l.row.rows.now l.row.at)) l.level l.end l.fn.self (union_in l.tree l.row) union_text l.at l.self
-
-abbrev pub decreases-put_union-loop-at : goal.decreases-put_union-loop-at
-decreases-put_union-loop-at l = l.end - l.at
+abbrev pub invariant-put_union-loop-field : goal.invariant-put_union-loop-field
+invariant-put_union-loop-field l = Fields l.node l.level l.fn.self (shape_in union l.node) union_text l.field-iterator l.self

@@ -1,3 +1,4 @@
+-- The law takes where the run ends, which the goal does not show.
 use Rattle.datatype_display.proofs.Escapes.{ran_then}
 use Rattle.datatype_display.proofs.write.Printer.put_between.Goals as goal
 

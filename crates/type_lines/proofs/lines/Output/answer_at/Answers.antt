@@ -1,3 +1,4 @@
+-- Each is two laws of what `copy_within` and `answer_line` leave, which the goals do not name.
 use Rattle.type_lines.proofs.Going.{wrote-within, wrote_at}
 use mathlib.Core.Path.{refl}
 use Prim.Native.Nat.{◌-◌}

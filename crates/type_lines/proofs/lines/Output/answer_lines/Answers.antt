@@ -1,3 +1,4 @@
+-- Found by a search, and not by the rules of the function.
 use Rattle.type_lines.proofs.Going.{skips-past, skips-on}
 use Rattle.type_lines.proofs.lines.Output.answer_lines.Goals as goal
 

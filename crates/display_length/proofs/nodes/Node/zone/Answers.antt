@@ -1,6 +1,0 @@
-use borrow.Author.Rules.{rules}
-use Rattle.display_length.proofs.CleanLaws.{clean_zone}
-use Rattle.display_length.proofs.nodes.Node.zone.Goals as goal
-
-pub invariant_of-result : goal.invariant_of-result
-invariant_of-result c = search (rules, clean_zone)
