@@ -1,5 +1,4 @@
 -- What the returns of each function cite: the answers of its calls, and its own laws.
-use Rattle.tokenizer.proofs.WordTokens.{token-by}
 use Rattle.parser.proofs.Matched.{got-fields, got-tree, got_look, got_next, got_span, got_token, got_zone, handed, lost-fields, lost-tree, lost_integer, lost_look, lost_next, lost_span, lost_token, lost_word, lost_zone}
 use Rattle.parser.proofs.FieldLaws.{fields-handed, fields-refused, long-1, long-2, long-3, long-4, long-5, run-ends-long, run-ends-short, short-1, short-2, short-3, short-4, short-5, union-1, union-2, union-3, union-4, union-5, union-6}
 use Rattle.parser.proofs.FirstType.{first_read, lent_fits, lent_room, lent_words, not-utf8, refused-answer, refused-rows, text-read, text-refused, too_long}
@@ -8,7 +7,7 @@ use Rattle.parser.proofs.Loops.{loop-most}
 use Rattle.parser.proofs.Parents.{dictionary-1, dictionary-2, dictionary-3, dictionary-4, dictionary-5, fixed-list-1, fixed-list-2, fixed-list-3, fixed-list-4, fixed-list-5, fixed-list-6, fixed-list-7, list-1, list-2, list-3, map-1, map-2, map-3, map-4, map-5, map-6, run-end-1, run-end-2, run-end-3}
 use Rattle.parser.proofs.Readers.{closed-done, closed-lost, decimal-1, decimal-2, decimal-3, decimal-4, field-1, field-2, field-3, field-5, fixed-3, interval-3, list-field-1, list-field-2, list-field-3, list-field-4, meets-handed, meets-refused, name-1, name-2, name-3, scale-1, scale-2, scale-3, scale-4, time-3, timestamp-1, timestamp-2, timestamp-3, timestamp-5, value-1, value-2}
 use Rattle.parser.proofs.Stores.{from_length}
-use Rattle.parser.proofs.TokenLaws.{after-here, after-out, behind-space, expect-here, expect-lost, expect-other, expect-over, gone, integer-found, integer-refused, interval-unit-here, look-first, look-found, look-here, look-none, look-not, look-out, lost, map-sorted-here, next-here, next-refused, no-space, null-from, null-not, null-other, role-here, role-out, span-here, span-refused, stands-gone, stands-lost, stands_here, time-unit-here, type-word-here, union-mode-here, word-refused, word_lost}
+use Rattle.parser.proofs.TokenLaws.{after-here, after-out, expect-found, expect-lost, expect-other, gone, integer-found, integer-refused, interval-unit-here, look-here, look-not, lost, map-sorted-here, next-here, next-refused, null-not, null-other, role-here, role-out, span-here, span-refused, stands-gone, stands-lost, stands_here, time-unit-here, type-word-here, union-mode-here, word-refused, word_lost}
 use Rattle.parser.proofs.Types.{struct-1, struct-2, struct-4, struct-loop, struct-start, type-decimal, type-deep, type-dictionary, type-fixed, type-fixed-list, type-full, type-interval, type-list, type-map, type-run-ends, type-struct, type-time, type-timestamp, type-union, type-word, union-at-1, union-at-2, union-loop, union-start}
 use Rattle.parser.proofs.ZoneLaws.{byte-in, byte-out, list-name-fits, name-fits, number_lost, positive-out, some-1, some-2, some-3, some-4, unit-1, unit-2, unit-3, zone-1, zone-2, zone-3, zone-4, zone-5, zone-fits, zone-lost, zone-none, zone-other, zone-some, zone-string, zone_done, zone_refused}
 
@@ -58,15 +57,13 @@ pub ruleset decimal_steps = (meets-handed, decimal-1, lost_next, got_next, decim
 
 pub ruleset unit_steps = (handed, unit-1, lost_word, unit-2, unit-3)
 
-pub ruleset next_if_steps = (look-found, no-space, behind-space, look-out, look-first, look-none)
-
 pub ruleset some_steps = (handed, zone_refused, some-1, lost_next, got_next, some-2, lost_span, got_span, some-3, zone_done, some-4)
 
 pub ruleset next_if_x_steps = (look-here, look-not, stands-lost, stands-gone)
 
 pub ruleset expect_field_steps = (handed, next-refused, lost, next-here, gone)
 
-pub ruleset expect_token_steps = (no-space, expect-over, expect-here, handed, next-refused, expect-lost, expect-other)
+pub ruleset expect_token_steps = (expect-found, handed, next-refused, expect-lost, expect-other)
 
 pub ruleset list_name_steps = (handed, span-refused, name-1, lost_next, got_next, name-2, name-3)
 
@@ -80,8 +77,6 @@ pub ruleset zone_steps = (got_look, zone_done, zone-1, lost_look, handed, zone_r
 
 pub ruleset peek_double_quoted_steps = (stands-lost, stands_here, stands-gone)
 
-pub ruleset next_token_steps = (token-by)
-
-pub ruleset nullability_steps = (role-out, after-out, null-other, null-from, stands-lost, null-not, role-here, after-here)
+pub ruleset nullability_steps = (role-out, after-out, null-other, stands-lost, null-not, role-here, after-here)
 
 pub ruleset first_type_steps = (first_read, refused-answer, refused-rows)

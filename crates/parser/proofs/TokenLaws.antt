@@ -1,24 +1,23 @@
 -- Tokens where one is needed or looked for: each return of the small functions as a law.
-use Rattle.std.specs.Prelude.{Some, None, nat_abs}
+use Rattle.std.specs.Prelude.{Option, Some, None, nat_abs}
 use mathlib.Core.Path.{◌≡◌, refl, sym, ap, ◌∙◌}
 use mathlib.Core.Bool.{true, false}
 use mathlib.Core.List.{List, [], ◌∷◌}
-use Prim.Native.Nat.{ℕ, ◌+◌, ◌≤◌, ◌<◌}
+use Prim.Native.Nat.{ℕ, ◌<◌}
 use native.Mathlib.Omega.{arith}
-use lib.ListN.{length, get_or}
+use lib.ListN.{get_or}
 use lib.IntN.{ℤ}
 use lib.Dec.{T, eqb}
 use borrow.Author.Tests.{eq-eqb, ne_eqb}
 use Rattle.tokenizer.specs.Answer.{Out, done, refuse, number_of, answer_of}
-use Rattle.tokenizer.specs.Places.{after_spaces}
+use Rattle.tokenizer.specs.Places.{after_spaces, next_byte}
 use Rattle.tokenizer.specs.Token.{Standing, token, token_at, token_or_refusal, sort_of, value_of, is_negative, signed, is_below_zero, no_token, integer, type_word, time_unit, interval_unit, union_mode, map_sorted, nullability}
 use Rattle.tokenizer.specs.declared.Token.{Token}
 use Rattle.tokenizer.specs.declared.TokenKind.{TokenKind}
 use Rattle.tokenizer.specs.declared.TokenKind.TheVariants as K
 use Rattle.tokenizer.proofs.Marks as Marks
 use Rattle.tokenizer.proofs.Basics.{of_true}
-use Rattle.tokenizer.proofs.Tokens.{token-spaces, token_end}
-use Rattle.tokenizer.proofs.Runs.{spaces-out, spaces-stop, spaces-go}
+use Rattle.tokenizer.proofs.NextByte.{byte-here, byte-not}
 use Rattle.parser.specs.Parse.{refusal_of, need, stands, role_at, after_role}
 use Rattle.parser.specs.Internal.Steps.{mark_sort, is_mark, next_of, look_of, word_of, integer_of, span_of}
 use Rattle.parser.specs.declared.ReadValue.{ReadValue}
@@ -176,80 +175,49 @@ sort_of_mark m h = Marks.marks (λ (x : ℕ). sort_of (Marks.mark_kind x) ≡ ma
 mark_some : (m : ℕ) → T (is_mark m) → eqb no_token (mark_sort m) ≡ false
 mark_some m h = Marks.marks (λ (x : ℕ). eqb no_token (mark_sort x) ≡ false) refl refl refl refl m h
 
-module _ (text : List ℕ) (at mark : ℕ) (m : T (is_mark mark)) where
-  over : length text ≤ after_spaces text at → need text (mark_sort mark) at ≡ refuse 5
-  over h =
-      need-not text (mark_sort mark) at (Marks.text-over text at h (mark_sort mark) (mark_some mark m))
-      ∙ ap (λ (t : Standing). refuse (refusal_of t.kind)) (sym (token_end text at (after_spaces text at) refl h))
+mark_more : (m : ℕ) → T (is_mark m) → 0 < m
+mark_more m h = Marks.marks (λ (x : ℕ). 0 < x) (omega arith) (omega arith) (omega arith) (omega arith) m h
 
-  found : after_spaces text at < length text → get_or text (after_spaces text at) 0 ≡ mark → need text (mark_sort mark) at ≡ done (token (Marks.mark_kind mark) (after_spaces text at) 1)
-  found h e =
-      let t = Marks.mark-token text at h mark m e in
-      here text (mark_sort mark) at (token (Marks.mark_kind mark) (after_spaces text at) 1) (sym t) (sort_of_mark mark m)
+module _ (text : List ℕ) (at mark : ℕ) (m : is_mark mark ≡ true) where
+  found : (n : ℕ) → Some n ≡ next_byte text at mark → need text (mark_sort mark) at ≡ done (token (Marks.mark_kind mark) (after_spaces text at) 1)
+  found n e =
+      let h = byte-here text at mark n e in
+      let t = Marks.mark-token text at h.0 mark (of_true (is_mark mark) m) h.1 in
+      here text (mark_sort mark) at (token (Marks.mark_kind mark) (after_spaces text at) 1) (sym t) (sort_of_mark mark (of_true (is_mark mark) m))
 
-  other : (get_or text (after_spaces text at) 0 ≡ mark → ⊥) → need text (mark_sort mark) at ≡ refuse (refusal_of (token_at text (after_spaces text at)).kind)
-  other h =
-      need-not text (mark_sort mark) at
-      (Marks.marks (λ (x : ℕ). (get_or text (after_spaces text at) 0 ≡ x → ⊥) → eqb (sort_of (token_at text at).kind) (mark_sort x) ≡ false)
-      (Marks.no-lparen text at) (Marks.no-rparen text at) (Marks.no-comma text at) (Marks.no-colon text at) mark m h)
-      ∙ ap (λ (t : Standing). refuse (refusal_of t.kind)) (token-spaces text at)
-
-module _ (text : List ℕ) (at from mark : ℕ) (f : from ≡ after_spaces text at) (m : is_mark mark ≡ true) where
-  pub expect-over : length text ≤ from → refuse 5 ≡ next_of (need text (mark_sort mark) at)
+  pub expect-found : (n : ℕ) → Some n ≡ next_byte text at mark → done n ≡ next_of (need text (mark_sort mark) at)
   unfolding next_of
-  expect-over h = rw (over text at mark (of_true (is_mark mark) m) (rw f at h))
+  expect-found n e = rw (found n e, (byte-here text at mark n e).2)
 
-  pub expect-here : from < length text → get_or text from 0 ≡ mark → done (from + 1) ≡ next_of (need text (mark_sort mark) at)
-  unfolding next_of
-  expect-here h e = rw (found text at mark (of_true (is_mark mark) m) (rw f at h) (rw f at e), f)
+  look-found : (n : ℕ) → Some n ≡ next_byte text at mark → Some n ≡ look_of (need text (mark_sort mark) at)
+  unfolding look_of
+  look-found n e = rw (found n e, (byte-here text at mark n e).2)
 
   -- where another byte stands, its token is refused, or its own refusal is handed on
-  module _ (h : get_or text from 0 ≡ mark → ⊥) where
-    pub expect-lost : (x : ℕ) → refuse x ≡ token_or_refusal (token_at text from) → need text (mark_sort mark) at ≡ refuse x
-    expect-lost x e =
-        other text at mark (of_true (is_mark mark) m) (rw f at h) ∙ ap (λ (i : ℕ). refuse (refusal_of (token_at text i).kind)) (sym f)
-        ∙ ap (λ (k : Out TokenKind). refuse (refusal_of k)) (lost_token (token_at text from) x e)
+  module _ (h : None ≡ next_byte text at mark) where
+    other : need text (mark_sort mark) at ≡ refuse (refusal_of (token_at text at).kind)
+    other =
+        need-not text (mark_sort mark) at
+        (Marks.marks (λ (x : ℕ). (get_or text (after_spaces text at) 0 ≡ x → ⊥) → eqb (sort_of (token_at text at).kind) (mark_sort x) ≡ false)
+        (Marks.no-lparen text at) (Marks.no-rparen text at) (Marks.no-comma text at) (Marks.no-colon text at) mark (of_true (is_mark mark) m)
+        (byte-not text at mark h (mark_more mark (of_true (is_mark mark) m))))
 
-    pub expect-other : (t : Token) → done t ≡ token_or_refusal (token_at text from) → need text (mark_sort mark) at ≡ refuse 9
-    expect-other t e =
-        other text at mark (of_true (is_mark mark) m) (rw f at h) ∙ ap (λ (i : ℕ). refuse (refusal_of (token_at text i).kind)) (sym f)
-        ∙ ap (λ (s : Standing). refuse (refusal_of s.kind)) (got_token (token_at text from) t e)
-        ∙ ap (λ (n : ℕ). refuse n) (nine t.kind)
+    pub expect-lost : (x : ℕ) → refuse x ≡ token_or_refusal (token_at text at) → need text (mark_sort mark) at ≡ refuse x
+    expect-lost x e = other ∙ ap (λ (k : Out TokenKind). refuse (refusal_of k)) (lost_token (token_at text at) x e)
 
-  pub look-found : from < length text → get_or text from 0 ≡ mark → Some (from + 1) ≡ look_of (need text (mark_sort mark) at)
-  unfolding look_of
-  look-found h e = rw (found text at mark (of_true (is_mark mark) m) (rw f at h) (rw f at e), f)
+    pub expect-other : (t : Token) → done t ≡ token_or_refusal (token_at text at) → need text (mark_sort mark) at ≡ refuse 9
+    expect-other t e = other ∙ ap (λ (s : Standing). refuse (refusal_of s.kind)) (got_token (token_at text at) t e) ∙ ap (λ (n : ℕ). refuse n) (nine t.kind)
 
-  look-other : (get_or text from 0 ≡ mark → ⊥) → None ≡ look_of (need text (mark_sort mark) at)
-  unfolding look_of
-  look-other h = rw (other text at mark (of_true (is_mark mark) m) (rw f at h))
+    look-other : None ≡ look_of (need text (mark_sort mark) at)
+    unfolding look_of
+    look-other = rw other
 
--- a mark is no space, and more than 0
-mark_no_space : (m : ℕ) → is_mark m ≡ true → m ≡ 32 → ⊥
-mark_no_space m h = Marks.marks (λ (x : ℕ). x ≡ 32 → ⊥) (λ z. omega arith) (λ z. omega arith) (λ z. omega arith) (λ z. omega arith) m (of_true (is_mark m) h)
-
-mark_more : (m : ℕ) → is_mark m ≡ true → 0 < m
-mark_more m h = Marks.marks (λ (x : ℕ). 0 < x) (omega arith) (omega arith) (omega arith) (omega arith) m (of_true (is_mark m) h)
-
--- with no space before it, and behind one
-pub no-space : (text : List ℕ) (at mark : ℕ) → is_mark mark ≡ true → at < length text → get_or text at 0 ≡ mark → at ≡ after_spaces text at
-no-space text at mark m h e = sym (spaces-stop text at h (λ z. mark_no_space mark m (sym e ∙ z)))
-
-pub behind-space : (text : List ℕ) (at from : ℕ) → at < length text → get_or text at 0 ≡ 32 → from ≡ after_spaces text (at + 1) → from ≡ after_spaces text at
-behind-space text at from h s f = f ∙ sym (spaces-go text at h s)
-
--- looked for from a place on: the text ends, another byte stands there, or there are spaces first
-module _ (text : List ℕ) (at mark : ℕ) (m : is_mark mark ≡ true) where
-  pub look-out : length text ≤ at → None ≡ look_of (need text (mark_sort mark) at)
-  unfolding look_of
-  look-out h = rw (over text at mark (of_true (is_mark mark) m) (rw (spaces-out text at h) h))
-
-  module _ (h : at < length text) where
-    pub look-first : (get_or text at 0 ≡ 32 → ⊥) → (get_or text at 0 ≡ mark → ⊥) → None ≡ look_of (need text (mark_sort mark) at)
-    look-first s n = look-other text at at mark (sym (spaces-stop text at h s)) m n
-
-    pub look-none : get_or text at 0 ≡ 32 → (from : ℕ) → from ≡ after_spaces text (at + 1) → (0 < mark → get_or text from 0 ≡ mark → ⊥) → None ≡ look_of (need text (mark_sort mark) at)
-    look-none s from f n = look-other text at from mark (behind-space text at from h s f) m (n (mark_more mark m))
+  pub look_byte : next_byte text at mark ≡ look_of (need text (mark_sort mark) at)
+  look_byte = go (next_byte text at mark) refl
+    where
+      go : (o : Option ℕ) → o ≡ next_byte text at mark → o ≡ look_of (need text (mark_sort mark) at)
+      go None e = look-other e
+      go (Some n) e = look-found n e
 
 -- ---- nullability
 
@@ -263,30 +231,19 @@ module _ (text : List ℕ) (at : ℕ) where
   unfolding after_role
   after-out e = rw (← e)
 
-  -- by the first byte that is no space, and by the token from there
-  module _ (from : ℕ) (f : from ≡ after_spaces text at) where
-    same-place : token_at text at ≡ token_at text from
-    same-place = token-spaces text at ∙ ap (token_at text) (sym f)
+  -- by the first byte that is no space, and by the token
+  pub null-other : None ≡ next_byte text at 110 → false ≡ stands text nullability at
+  unfolding stands
+  null-other h = sym (Marks.no-nullability text at (byte-not text at 110 h (omega arith)))
 
-    pub null-other : (0 < 110 → get_or text from 0 ≡ 110 → ⊥) → false ≡ stands text nullability at
-    unfolding stands
-    null-other h = sym (Marks.no-nullability text at (rw f at (h (omega arith))))
+  module _ (t : Token) (e : done t ≡ token_or_refusal (token_at text at)) where
+    pub null-not : ((r : ℕ) → t.kind ≡ K.Nullability r → ⊥) → false ≡ stands text nullability at
+    null-not n = stands-gone text nullability at t e (n _)
 
-    pub null-from : false ≡ stands text nullability from → false ≡ stands text nullability at
-    unfolding stands
-    null-from e = e ∙ ap (λ (x : Standing). eqb (sort_of x.kind) nullability) (sym same-place)
+    pub role-here : (r : ℕ) → t.kind ≡ K.Nullability r → r ≡ role_at text at
+    unfolding role_at stands
+    role-here r k = rw (got_token (token_at text at) t e, k)
 
-    module _ (t : Token) (e : done t ≡ token_or_refusal (token_at text from)) where
-      same-token : token_at text at ≡ standing t
-      same-token = same-place ∙ got_token (token_at text from) t e
-
-      pub null-not : ((r : ℕ) → t.kind ≡ K.Nullability r → ⊥) → false ≡ stands text nullability at
-      null-not n = null-from (stands-gone text nullability from t e (n _))
-
-      pub role-here : (r : ℕ) → t.kind ≡ K.Nullability r → r ≡ role_at text at
-      unfolding role_at stands
-      role-here r k = rw (same-token, k)
-
-      pub after-here : (r : ℕ) → t.kind ≡ K.Nullability r → t.next ≡ after_role text at
-      unfolding after_role stands
-      after-here r k = rw (same-token, k)
+    pub after-here : (r : ℕ) → t.kind ≡ K.Nullability r → t.next ≡ after_role text at
+    unfolding after_role stands
+    after-here r k = rw (got_token (token_at text at) t e, k)

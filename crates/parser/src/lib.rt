@@ -9,7 +9,6 @@
 ghost use Rattle.std.specs.Prelude.{◌≡◌, ◌≤◌, ◌++◌, length};
 ghost use Rattle.tokenizer.specs.Answer.{answer_of, done};
 ghost use Rattle.tokenizer.specs.declared.TokenKind.TheVariants.{Integer};
-ghost use Rattle.tokenizer.specs.Edges.{edges};
 ghost use Rattle.datatype.specs.Limits.{max_text};
 ghost use Rattle.datatype.specs.Table.{rows_lent};
 ghost use Rattle.parser.specs.Parse.{id_of, scale_of, field_at, list_field, list_name_at, named_run_ends, default_run_ends, list_at, fixed_size_list_at, struct_at, union_at, union_field, dictionary_at, map_at, run_end_encoded_at, type_at, first_type, read_of, rows_of};
@@ -23,19 +22,17 @@ use datatype::kind::{
 };
 use datatype::rows::{MAX_LEVELS, MAX_TEXT, NON_NULL, NULLABLE, ROW_WORDS, rows_lent};
 use datatype::{Field, Row};
-use tokenizer::{EDGES, Refusal, WordTable};
+use tokenizer::Refusal;
 
 mod leaves;
 mod rows;
 mod tokens;
 mod zones;
 
-// A text, and the table of its words, which is lent once for a text.
+// A text that is read.
 #[derive(Drop)]
 pub(crate) struct Parser<'a> {
-    words: &'a WordTable,
     text: &'a [u8],
-    ghost listed: { words.now ≡ edges },
     ghost short: { length text.now ≤ max_text },
 }
 
@@ -458,10 +455,7 @@ fn parse_text(text: &[u8], rows: &mut [u32]) -> Result<Extent, Refusal>
     if !tokenizer::is_utf8(text) {
         return Err(Refusal::NotUtf8);
     }
-    let parser = Parser {
-        words: &EDGES,
-        text,
-    };
+    let parser = Parser { text };
     let lent = rows_lent(rows.len());
     parser.parse_next_type(&mut rows[..ROW_WORDS * lent], 0, MAX_LEVELS)
 }

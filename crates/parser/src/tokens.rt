@@ -1,5 +1,5 @@
 // One token where it is needed or looked for: the small functions of the Rust's `Parser`.
-ghost use Rattle.std.specs.Prelude.{◌≡◌, true, false, ◌<◌, length, get_or};
+ghost use Rattle.std.specs.Prelude.{◌≡◌, true};
 ghost use Rattle.tokenizer.specs.Answer.{answer_of};
 ghost use Rattle.tokenizer.specs.Token.{token_at, token_or_refusal, integer, double_quoted, single_quoted, type_word, time_unit, interval_unit, union_mode, map_sorted, field_word, x_word};
 ghost use Rattle.parser.specs.Parse.{need, role_at, after_role, number_in, length_at, precision_at, signed_byte_at, stands};
@@ -9,24 +9,13 @@ use crate::{Parser, ReadValue, Span};
 use datatype::rows::NULLABLE;
 use tokenizer::{Refusal, Token, TokenKind};
 
-// Whether a byte stands at a place.
-fn starts(text: &[u8], at: usize, byte: u8) -> bool
-    ensures here { result ≡ true → (at < length text.now) × (get_or text.now at 0 ≡ byte) }
-    ensures other { result ≡ false → 0 < byte → get_or text.now at 0 ≡ byte → ⊥ }
-{
-    if at >= text.len() {
-        return false;
-    }
-    text[at] == byte
-}
-
 impl<'a> Parser<'a> {
-    // The token at or behind a place.
-    #[tactic(auto, using(crate::proofs::Rules::next_token_steps))]
+    // The token at or behind a place. It is made part of its callers: with a call, 11 columns take 14 in 1,000 more instructions.
+    #[inline(always)]
     pub(crate) fn next_token(&self, at: usize) -> Result<Token, Refusal>
         ensures { answer_of result ≡ token_or_refusal (token_at self.now.text.now at) }
     {
-        tokenizer::next_token_by(self.words, self.text, at)
+        tokenizer::next_token(self.text, at)
     }
 
     // A mark is needed.
@@ -35,41 +24,20 @@ impl<'a> Parser<'a> {
         requires { is_mark mark ≡ true }
         ensures { answer_of result ≡ next_of (need self.now.text.now (mark_sort mark) at) }
     {
-        if starts(self.text, at, mark) {
-            return Ok(at + 1);
+        if let Some(next) = tokenizer::next_byte(self.text, at, mark) {
+            return Ok(next);
         }
-        let from = tokenizer::skip_spaces(self.text, at);
-        if from >= self.text.len() {
-            return Err(Refusal::TextEnds);
-        }
-        if self.text[from] == mark {
-            return Ok(from + 1);
-        }
-        self.next_token(from)?;
+        self.next_token(at)?;
         Err(Refusal::UnexpectedToken)
     }
 
     // A mark is looked for, and taken if it is there.
-    #[tactic(auto, using(crate::proofs::Rules::next_if_steps))]
+    #[tactic(auto, using(crate::proofs::TokenLaws::look_byte))]
     pub(crate) fn next_if(&self, at: usize, mark: u8) -> Option<usize>
         requires { is_mark mark ≡ true }
         ensures { result ≡ look_of (need self.now.text.now (mark_sort mark) at) }
     {
-        if at >= self.text.len() {
-            return None;
-        }
-        let b = self.text[at];
-        if b == mark {
-            return Some(at + 1);
-        }
-        if b != b' ' {
-            return None;
-        }
-        let from = tokenizer::skip_spaces(self.text, at + 1);
-        if starts(self.text, from, mark) {
-            return Some(from + 1);
-        }
-        None
+        tokenizer::next_byte(self.text, at, mark)
     }
 
     // Nullability, which may be left out. Both of its words begin with an n, so that the word of a type is not read twice.
@@ -82,11 +50,10 @@ impl<'a> Parser<'a> {
             value: NULLABLE,
             next: at,
         };
-        let from = tokenizer::skip_spaces(self.text, at);
-        if !starts(self.text, from, b'n') {
+        let Some(_) = tokenizer::next_byte(self.text, at, b'n') else {
             return left_out;
-        }
-        let Ok(token) = self.next_token(from) else {
+        };
+        let Ok(token) = self.next_token(at) else {
             return left_out;
         };
         let TokenKind::Nullability(value) = token.kind else {

@@ -1,6 +1,7 @@
 pub mod Basics
 pub mod Answered
 pub mod Runs
+pub mod NextByte
 pub mod Numbers
 pub mod Listed
 pub mod Tokens

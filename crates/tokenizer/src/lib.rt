@@ -11,7 +11,7 @@ mod words;
 
 pub use edges::{EDGES, WordTable};
 pub use refusal::Refusal;
-pub use tokenizer::{is_separator, next_token, next_token_by, skip_spaces, word_end};
+pub use tokenizer::{is_separator, next_byte, next_token, next_token_by, skip_spaces, word_end};
 pub use utf8::is_utf8;
 
 // What a token is. Kinds, units, modes and roles are numbers, as they stand in the words of rows, which C reads and writes.
