@@ -61,7 +61,7 @@ def check_internal():
     """No public function's contract names a definition of specs/Internal, and no definition outside rests on one."""
     for path in sorted(ROOT.glob("crates/*/src/**/*.rt")):
         source = path.read_text(encoding="utf8")
-        lists = re.findall(r"^ghost use Rattle\.\w+\.specs\.Internal\.[\w.]+\.\{([^}]*)\};", source, re.M)
+        lists = re.findall(r"^\s*ghost use Rattle\.\w+\.specs\.Internal\.[\w.]+\.\{([^}]*)\};", source, re.M)
         internal = {name.strip() for names in lists for name in names.split(",")}
         for function, head in public_functions(source):
             for name in sorted(internal & unused_imports.words(unused_imports.contracts(head))):
