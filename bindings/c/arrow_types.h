@@ -129,14 +129,20 @@ enum arrow_types_kind {
 /*
  * Reads a text into lent rows.
  *
- * 0: the first ARROW_TYPES_ROW_WORDS * *count words are the rows, and the words behind them are as they were.
- * 1 to 16: the text is refused; *count is 0, and all rows_length words are 0.
+ * 0: the first ARROW_TYPES_ROW_WORDS * *count words are the rows, the words behind them are as they were, *place is 0.
+ * 1 to 16: the text is refused; *count is 0, and all rows_length words are 0. *place is where, in bytes from the text's
+ * start: the first byte of the last token taken, one that was only looked at not counting. But it is
+ * - ARROW_TYPES_MAX_TEXT for 1, and 0 for 2;
+ * - the first byte of the token that would have begun the type for 3 and 4, text_length if there is none;
+ * - text_length for 5;
+ * - the opening mark of the string at fault for 6 and 7;
+ * - the first byte behind the type that is no space for 16.
  *
  * Fewer rows than 1,024 may be lent; where they run out the text is refused with 4. Words that make no whole row are
  * not used. arrow_types_rows_to_lend says how many are enough.
  */
 uint32_t arrow_types_read(const uint8_t *text, size_t text_length,
-                          uint32_t *rows, size_t rows_length, size_t *count);
+                          uint32_t *rows, size_t rows_length, size_t *count, size_t *place);
 
 /*
  * How many rows to lend for a text of so many bytes: (text_length + 1) / 5, and 1,024 at the most.

@@ -33,12 +33,23 @@ struct tree {
 #define NAMES (const uint8_t *)ARROW_TYPES_NAMES, (size_t)ARROW_TYPES_NAMES_LENGTH
 #define TREE(tree) (tree)->text, (tree)->length, NAMES, (tree)->rows, (tree)->words
 
+/* Where the last text was refused. */
+static size_t place;
+
+/* Reads so many bytes into so many words, from a count and a place that no call answers. */
+static uint32_t read_into(const char *text, size_t length, uint32_t *rows, size_t words, size_t *count)
+{
+    *count = SIZE_MAX;
+    place = SIZE_MAX;
+    return arrow_types_read((const uint8_t *)text, length, rows, words, count, &place);
+}
+
 static uint32_t read_text(struct tree *tree, const char *text)
 {
-    size_t count = 99;
+    size_t count;
     tree->text = (const uint8_t *)text;
     tree->length = strlen(text);
-    uint32_t status = arrow_types_read(tree->text, tree->length, tree->rows, WORDS, &count);
+    uint32_t status = read_into(text, tree->length, tree->rows, WORDS, &count);
     tree->words = count * ARROW_TYPES_ROW_WORDS;
     return status;
 }
@@ -69,20 +80,66 @@ static void reading(void)
     CHECK(a.words == 2 * ARROW_TYPES_ROW_WORDS);
     CHECK(memcmp(a.rows, expected, sizeof expected) == 0);
     CHECK(all(a.rows + a.words, WORDS - a.words, 7));
+    CHECK(place == 0);
 
     CHECK(read_text(&a, "Time32(us)") == ARROW_TYPES_WRONG_TIME_UNIT);
+    CHECK(place == 7);
     CHECK(a.words == 0);
     CHECK(all(a.rows, WORDS, 0));
 
-    size_t count = 99;
-    CHECK(arrow_types_read((const uint8_t *)"Int8", 4, a.rows, ARROW_TYPES_ROW_WORDS - 1, &count)
-          == ARROW_TYPES_TOO_MANY_ROWS);
-    CHECK(arrow_types_read((const uint8_t *)"Int8", 4, a.rows, ARROW_TYPES_ROW_WORDS, &count) == 0);
+    size_t count;
+    CHECK(read_into("Int8", 4, a.rows, ARROW_TYPES_ROW_WORDS - 1, &count) == ARROW_TYPES_TOO_MANY_ROWS);
+    CHECK(read_into("Int8", 4, a.rows, ARROW_TYPES_ROW_WORDS, &count) == 0);
     CHECK(count == 1);
-    CHECK(arrow_types_read((const uint8_t *)"", 0, a.rows, WORDS, &count) == ARROW_TYPES_TEXT_ENDS);
-    CHECK(arrow_types_read((const uint8_t *)"\xff", 1, a.rows, WORDS, &count) == ARROW_TYPES_NOT_UTF8);
-    CHECK(arrow_types_read((const uint8_t *)"Int8", 4, a.rows, 0, &count) == ARROW_TYPES_TOO_MANY_ROWS);
+    CHECK(read_into("", 0, a.rows, WORDS, &count) == ARROW_TYPES_TEXT_ENDS);
+    CHECK(read_into("\xff", 1, a.rows, WORDS, &count) == ARROW_TYPES_NOT_UTF8);
+    CHECK(read_into("Int8", 4, a.rows, 0, &count) == ARROW_TYPES_TOO_MANY_ROWS);
     CHECK(count == 0);
+}
+
+/* Whether a text is refused with a number at a place, with 1,024 rows lent. */
+static int refused_at(const char *text, uint32_t number, size_t expected)
+{
+    return read_text(&a, text) == number && place == expected;
+}
+
+/* The same with so many rows lent, where these run out. */
+static int short_of_rows_at(const char *text, size_t rows, size_t expected)
+{
+    size_t count;
+    uint32_t status = read_into(text, strlen(text), a.rows, rows * ARROW_TYPES_ROW_WORDS, &count);
+    return status == ARROW_TYPES_TOO_MANY_ROWS && place == expected;
+}
+
+static void places(void)
+{
+    static char text[ARROW_TYPES_MAX_TEXT + 2];
+    memset(text, ' ', ARROW_TYPES_MAX_TEXT + 1);
+    CHECK(refused_at(text, ARROW_TYPES_TEXT_TOO_LONG, ARROW_TYPES_MAX_TEXT));
+    text[ARROW_TYPES_MAX_TEXT] = 0;
+    CHECK(refused_at(text, ARROW_TYPES_TEXT_ENDS, ARROW_TYPES_MAX_TEXT));
+    for (int level = 0; level < 64; level++)
+        memcpy(text + 5 * level, "List(", 5);
+    strcpy(text + 5 * 64, "nullable @");
+    CHECK(refused_at(text, ARROW_TYPES_TOO_DEEP, 329));
+    CHECK(refused_at("\xff", ARROW_TYPES_NOT_UTF8, 0));
+    CHECK(refused_at("List(\xff", ARROW_TYPES_NOT_UTF8, 0));
+    CHECK(short_of_rows_at(" @", 0, 1));
+    CHECK(short_of_rows_at("  ", 0, 2));
+    CHECK(short_of_rows_at("List(Int8)", 1, 5));
+
+    CHECK(refused_at("  ", ARROW_TYPES_TEXT_ENDS, 2));
+    CHECK(refused_at("Timestamp(s, \"CET)", ARROW_TYPES_STRING_NEVER_ENDS, 13));
+    CHECK(refused_at("Timestamp(s,  \"\")", ARROW_TYPES_STRING_EMPTY, 14));
+    CHECK(refused_at("List( @)", ARROW_TYPES_UNKNOWN_WORD, 6));
+    CHECK(refused_at("List(\"a\")", ARROW_TYPES_UNEXPECTED_TOKEN, 5));
+    CHECK(refused_at("FixedSizeBinary( -1)", ARROW_TYPES_NUMBER_OUT_OF_RANGE, 17));
+    CHECK(refused_at("Decimal32(9, 10)", ARROW_TYPES_WRONG_DECIMAL, 15));
+    CHECK(refused_at("RunEndEncoded(Int32, Utf8)", ARROW_TYPES_MUST_BE_NON_NULL, 13));
+    CHECK(refused_at("RunEndEncoded( nullable Int8", ARROW_TYPES_MUST_BE_NON_NULL, 15));
+    CHECK(refused_at("Map(\"e\": non-null Int8, sorted)", ARROW_TYPES_WRONG_MAP_ENTRIES, 18));
+    CHECK(refused_at("Union(Dense, 0: (\"a\": Int8), 0: (\"b\": Int8) )", ARROW_TYPES_WRONG_UNION_ID, 44));
+    CHECK(refused_at("Int32 \"", ARROW_TYPES_TRAILING_TEXT, 6));
 }
 
 /* What a Struct of so many leaves gives in a buffer that held 1,024 rows of eleven words. */
@@ -94,18 +151,18 @@ static uint32_t read_leaves(unsigned leaves, size_t *count)
     for (unsigned i = 0; i < leaves; i++)
         length += (size_t)sprintf(text + length, "\"a\":Int8,");
     length += (size_t)sprintf(text + length, ")");
-    return arrow_types_read((const uint8_t *)text, length, a.rows, WORDS_OF_ELEVEN, count);
+    return read_into(text, length, a.rows, WORDS_OF_ELEVEN, count);
 }
 
 /* Whether a text is read with rows_to_lend rows, so many, as it is with 1,024, and the words behind are as they were. */
 static int lends(const char *text, size_t lent)
 {
-    size_t count = 99;
+    size_t count;
     size_t words = lent * ARROW_TYPES_ROW_WORDS;
     uint32_t status = read_text(&a, text);
     fill(b.rows, 7);
     return arrow_types_rows_to_lend(a.length) == lent
-        && arrow_types_read(a.text, a.length, b.rows, words, &count) == 0
+        && read_into(text, a.length, b.rows, words, &count) == 0
         && status == 0 && count * ARROW_TYPES_ROW_WORDS == a.words
         && memcmp(a.rows, b.rows, a.words * sizeof *a.rows) == 0
         && all(b.rows + a.words, WORDS - a.words, 7);
@@ -125,8 +182,8 @@ static void lending(void)
     CHECK(arrow_types_rows_to_lend(ARROW_TYPES_MAX_TEXT) == ARROW_TYPES_MAX_ROWS);
     CHECK(arrow_types_rows_to_lend(SIZE_MAX) == ARROW_TYPES_MAX_ROWS);
 
-    size_t count = 99;
-    CHECK(arrow_types_read((const uint8_t *)"", 0, a.rows, 0, &count) == ARROW_TYPES_TOO_MANY_ROWS);
+    size_t count;
+    CHECK(read_into("", 0, a.rows, 0, &count) == ARROW_TYPES_TOO_MANY_ROWS);
     CHECK(count == 0);
 
     /* A buffer that held 1,024 rows of eleven words. */
@@ -288,6 +345,7 @@ static void eleven_words(void)
 int main(void)
 {
     reading();
+    places();
     lending();
     printing();
     judging();

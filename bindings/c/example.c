@@ -1,5 +1,6 @@
 /* Reads the type text that is its argument and prints what it is: kind, rows, depth and the text as the library prints
- * it. Where the text is refused, or the tree is not printed, it prints the number and answers 1. */
+ * it. Where the text is refused it prints the number and the place, where the tree is not printed the number, and answers
+ * 1. */
 
 #include "arrow_types.h"
 
@@ -18,22 +19,24 @@ static int refused(const char *what, uint32_t number)
 }
 
 /* Reads a text into as many rows as its length asks for. One that these do not hold is refused in any case, and all
- * rows give it its own number. */
-static uint32_t read_text(const uint8_t *text, size_t text_length, size_t *count)
+ * rows give it its own number and place. */
+static uint32_t read_text(const uint8_t *text, size_t text_length, size_t *count, size_t *place)
 {
     size_t lent = arrow_types_rows_to_lend(text_length) * ARROW_TYPES_ROW_WORDS;
-    uint32_t status = arrow_types_read(text, text_length, rows, lent, count);
+    uint32_t status = arrow_types_read(text, text_length, rows, lent, count, place);
     if (status != ARROW_TYPES_TOO_MANY_ROWS)
         return status;
-    return arrow_types_read(text, text_length, rows, sizeof rows / sizeof rows[0], count);
+    return arrow_types_read(text, text_length, rows, sizeof rows / sizeof rows[0], count, place);
 }
 
 static int show(const uint8_t *text, size_t text_length)
 {
-    size_t count, depth, length;
-    uint32_t status = read_text(text, text_length, &count);
-    if (status != 0)
-        return refused("read", status);
+    size_t count, depth, length, place;
+    uint32_t status = read_text(text, text_length, &count, &place);
+    if (status != 0) {
+        printf("not read: %u at %zu\n", (unsigned)status, place);
+        return 1;
+    }
 
     /* The tree is the rows filled, with the text that they point into. */
     size_t words = count * ARROW_TYPES_ROW_WORDS;

@@ -4,7 +4,7 @@
     python3 tests/lines/mix.py [LINES [SEED]]
 
 Of ten lines four are Structs of eleven columns, three are timestamps with a zone, and three are refused, each by
-another fault. Names, zones and numbers are drawn anew for each line.
+another fault, whose number and place are known. Names, zones and numbers are drawn anew for each line.
 """
 
 import random
@@ -49,6 +49,18 @@ def refused_text(draw):
     )
 
 
+def refusal(text):
+    """The answer to a line that `refused_text` made: the number of its fault, and the place of the last token taken."""
+    run_ends = '"run_ends": Int32'
+    for fault, number, before in [("unsortedly", 8, 0), ("Float33", 8, 0), ('Float32 "flow"', 9, 8), (run_ends, 13, 12)]:
+        if fault in text:
+            return f"no {number} {text.index(fault) + before}"
+    if text.endswith(") Int8"):
+        return f"no 16 {len(text) - 4}"
+    short = {"RunEndEncoded(Int32, Utf8)": "no 13 13", 'Timestamp(s, "")': "no 7 13", "Time32(us)": "no 11 7"}
+    return short.get(text, f"no 5 {len(text)}")
+
+
 def mixed(lines, seed=1):
     """Each line with the function that made it."""
     draw = random.Random(seed)
@@ -56,6 +68,11 @@ def mixed(lines, seed=1):
     for _ in range(lines):
         kind = draw.choice(kinds)
         yield kind, kind(draw)
+
+
+def refusals(mixed):
+    """For each line its answer where it is refused, else an empty one."""
+    return "".join((refusal(text) if kind is refused_text else "") + "\n" for kind, text in mixed)
 
 
 if __name__ == "__main__":

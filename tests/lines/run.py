@@ -15,6 +15,8 @@ import threading
 import tty
 import unittest
 
+import mix
+
 ROOT = pathlib.Path(__file__).resolve().parents[2]
 sys.path.insert(0, str(ROOT / "tests"))
 import needs  # noqa: E402
@@ -28,8 +30,11 @@ RunEndEncoded(Int32, Utf8)
 """
 SAMPLE_ANSWERS = b"""ok 3 2 Struct("slot": non-null Timestamp(s), "kwh": Decimal64(12, 3))
 ok 2 2 FixedSizeList(4 x Int32)
-no 13
+no 13 13
 """
+
+# The answer to a line over 16,384 bytes.
+TOO_LONG = b"no 1 16384\n"
 
 
 def run(text, **options):
@@ -53,13 +58,14 @@ def struct_line(letters, before, behind):
 def mixed_lines(count, seed):
     """Lines of every length up to that of a text and beyond, each with its answer."""
     draw = random.Random(seed)
-    refused = [(b"", b"no 5\n"), (b"Int33", b"no 8\n"), (b"Struct(,)", b"no 9\n"), (b"\xff", b"no 2\n"), (b"\0", b"no 8\n")]
+    refused = [(b"", b"no 5 0\n"), (b"Int33", b"no 8 0\n"), (b"Struct(,)", b"no 9 7\n")]
+    refused += [(b"\xff", b"no 2 0\n"), (b"\0", b"no 8 0\n")]
     for _ in range(count):
         kind = draw.randrange(100)
         if kind < 20:
             yield draw.choice(refused)
         elif kind < 22:
-            yield b"a" * draw.choice([16385, 20000, 65535, 65536, 65537, 200000]), b"no 1\n"
+            yield b"a" * draw.choice([16385, 20000, 65535, 65536, 65537, 200000]), TOO_LONG
         elif kind < 24:
             size = draw.choice([16384, 16383, 16000])
             text, answer = struct_line(b"b", 0, 0)
@@ -77,16 +83,17 @@ class Whole(unittest.TestCase):
         self.assertEqual(answers(b""), b"")
 
     def test_newline_alone(self):
-        self.assertEqual(answers(b"\n"), b"no 5\n")
-        self.assertEqual(answers(b"\n\n"), b"no 5\nno 5\n")
+        self.assertEqual(answers(b"\n"), b"no 5 0\n")
+        self.assertEqual(answers(b"\n\n"), b"no 5 0\nno 5 0\n")
 
     def test_last_line(self):
         self.assertEqual(answers(b"Int8\nInt16"), b"ok 1 1 Int8\nok 1 1 Int16\n")
         self.assertEqual(answers(b"Int8\nInt16\n"), b"ok 1 1 Int8\nok 1 1 Int16\n")
-        self.assertEqual(answers(b"Int8\n\n"), b"ok 1 1 Int8\nno 5\n")
+        self.assertEqual(answers(b"Int8\n\n"), b"ok 1 1 Int8\nno 5 0\n")
 
     def test_any_bytes(self):
-        self.assertEqual(answers(b"Int8\0\n\0\nInt8\xff\n\xc3\nInt8\r\nInt8\n"), b"no 8\nno 8\nno 2\nno 2\nno 8\nok 1 1 Int8\n")
+        text = b"Int8\0\n\0\nInt8\xff\n\xc3\nInt8\r\nInt8\n"
+        self.assertEqual(answers(text), b"no 8 0\nno 8 0\nno 2 0\nno 2 0\nno 8 0\nok 1 1 Int8\n")
 
     def test_printer_refuses(self):
         self.assertEqual(answers('Struct("ä": Int8)\nInt8\n'.encode()), b"no 18\nok 1 1 Int8\n")
@@ -98,8 +105,42 @@ class Whole(unittest.TestCase):
         self.assertEqual(answers(wide), b"ok 1024 2 " + wide + b"\n")
 
 
+class Places(unittest.TestCase):
+    """Behind the number of a refused text stands its place; a refusal of the printer has none."""
+
+    PLACES = [
+        (b"RunEndEncoded(Int32, Utf8)", 13, 13),
+        (b"RunEndEncoded( nullable Int8", 13, 15),
+        (b"  ", 5, 2),
+        (b'List("a")', 9, 5),
+        (b"Decimal32(9, 10)", 12, 15),
+        (b'Int32 "', 16, 6),
+        (b'Map("e": non-null Int8, sorted)', 14, 18),
+        (b"List(" * 64 + b"nullable @", 3, 329),
+        (b" " * 16385, 1, 16384),
+        (b"\xff", 2, 0),
+        (b'Timestamp(s, "CET)', 6, 13),
+        ('Struct("Küche" Int8)'.encode(), 9, 16),
+        (b" " * 16380 + b"Time", 8, 16380),
+    ]
+
+    def test_places(self):
+        for text, number, place in self.PLACES:
+            with self.subTest(text=text[:40]):
+                self.assertEqual(answers(text + b"\n"), b"no %d %d\n" % (number, place))
+
+    def test_mix(self):
+        # the lines that the program is timed with, of which each refused one has a place that is known
+        mixed = list(mix.mixed(3000))
+        found = answers("".join(text + "\n" for _, text in mixed).encode()).splitlines()
+        expected = mix.refusals(mixed).encode().splitlines()
+        refused = [(got, wanted) for got, wanted in zip(found, expected, strict=True) if wanted or got.startswith(b"no")]
+        self.assertEqual([got for got, _ in refused], [wanted for _, wanted in refused])
+        self.assertEqual({wanted.split()[1] for _, wanted in refused}, {b"5", b"7", b"8", b"9", b"11", b"13", b"16"})
+
+
 class Page(unittest.TestCase):
-    """README.md's table of refusals: each number with a sample."""
+    """README.md's table of refusals: each number with a sample and, of a text, its place."""
 
     MADE = {
         1: b" " * 16385,
@@ -111,17 +152,18 @@ class Page(unittest.TestCase):
 
     def test_refusals(self):
         page = (ROOT / "README.md").read_text(encoding="utf8")
-        samples = {int(n): text for n, text in re.findall(r"^\| (\d+) \| .* \| `([^`]*)` \|$", page, re.M)}
-        samples = {n: text.encode() for n, text in samples.items()} | self.MADE
-        self.assertEqual(sorted(samples), [n for n in range(1, 20) if n != 17])
-        for number, text in samples.items():
-            with self.subTest(number=number):
-                self.assertEqual(answers(text + b"\n"), b"no %d\n" % number)
+        rows = re.findall(r"^\| (\d+) \| .* \| (.*) \| ([\d,]*) ?\|$", page, re.M)
+        self.assertEqual([int(number) for number, _, _ in rows], list(range(1, 20)))
+        for number, sample, place in rows:
+            if number != "17":
+                with self.subTest(number=number):
+                    text = self.MADE.get(int(number), sample.strip("`").encode())
+                    self.assertEqual(answers(text + b"\n").decode().split(), ["no", number, *place.replace(",", "").split()])
 
 
 class Long(unittest.TestCase):
-    SIZES = [(16384, b"ok 1 1 Int32\n"), (16385, b"no 1\n"), (32769, b"no 1\n"), (49152, b"no 1\n"), (65535, b"no 1\n")]
-    SIZES += [(65536, b"no 1\n"), (65537, b"no 1\n"), (131072, b"no 1\n"), (1000000, b"no 1\n")]
+    SIZES = [(16384, b"ok 1 1 Int32\n")]
+    SIZES += [(size, TOO_LONG) for size in [16385, 32769, 49152, 65535, 65536, 65537, 131072, 1000000]]
 
     def test_one_line(self):
         for size, answer in self.SIZES:
@@ -133,7 +175,7 @@ class Long(unittest.TestCase):
         for size, answer in self.SIZES:
             with self.subTest(size=size):
                 text = b"Int8\n" + b"Int32".rjust(size) + b"\nUtf8\n\nNull"
-                self.assertEqual(answers(text), b"ok 1 1 Int8\n" + answer + b"ok 1 1 Utf8\nno 5\nok 1 1 Null\n")
+                self.assertEqual(answers(text), b"ok 1 1 Int8\n" + answer + b"ok 1 1 Utf8\nno 5 0\nok 1 1 Null\n")
 
     def test_longest_answer(self):
         # 16,384 bytes are printed, the head is the longest, and the output is written several times
@@ -158,16 +200,16 @@ class Buffers(unittest.TestCase):
         for shift in range(len(SAMPLE) + 2):
             head = b" " * 15000 + b"\n"
             text = head * 4 + b"\n" * (65536 - 4 * len(head) - shift) + tail
-            expected = b"no 5\n" * (4 + 65536 - 4 * len(head) - shift) + SAMPLE_ANSWERS * 3
+            expected = b"no 5 15000\n" * 4 + b"no 5 0\n" * (65536 - 4 * len(head) - shift) + SAMPLE_ANSWERS * 3
             with self.subTest(shift=shift):
                 self.assertEqual(answers(text), expected)
 
     def test_skip_over_write(self):
         # the output is full, and is written, while the rest of a long line is being skipped
-        for before in [9827, 9828, 9829]:
+        for before in [7019, 7020, 7021]:
             with self.subTest(before=before):
                 text = b"\n" * before + b"a" * 100_000 + b"\nInt8"
-                self.assertEqual(answers(text), b"no 5\n" * before + b"no 1\nok 1 1 Int8\n")
+                self.assertEqual(answers(text), b"no 5 0\n" * before + TOO_LONG + b"ok 1 1 Int8\n")
 
     def test_pieces(self):
         # what comes in pieces is answered as if it came at once
@@ -224,7 +266,7 @@ class Waiting(unittest.TestCase):
         child = self.start(stdin=subprocess.PIPE)
         self.ask(child, b"Int8\nInt", b"ok 1 1 Int8\n")
         self.ask(child, b"16\n" + b"a" * 20_000, b"ok 1 1 Int16\n")
-        self.ask(child, b"a" * 100_000, b"no 1\n")
+        self.ask(child, b"a" * 100_000, TOO_LONG)
         self.ask(child, b"a\nInt32\nInt", b"ok 1 1 Int32\n")
         child.stdin.write(b"64")
         child.stdin.close()
@@ -238,7 +280,7 @@ class Waiting(unittest.TestCase):
         child = self.start(stdin=far)
         os.close(far)
         self.addCleanup(os.close, near)
-        for line, answer in [(b"Int8\n", b"ok 1 1 Int8\n"), (b"\n", b"no 5\n"), (b"Utf8\n", b"ok 1 1 Utf8\n")]:
+        for line, answer in [(b"Int8\n", b"ok 1 1 Int8\n"), (b"\n", b"no 5 0\n"), (b"Utf8\n", b"ok 1 1 Utf8\n")]:
             os.write(near, line)
             self.assertEqual(child.stdout.readline(), answer)
         os.write(near, b"\x04")
@@ -267,7 +309,7 @@ class Failures(unittest.TestCase):
         tty.setraw(far)
         os.write(far, b"Int8\nInt33\nInt")
         os.close(far)
-        self.assert_read_fails(near, b"ok 1 1 Int8\nno 8\n", b"Input/output error")
+        self.assert_read_fails(near, b"ok 1 1 Int8\nno 8 0\n", b"Input/output error")
 
     def assert_read_fails(self, source, answered, why):
         """The whole lines that could be read are answered, and the message says why no more could; closes the source."""

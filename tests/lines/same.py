@@ -1,35 +1,44 @@
 #!/usr/bin/env python3
-"""Compares the answers of the line program with those of `compare lines`, which tells no refusal's number.
+"""Compares the answers of the line program with those of `compare lines`, which tells no refusal's number or place.
 
-    python3 tests/lines/same.py PORT RUST
+    python3 tests/lines/same.py PORT RUST [REFUSALS]
 
-Prints how many lines both accepted with the same bytes, how many both refused, and how many differ, with the first
-that does. The exit status is 1 if any does.
+REFUSALS has for each line the answer that it is to be refused with, or nothing (mix.py); without it a refused line must at
+least have a number of the reader and a place. Prints how many lines both accepted with the same bytes, how many both
+refused, and how many differ, with the first that does. The exit status is 1 if any does.
 """
 
 import collections
 import itertools
 import pathlib
+import re
 import sys
 
 sys.path.insert(0, str(pathlib.Path(__file__).resolve().parents[1]))
 import needs  # noqa: E402
 
 
-def verdict(port, rust):
+# A refusal of the reader, 1 to 16, and its place.
+REFUSED = re.compile(rb"no (?:[1-9]|1[0-6]) (?:0|[1-9][0-9]{0,4})\n")
+
+
+def verdict(port, rust, refusal=None):
+    """Of one line: the port's answer, the Rust's, and the refusal that is expected, if it is known."""
     if port is None or rust is None:
         return "different"
-    if port.startswith(b"no ") and rust == b"no ?\n":
-        return "refused by both"
+    if rust == b"no ?\n":
+        refused = REFUSED.fullmatch(port) and refusal in (None, port)
+        return "refused by both" if refused else "different"
     return "accepted by both, same bytes" if port == rust and port.startswith(b"ok ") else "different"
 
 
-def compare(port_path, rust_path):
+def compare(port_path, rust_path, refusals=None):
     """Prints the counts, and answers how many lines differ."""
     counts = collections.Counter({"accepted by both, same bytes": 0, "refused by both": 0, "different": 0})
+    known = [] if refusals is None else [refusals.encode().splitlines(keepends=True)]
     with open(port_path, "rb") as ports, open(rust_path, "rb") as rusts:
-        for number, (port, rust) in enumerate(itertools.zip_longest(ports, rusts), 1):
-            found = verdict(port, rust)
+        for number, (port, rust, *refusal) in enumerate(itertools.zip_longest(ports, rusts, *known), 1):
+            found = verdict(port, rust, *refusal)
             if found == "different" and not counts[found]:
                 print(f"line {number}: {port!r} and {rust!r}")
             counts[found] += 1
@@ -39,9 +48,10 @@ def compare(port_path, rust_path):
 
 
 if __name__ == "__main__":
-    if len(sys.argv) != 3:
-        needs.complain("it takes two files, the answers of the port and those of `compare lines`.")
+    if len(sys.argv) not in (3, 4):
+        needs.complain("it takes two files, the answers of the port and those of `compare lines`, and may take the refusals.")
         sys.exit(2)
     for name in sys.argv[1:]:
         needs.path(name, "tests/lines/time.py writes such files to target/lines.")
-    sys.exit(1 if compare(sys.argv[1], sys.argv[2]) else 0)
+    refusals = pathlib.Path(sys.argv[3]).read_text(encoding="ascii") if len(sys.argv) == 4 else None
+    sys.exit(1 if compare(sys.argv[1], sys.argv[2], refusals) else 0)

@@ -50,7 +50,9 @@ def main():
         slow, fast = (min(times) for times in zip(*rounds))
         print(f"| {name}, {len(texts):,} lines, {size:,} bytes | {slow:.2f} | {fast:.2f} | {slow / fast:.1f} |", flush=True)
         if sort is None:
-            different += same.compare(port, rust)
+            refusals = mix.refusals(mixed)
+            (FILES / "refusals").write_text(refusals, encoding="ascii")
+            different += same.compare(port, rust, refusals)
     return 1 if different else 0
 
 

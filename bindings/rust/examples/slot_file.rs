@@ -4,9 +4,10 @@
 //!     cargo run --release --offline --example slot_file -- INPUT OUTPUT
 //!
 //! It reports the zones of each column before and after and writes the new head to OUTPUT. If a text is refused, a type
-//! does not read back as the same one or a zone is lost, it says so, writes nothing and ends with the status 1.
+//! does not read back as the same one or a zone is lost, it says so, writes nothing and ends with the status 1. Of a text
+//! that is refused it shows where.
 
-use arrow_types::{DataType, Field};
+use arrow_types::{DataType, Field, ReadError};
 use std::process::ExitCode;
 
 fn main() -> ExitCode {
@@ -45,11 +46,12 @@ fn rewrite_file(input: &str, output: &str) -> Result<usize, String> {
 
 /// Rewrites the type text of a column and reports its zones.
 fn rewrite(column: usize, text: &[u8]) -> Result<String, String> {
-    let before = DataType::try_from(text).map_err(|error| error.to_string())?;
+    let before = DataType::try_from(text).map_err(|error| shown_at(error, text))?;
     let printed = before.print().map_err(|error| error.to_string())?;
-    let after: DataType = printed
-        .parse()
-        .map_err(|error| format!("{printed} does not read back: {error}"))?;
+    let after: DataType = printed.parse().map_err(|error| {
+        let shown = shown_at(error, printed.as_bytes());
+        format!("what is printed does not read back: {shown}")
+    })?;
     let (had, has) = (zones(&before), zones(&after));
     println!("column {column}: {} -> {}", shown(&had), shown(&has));
     if had != has {
@@ -59,6 +61,11 @@ fn rewrite(column: usize, text: &[u8]) -> Result<String, String> {
         return Err(format!("{printed} reads back as another type"));
     }
     Ok(printed)
+}
+
+/// Why and where a text is refused.
+fn shown_at(error: ReadError, text: &[u8]) -> String {
+    format!("{error}\n{}", error.picture(text))
 }
 
 /// The zones of a type, in order, borrowed from its text.

@@ -1,7 +1,7 @@
 //! A type that owns its text and its rows.
 
 use crate::ffi::{self, Tree};
-use crate::{Children, Error, Field, MAX_ROWS, MAX_TEXT, ROW_WORDS};
+use crate::{Children, Error, Field, MAX_ROWS, MAX_TEXT, ROW_WORDS, ReadError};
 use std::cell::RefCell;
 use std::fmt;
 use std::str::FromStr;
@@ -203,15 +203,15 @@ impl DataType {
 /// use arrow_types::{DataType, Error};
 ///
 /// assert_eq!(DataType::try_from(b"Int32".as_slice())?.to_string(), "Int32");
-/// assert_eq!(DataType::try_from(b"\xff".as_slice()), Err(Error::NotUtf8));
+/// assert_eq!(DataType::try_from(b"\xff".as_slice()).unwrap_err().error(), Error::NotUtf8);
 /// # Ok::<(), Error>(())
 /// ```
 impl TryFrom<&[u8]> for DataType {
-    type Error = Error;
+    type Error = ReadError;
 
-    fn try_from(text: &[u8]) -> Result<DataType, Error> {
+    fn try_from(text: &[u8]) -> Result<DataType, ReadError> {
         let rows = read(text)?;
-        let text = std::str::from_utf8(text).map_err(|_| Error::NotUtf8)?;
+        let text = std::str::from_utf8(text).map_err(|_| ReadError::new(Error::NotUtf8, 0))?;
         Ok(DataType {
             text: text.to_owned(),
             rows,
@@ -226,13 +226,15 @@ impl TryFrom<&[u8]> for DataType {
 ///
 /// let list: DataType = "FixedSizeList(4, Int32)".parse()?;
 /// assert_eq!(list.to_string(), "FixedSizeList(4 x Int32)");
-/// assert_eq!("Time32(us)".parse::<DataType>(), Err(Error::WrongTimeUnit));
+///
+/// let error = "Time32(us)".parse::<DataType>().unwrap_err();
+/// assert_eq!((error.error(), error.place()), (Error::WrongTimeUnit, 7));
 /// # Ok::<(), Error>(())
 /// ```
 impl FromStr for DataType {
-    type Err = Error;
+    type Err = ReadError;
 
-    fn from_str(text: &str) -> Result<DataType, Error> {
+    fn from_str(text: &str) -> Result<DataType, ReadError> {
         Ok(DataType {
             rows: read(text.as_bytes())?,
             text: text.to_owned(),
@@ -241,12 +243,12 @@ impl FromStr for DataType {
 }
 
 /// The rows of a text. Where those lent by its length run out it is refused in any case, and all rows give it its own
-/// number.
-fn read(text: &[u8]) -> Result<Vec<u32>, Error> {
+/// number and place.
+fn read(text: &[u8]) -> Result<Vec<u32>, ReadError> {
     ROWS.with_borrow_mut(|rows| {
         let lent = ffi::rows_to_lend(text.len()) * ROW_WORDS;
         let count = match ffi::read(text, &mut rows[..lent]) {
-            Err(Error::TooManyRows) => ffi::read(text, rows)?,
+            Err(error) if error.error() == Error::TooManyRows => ffi::read(text, rows)?,
             answer => answer?,
         };
         Ok(rows[..count * ROW_WORDS].to_vec())

@@ -4,16 +4,18 @@ use std::fmt;
 
 /// Why a text is not read or a tree not printed: document 01's numbers a caller may get.
 ///
-/// 1 to 16 are the reader's: 1 and 2 come first, then the first that is met from left to right. 17 to 19 are the
-/// printer's, in that order.
+/// 1 to 16 are the reader's: 1 and 2 come first, then the first that is met from left to right; reading answers them in
+/// a [`ReadError`](crate::ReadError), with their place. 17 to 19 are the printer's, in that order.
 ///
 /// ```
 /// use arrow_types::{DataType, Error};
 ///
-/// let error = r#"Struct("slot: Int32)"#.parse::<DataType>().unwrap_err();
-/// assert_eq!(error, Error::StringNeverEnds);
-/// assert_eq!(error.number(), 6);
-/// assert_eq!(error.to_string(), "a quoted string never ends");
+/// let row: DataType = r#"Struct("größe": Int8)"#.parse()?;
+/// let error = row.print().unwrap_err();
+/// assert_eq!(error, Error::NotAscii);
+/// assert_eq!(error.number(), 18);
+/// assert_eq!(error.to_string(), "a name or zone to print in double quotes is not ASCII");
+/// # Ok::<(), Error>(())
 /// ```
 #[derive(Clone, Copy, Debug, PartialEq, Eq, PartialOrd, Ord, Hash)]
 #[repr(u32)]

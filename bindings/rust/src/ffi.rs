@@ -2,7 +2,7 @@
 //! answers and what a caller owes. Slices are never null, and a borrow that is written is no part of one that is read;
 //! that is all of it.
 
-use crate::Error;
+use crate::{Error, ReadError};
 
 /// The three names that stand in no text, end to end: document 01's name list.
 pub const NAME_LIST: &str = "itemrun_endsvalues";
@@ -14,6 +14,7 @@ unsafe extern "C" {
         rows: *mut u32,
         rows_length: usize,
         count: *mut usize,
+        place: *mut usize,
     ) -> u32;
 
     fn arrow_types_rows_to_lend(text_length: usize) -> usize;
@@ -109,8 +110,8 @@ pub struct Tree<'a> {
 /// Reads a text into lent rows, for a service that keeps its own: how many are filled.
 ///
 /// Words that make no whole row are not used, and words behind the rows filled stay as they were. A refused text leaves
-/// all that is lent zeros; where the rows run out it is refused with [`Error::TooManyRows`]. [`rows_to_lend`] says how
-/// many are enough.
+/// all that is lent zeros; where the rows run out it is refused with [`Error::TooManyRows`], where the type that has no
+/// row would have begun. [`rows_to_lend`] says how many are enough.
 ///
 /// ```
 /// use arrow_types::{ROW_WORDS, read, rows_to_lend};
@@ -118,12 +119,12 @@ pub struct Tree<'a> {
 /// let text = b"List(List(Int8))";
 /// let mut rows = vec![0; rows_to_lend(text.len()) * ROW_WORDS];
 /// assert_eq!(read(text, &mut rows)?, 3);
-/// # Ok::<(), arrow_types::Error>(())
+/// # Ok::<(), arrow_types::ReadError>(())
 /// ```
-pub fn read(text: &[u8], rows: &mut [u32]) -> Result<usize, Error> {
-    let mut count = 0;
-    // SAFETY: the pointers are those of slices and of a local, with the slices' lengths; all outlive the call. What is
-    // written, `rows` and `count`, is borrowed mutably, so it is no part of `text`.
+pub fn read(text: &[u8], rows: &mut [u32]) -> Result<usize, ReadError> {
+    let (mut count, mut place) = (0, 0);
+    // SAFETY: the pointers are those of slices and of locals, with the slices' lengths; all outlive the call. What is
+    // written, `rows`, `count` and `place`, is borrowed mutably, so it is no part of `text`.
     let status = unsafe {
         arrow_types_read(
             text.as_ptr(),
@@ -131,9 +132,10 @@ pub fn read(text: &[u8], rows: &mut [u32]) -> Result<usize, Error> {
             rows.as_mut_ptr(),
             rows.len(),
             &mut count,
+            &mut place,
         )
     };
-    answer(status, count)
+    answer(status, count).map_err(|error| ReadError::new(error, place))
 }
 
 /// How many rows to lend for a text of so many bytes: a fifth of one more than these, and 1,024 at the most.

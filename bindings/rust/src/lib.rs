@@ -14,8 +14,9 @@
 //!     r#"Struct("slot": non-null Timestamp(s, "CET"), "kwh": Decimal64(12, 3))"#
 //! );
 //!
-//! let refused = "RunEndEncoded(Int32, Utf8)".parse::<DataType>();
-//! assert_eq!(refused, Err(Error::MustBeNonNull));
+//! let refused = "RunEndEncoded(Int32, Utf8)".parse::<DataType>().unwrap_err();
+//! assert_eq!(refused.error(), Error::MustBeNonNull);
+//! assert_eq!(refused.place(), 13);
 //! # Ok::<(), Error>(())
 //! ```
 //!
@@ -31,6 +32,8 @@ mod error;
 mod ffi;
 mod field;
 mod kind;
+mod picture;
+mod read_error;
 mod rows;
 
 pub use data_type::{DataType, Verdict};
@@ -38,6 +41,7 @@ pub use error::Error;
 pub use ffi::{read, rows_to_lend};
 pub use field::{Children, Field};
 pub use kind::{IntervalUnit, Kind, TimeUnit, UnionMode};
+pub use read_error::ReadError;
 pub use rows::{set_parents, widen_rows};
 
 /// Words to a row.

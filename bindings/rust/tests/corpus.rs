@@ -1,13 +1,16 @@
 //! The stored samples of crates/replay/data, given to this crate. Their answers came from arrow-schema 60.1.0 and from a
 //! second writing of the scope; tests/compare/README.md says how they were made, and has the format.
 //!
-//! A type's text is read with all the rows that it needs and printed with 16,384 bytes, and there is one name list, so
-//! cases that lend less or have another list are held to what they imply, or left out; the counts say of how many. The
-//! last case of each sample is wrong on purpose.
+//! Each text is read into as many words as its case lends, and compared in full, with its place. Types are read with all
+//! the rows that they need and printed with 16,384 bytes, and there is one name list, so there cases that lend less or
+//! have another list are held to what they imply, or left out; the counts say of how many. The last case of each sample
+//! is wrong on purpose.
 
 use std::panic::{AssertUnwindSafe, catch_unwind};
 
-use arrow_types::{DataType, Error, Field, MAX_ROWS, ROW_WORDS, Verdict, read, rows_to_lend};
+use arrow_types::{
+    DataType, Error, Field, MAX_ROWS, ROW_WORDS, ReadError, Verdict, read, rows_to_lend,
+};
 
 const NAME_LIST: &[u8] = b"itemrun_endsvalues";
 
@@ -87,18 +90,24 @@ impl Table {
     }
 }
 
-/// A text and what reading it is to answer.
+/// A text and what reading it is to answer: the row count, or the number and the place of a refusal.
 struct Text {
     lent: usize,
     text: Vec<u8>,
-    answer: Result<usize, u32>,
+    answer: Result<usize, (u32, usize)>,
     words: Vec<u32>,
+}
+
+fn number_and_place(error: ReadError) -> (u32, usize) {
+    (error.number(), error.place())
 }
 
 impl Text {
     fn of(sample: &mut Sample) -> Text {
         let (lent, text) = (sample.number(), sample.bytes());
-        let answer = sample.answer();
+        let (answer, place) = (sample.answer(), sample.number());
+        assert!(answer.is_err() || place == 0);
+        let answer = answer.map_err(|number| (number, place));
         Text {
             lent,
             text,
@@ -108,9 +117,10 @@ impl Text {
     }
 
     /// What is counted: 0 for a text read, the number of a refusal, 17 for a text that has no room in the rows that the
-    /// case lends, of which this crate always lends more.
+    /// case lends, of which a type is always lent more.
     fn check(&self) -> usize {
-        if self.answer == Err(4) && self.lent < MAX_ROWS * ROW_WORDS {
+        self.fits(self.lent);
+        if self.is_short_of_rows() {
             return 17;
         }
         match DataType::try_from(&*self.text) {
@@ -119,28 +129,34 @@ impl Text {
                 assert_eq!(read.rows(), self.words);
                 assert_eq!(read.text().as_bytes(), self.text);
                 reads_back(&read);
-                self.fits_rows_to_lend();
+                let lent = rows_to_lend(self.text.len());
+                assert_eq!(lent, ((self.text.len() + 1) / 5).min(MAX_ROWS));
+                self.fits(lent * ROW_WORDS);
                 0
             }
             Err(error) => {
-                assert_eq!(Err(error.number()), self.answer);
+                assert_eq!(Err(number_and_place(error)), self.answer);
                 error.number() as usize
             }
         }
     }
 
-    /// The text is read again with a row for every five bytes: the same rows, and the words behind them as they were.
-    fn fits_rows_to_lend(&self) {
-        let lent = rows_to_lend(self.text.len());
-        assert_eq!(lent, ((self.text.len() + 1) / 5).min(MAX_ROWS));
-        let mut rows = vec![7; lent * ROW_WORDS];
+    fn is_short_of_rows(&self) -> bool {
+        matches!(self.answer, Err((4, _))) && self.lent < MAX_ROWS * ROW_WORDS
+    }
+
+    /// Reads the text into so many words: the answer is that of the case, and so are the rows, and the words behind them
+    /// are as they were; those of a refused text are all 0.
+    fn fits(&self, lent: usize) {
+        let mut rows = vec![7; lent];
         assert_eq!(
-            read(&self.text, &mut rows).map_err(Error::number),
+            read(&self.text, &mut rows).map_err(number_and_place),
             self.answer
         );
         let (filled, rest) = rows.split_at(self.words.len());
         assert_eq!(filled, self.words);
-        assert!(rest.iter().all(|word| *word == 7));
+        let left = if self.answer.is_ok() { 7 } else { 0 };
+        assert!(rest.iter().all(|word| *word == left));
     }
 }
 
@@ -148,8 +164,11 @@ impl Text {
 fn texts() {
     let mut sample = Sample::open("texts");
     let mut counts = [0; 18];
+    let mut behind_start = 0;
     for _ in 1..sample.number() {
-        counts[Text::of(&mut sample).check()] += 1;
+        let text = Text::of(&mut sample);
+        counts[text.check()] += 1;
+        behind_start += usize::from(text.answer.is_err_and(|(_, place)| place > 0));
     }
     let wrong = Text::of(&mut sample);
     fails(|| wrong.check());
@@ -157,6 +176,22 @@ fn texts() {
     assert_eq!((counts[0], counts[17]), (1_202, 194));
     assert_eq!(counts[1..=16].iter().sum::<usize>(), 2_539);
     assert!(counts[1..=16].iter().all(|count| *count > 0));
+    // Of the 2,733 refused.
+    assert_eq!(behind_start, 2_289);
+}
+
+/// A case with another place is told from the right one.
+#[test]
+fn another_place() {
+    let mut text = Text {
+        lent: ROW_WORDS,
+        text: b"Int33".to_vec(),
+        answer: Err((8, 0)),
+        words: Vec::new(),
+    };
+    assert_eq!(text.check(), 8);
+    text.answer = Err((8, 1));
+    fails(|| text.check());
 }
 
 /// The rows as parts, and the printed text, where names and zones have neither quote marks, backslashes nor bytes that

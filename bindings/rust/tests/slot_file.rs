@@ -26,7 +26,7 @@ fn temporary(name: &str) -> PathBuf {
     Path::new(env!("CARGO_TARGET_TMPDIR")).join(name)
 }
 
-/// Runs it on a head of this test's: its last line. Nothing may be written.
+/// Runs it on a head of this test's: its last line, and the picture below it. Nothing may be written.
 fn refusal(name: &str, head: &[u8]) -> String {
     let (input, output) = (temporary(&format!("{name}.in")), temporary(name));
     std::fs::write(&input, head).expect("a file to write");
@@ -34,7 +34,10 @@ fn refusal(name: &str, head: &[u8]) -> String {
     assert_eq!(run.status.code(), Some(1));
     assert!(!output.exists());
     let printed = String::from_utf8(run.stdout).expect("UTF-8");
-    printed.lines().last().expect("a line").to_owned()
+    let last = printed
+        .find("nothing is written: ")
+        .expect("that it says so");
+    printed[last..].trim_end().to_owned()
 }
 
 #[test]
@@ -79,20 +82,27 @@ fn names_that_would_not_stay() {
     );
     // A tab prints as `\t`, and that backslash keeps the closing mark.
     let message = refusal("unread", b"Struct(\"a\tb\": Int8)\n");
-    assert_eq!(
-        message,
-        r#"nothing is written: column 1: Struct("a\tb": Int8) does not read back: a quoted string never ends"#
-    );
+    let expected = [
+        "nothing is written: column 1: what is printed does not read back: a quoted string never ends, at byte 7",
+        r#" | Struct("a\tb": Int8)"#,
+        r#" |        ^"#,
+    ];
+    assert_eq!(message, expected.join("\n"));
 }
 
 #[test]
 fn texts_that_are_refused() {
     let message = refusal("refused", b"Int8\nTime32(us)\n");
-    assert!(message.starts_with("nothing is written: column 2: Time32 takes"));
+    let expected = [
+        "nothing is written: column 2: Time32 takes s or ms, and Time64 takes us or ns, at byte 7",
+        " | Time32(us)",
+        " |        ^",
+    ];
+    assert_eq!(message, expected.join("\n"));
     let message = refusal("not_utf8", b"\xff\n");
     assert_eq!(
         message,
-        "nothing is written: column 1: the text is not UTF-8"
+        "nothing is written: column 1: the text is not UTF-8, at byte 0\n | <FF>\n | ^"
     );
     let message = refusal("not_ascii", "Timestamp(s, \"Zürich\")\n".as_bytes());
     assert!(message.ends_with("to print in double quotes is not ASCII"));

@@ -16,6 +16,7 @@ use Rattle.std.proofs.lemmas.Grind.{common_steps}
 use Rattle.std.proofs.lemmas.List.Recursion.{is_position_or_len}
 use Rattle.tokenizer.specs.Text.{bytes}
 use Rattle.parser.proofs.FirstType.{too_long}
+use Rattle.parser.specs.Answer.{refusal_in}
 use Rattle.datatype_parse.specs.Parse.{parse}
 use Rattle.output.specs.Digits.{digits, digits_with}
 use Rattle.answer_line.specs.Line.{line_answer, longer, lines_of, before_newline, line_end}
@@ -94,6 +95,6 @@ lines_from input from h =
 
 -- ---- a line that is too long
 
-pub long_line : (line : List ℕ) → 16384 < length line → line_answer line ≡ bytes "no 1\n"
-unfolding line_answer parse digits digits_with
+pub long_line : (line : List ℕ) → 16384 < length line → line_answer line ≡ bytes "no 1 16384\n"
+unfolding line_answer parse refusal_in digits digits_with
 long_line line h = rw (too_long line 1024 h)

@@ -1,5 +1,5 @@
 -- The answer to a text that was read: printing into the output behind the head, and what its levels say.
-use Rattle.std.specs.Prelude.{if◌then◌else◌, Result, Ok, Err}
+use Rattle.std.specs.Prelude.{if◌then◌else◌, Result, Ok, Err, None}
 use mathlib.Core.Path.{◌≡◌, refl, sym, ap, ◌∙◌}
 use mathlib.Core.Bool.{Bool, true, false}
 use mathlib.Core.List.{List, [], ◌∷◌, ◌++◌, append_assoc, append-nil}
@@ -146,14 +146,14 @@ module _ (text table out : List ℕ) (size rows levels h : ℕ) (head : HeadLeng
     writes = o ∙ bytes_enough text name_list table lent lent_room
 
     -- a refused print has left the output as it was
-    pub tree-refused : (d : Refusal) → p ≡ Err d → (r : ℕ) (after : List ℕ) → Answers (no_line (record { number = number_of d })) back r after
+    pub tree-refused : (d : Refusal) → p ≡ Err d → (r : ℕ) (after : List ℕ) → Answers (no_line (record { number = number_of d; place = None })) back r after
         → Answers (tree_line rows levels (print text name_list table 16384)) out r after
     unfolding tree_line
     tree-refused d q r after a = go (print text name_list table 16384) (sym (ap answer_of q) ∙ answers) writes
       where
         go : (t : Out (List ℕ)) → refuse (number_of d) ≡ length_of t → part ≡ written lent t → Answers (tree_line rows levels t) out r after
         go (refused x) i w =
-            let number : x ≡ record { number = number_of d } = cc in
+            let number : x ≡ record { number = number_of d; place = None } = cc in
             let whole : back ≡ out = is_back ∙ ap (back_in out size h) (w ∙ is_lent) ∙ put_same h (size - h) out in
             rw (number, sym whole) a
         go (done s) i w = absurd (let z : ◌≡◌ {A = ℕ} 0 1 = cc in omega arith)

@@ -16,6 +16,9 @@ use Rattle.datatype.proofs.Table.{length_table, view_table}
 use Rattle.row_table.proofs.DepthLaws.{depth_labels}
 use Rattle.row_table.proofs.SoundTree.{sound_tree, sound-count}
 use Rattle.datatype_parse.proofs.ReadSound.{read_sound}
+use Rattle.datatype_parse.proofs.Placed.{answer-place}
+use Rattle.parser.specs.Answer.{refusal_in}
+use Rattle.parser.specs.declared.error.ReadError.{ReadError}
 use Rattle.datatype_parse.specs.Parse.{parse, row_count, filled, parse_answer, parse_rows}
 use Rattle.output.specs.Digits.{digits}
 use Rattle.datatype_display.specs.Print.{print}
@@ -79,6 +82,10 @@ read_few line rows = (refl, go (parse line (rows_lent (length rows))) refl)
         let c = length_table f in
         omega arith
 
+-- the place of a refusal has few digits
+pub place_few : (line rows : List ℕ) (e : ReadError) → refused (refusal_in e) ≡ parse_answer line rows → e.place ≤ 16384
+place_few line rows e h = (answer-place line rows e h).1
+
 -- rows for every text are as good as 1,024
 all_lent : (line rows : List ℕ) → line_words ≤ length rows → parse line (rows_lent (length rows)) ≡ parse line 1024
 unfolding rows_lent
@@ -99,7 +106,7 @@ table_read f rest =
     ap (λ (k : ℕ). take k (table_of f ++ rest)) l ∙ take-append_seam (table_of f) rest
 
 -- what reading a line uses
-pub ruleset reads = (read_few, length-take, answer_read, rows_filled, table_read, table_line_lem)
+pub ruleset reads = (place_few, read_few, length-take, answer_read, rows_filled, table_read, table_line_lem)
 
 -- ---- the clauses of the public function
 

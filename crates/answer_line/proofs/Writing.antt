@@ -1,6 +1,7 @@
 -- Writing an answer's own bytes: bytes behind bytes, and a head and a newline around a text.
-use mathlib.Core.Path.{◌≡◌, refl, ap, ◌∙◌}
-use mathlib.Core.List.{List, ◌∷◌, ◌++◌, append_assoc}
+use mathlib.Core.Path.{◌≡◌, refl, sym, ap, ◌∙◌}
+use Rattle.std.specs.Prelude.{Some, None}
+use mathlib.Core.List.{List, [], ◌∷◌, ◌++◌, append_assoc}
 use Prim.Native.Nat.{ℕ, suc, ◌+◌, ◌≤◌, ◌<◌}
 use native.Mathlib.Omega.{arith}
 use lib.ListN.{length, set, take, drop, length-append, length-drop}
@@ -10,7 +11,7 @@ use Rattle.datatype.proofs.Sets.{sets_append}
 use Rattle.output.specs.Digits.{digits}
 use Rattle.output.proofs.DigitLaws.{digits_at_most, digits_few}
 use Rattle.answer_line.specs.Line.{no_line, answer_bytes}
-use Rattle.answer_line.specs.Internal.Steps.{ok_head, HeadLength}
+use Rattle.answer_line.specs.Internal.Steps.{Answers, no_head, NoLength, ok_head, HeadLength}
 
 -- ---- how many digits the numbers have
 
@@ -31,16 +32,50 @@ sets_start s before h = sets-eq s before 0 (omega arith) ∙ ap (λ (k : ℕ). s
 
 -- ---- the line of a refusal
 
-pub no_stored : (n : ℕ) (before : List ℕ) → n < 4294967296 → answer_bytes ≤ length before
-    → sets (sets (sets before 0 (bytes "no ")) 3 (digits n)) (3 + length (digits n)) (bytes "\n") ≡ no_line (record { number = n }) ++ drop (length (no_line (record { number = n }))) before
-no_stored n before h room =
-    let front = length-append (bytes "no ") (digits n) in
-    let all = length-append (bytes "no ") (digits n ++ bytes "\n") in
-    let last = length-append (digits n) (bytes "\n") in
+pub no-length : (n r : ℕ) → n < 4294967296 → r ≡ 3 + length (digits n) → NoLength n r
+unfolding no_head
+no-length n r h e =
+    let l = length-append (bytes "no ") (digits n) in
     let few = digits_few n h in
-    ap (λ (l : List ℕ). sets l (3 + length (digits n)) (bytes "\n")) (behind before (bytes "no ") (digits n) 3 refl)
-    ∙ behind before (bytes "no " ++ digits n) (bytes "\n") (3 + length (digits n)) (omega arith)
-    ∙ sets_start (no_line (record { number = n })) before (omega arith)
+    record { is = omega arith; short = omega arith }
+
+pub no-put : (n : ℕ) (before : List ℕ) → sets (sets before 0 (bytes "no ")) 3 (digits n) ≡ sets before 0 (no_head n)
+unfolding no_head
+no-put n before = behind before (bytes "no ") (digits n) 3 refl
+
+-- a line that fits is the buffer's start
+line_answers : (s before : List ℕ) (r : ℕ) (after : List ℕ) → r ≡ length s → r ≤ length before → after ≡ sets before 0 s → Answers s before r after
+line_answers s before r after e h w = record { counted = e; stored = w ∙ sets_start s before (omega arith) }
+
+pub no-stored : (n end r : ℕ) (before mid after : List ℕ) → answer_bytes ≤ length before → NoLength n end → mid ≡ sets before 0 (no_head n) → r ≡ end + 1 → after ≡ sets mid end (bytes "\n")
+    → Answers (no_line (record { number = n; place = None })) before r after
+unfolding no_head
+no-stored n end r before mid after room l q e w =
+    let s : List ℕ = bytes "no " ++ digits n in
+    let whole : s ++ bytes "\n" ≡ bytes "no " ++ (digits n ++ ([] ++ bytes "\n")) = simp append_assoc in
+    let m = ap length (sym whole) ∙ length-append s (bytes "\n") in
+    let few = l.short in
+    let is = l.is in
+    line_answers _ before r after (omega arith) (omega arith) (w ∙ ap (λ (m : List ℕ). sets m end (bytes "\n")) q ∙ behind before s (bytes "\n") end is ∙ ap (sets before 0) whole)
+
+pub placed-stored : (n place end digit_count : ℕ) (before m₁ m₂ m₃ after : List ℕ) → answer_bytes ≤ length before → NoLength n end → place < 4294967296 → m₁ ≡ sets before 0 (no_head n)
+    → m₂ ≡ sets m₁ end (bytes " ") → digit_count ≡ length (digits place) → m₃ ≡ sets m₂ (end + 1) (digits place) → after ≡ sets m₃ (end + 1 + digit_count) (bytes "\n")
+    → Answers (no_line (record { number = n; place = Some place })) before (end + 1 + digit_count + 1) after
+unfolding no_head
+placed-stored n place end digit_count before m₁ m₂ m₃ after room l h e₁ e₂ d e₃ w =
+    let s₁ : List ℕ = bytes "no " ++ digits n in
+    let s₂ : List ℕ = s₁ ++ bytes " " in
+    let s₃ : List ℕ = s₂ ++ digits place in
+    let n₂ : length s₂ ≡ length s₁ + 1 = length-append s₁ (bytes " ") in
+    let n₃ : length s₃ ≡ length s₂ + length (digits place) = length-append s₂ (digits place) in
+    let whole : s₃ ++ bytes "\n" ≡ bytes "no " ++ (digits n ++ ((bytes " " ++ digits place) ++ bytes "\n")) = simp append_assoc in
+    let m = ap length (sym whole) ∙ length-append s₃ (bytes "\n") in
+    let few = l.short in
+    let is = l.is in
+    let digits_short = digits_few place h in
+    line_answers _ before _ after (omega arith) (omega arith)
+    (w
+    ∙ rw (e₃, e₂, e₁, d) (rw (behind before s₁ (bytes " ") end is, behind before s₂ (digits place) (end + 1) (omega arith), behind before s₃ (bytes "\n") (end + 1 + length (digits place)) (omega arith), whole)))
 
 -- ---- the head of a tree's line
 
@@ -97,6 +132,8 @@ framed head size before h =
 -- what the functions that write use
 pub ruleset few_digits = (row_digits, level_digits, head_size, head-length, head-put)
 
-pub ruleset no_digits = (digits_few, no_stored, length-append)
+pub ruleset no_digits = (digits_few, no-length, no-put, length-append)
+
+pub ruleset no_line_steps = (digits_few, no-stored, placed-stored)
 
 pub ruleset frame_steps = (head_short, framed)

@@ -9,9 +9,13 @@ use Rattle.datatype_parse.specs.Parse.{parse, parse_rows}
 use Rattle.output.specs.Digits.{digits}
 use Rattle.datatype_display.specs.Print.{print}
 
--- `no` and the number.
+-- `no`, the number and, of a refusal of the reader, the place (document 02, [2]).
+abbrev pub place_text : Option ℕ → List ℕ
+place_text None = []
+place_text (Some place) = bytes " " ++ digits place
+
 abbrev pub no_line : Refusal → List ℕ
-no_line r = bytes "no " ++ (digits r.number ++ bytes "\n")
+no_line r = bytes "no " ++ (digits r.number ++ (place_text r.place ++ bytes "\n"))
 
 -- `ok`, rows, depth, printed text; a refusal of the printer is a `no` line too.
 abbrev pub ok_line : Forest Row → Out (List ℕ) → List ℕ

@@ -39,7 +39,7 @@ fn answer_in(line: &[u8], rows: &mut [u32], out: &mut [u8; ANSWER_BYTES]) -> usi
     ensures contents { rows.new ≡ parse_rows line.now rows.old }
 {
     match datatype_parse::parse_data_type(line, rows) {
-        Err(refusal) => write::put_no(out, refusal),
+        Err(error) => write::put_no_at(out, error),
         Ok(n) => tree::answer_tree(line, &rows[..ROW_WORDS * n], out),
     }
 }

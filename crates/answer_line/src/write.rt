@@ -1,25 +1,49 @@
 // Writing an answer's own bytes: by `output`, since `write!` promises the bytes written of a `String` alone, which needs a
 // heap.
-ghost use Rattle.std.specs.Prelude.{◌≡◌, ◌≤◌, length};
+ghost use Rattle.std.specs.Prelude.{◌≡◌, ◌≤◌, length, None};
 ghost use Rattle.std.proofs.lemmas.List.Edits.{sets};
 ghost use Rattle.tokenizer.specs.Answer.{number_of};
 ghost use Rattle.answer_line.specs.Line.{no_line};
-ghost use Rattle.answer_line.specs.Internal.Steps.{Answers, Framed, HeadLength, ok_head};
+ghost use Rattle.parser.specs.Answer.{refusal_in};
+ghost use Rattle.answer_line.specs.Internal.Steps.{Answers, NoLength, no_head, Framed, HeadLength, ok_head};
 ghost use Rattle.datatype.specs.Limits.{max_text, max_rows, max_levels};
 
 use crate::ANSWER_BYTES;
 use output::{digits_length, put_bytes, put_digits};
+use parser::ReadError;
 use tokenizer::Refusal;
 
-// `no` and the refusal's number.
+// `no` and the refusal's number; how many bytes that were.
 #[tactic(auto, using(crate::proofs::Writing::no_digits))]
-pub(crate) fn put_no(out: &mut [u8; ANSWER_BYTES], refusal: Refusal) -> usize
-    ensures { Answers (no_line (record { number = number_of refusal })) out.old result out.new }
+fn put_number(out: &mut [u8; ANSWER_BYTES], refusal: Refusal) -> usize
+    ensures size { NoLength (number_of refusal) result }
+    ensures bytes { out.new ≡ sets out.old 0 (no_head (number_of refusal)) }
 {
     put_bytes(out, 0, b"no ");
-    let digits = put_digits(out, 3, refusal.number());
-    put_bytes(out, 3 + digits, b"\n");
-    4 + digits
+    3 + put_digits(out, 3, refusal.number())
+}
+
+// A refusal of the printer: its number.
+#[tactic(auto, using(crate::proofs::Writing::no_line_steps))]
+pub(crate) fn put_no(out: &mut [u8; ANSWER_BYTES], refusal: Refusal) -> usize
+    ensures { Answers (no_line (record { number = number_of refusal; place = None })) out.old result out.new }
+{
+    let at = put_number(out, refusal);
+    put_bytes(out, at, b"\n");
+    at + 1
+}
+
+// A refusal of the reader: its number and its place.
+#[tactic(auto, using(crate::proofs::Writing::no_line_steps))]
+pub(crate) fn put_no_at(out: &mut [u8; ANSWER_BYTES], error: ReadError) -> usize
+    requires { error.place ≤ max_text }
+    ensures { Answers (no_line (refusal_in error)) out.old result out.new }
+{
+    let a = put_number(out, error.refusal);
+    put_bytes(out, a, b" ");
+    let b = a + 1 + put_digits(out, a + 1, error.place as u32);
+    put_bytes(out, b, b"\n");
+    b + 1
 }
 
 // What stands before a printed text: `ok`, its rows and its levels.

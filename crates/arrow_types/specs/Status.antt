@@ -10,6 +10,15 @@ unfoldable pub value_of : Out ℕ → ℕ
 value_of (refused r) = 0
 value_of (done n) = n
 
+-- Where in a text it was refused; 0 where it was not, or where the refusal has no place.
+abbrev pub place_or_0 : Option ℕ → ℕ
+place_or_0 None = 0
+place_or_0 (Some place) = place
+
+unfoldable pub place_of : {A : Type 0} → Out A → ℕ
+place_of (refused r) = place_or_0 r.place
+place_of (done a) = 0
+
 -- Yes and no as numbers.
 unfoldable pub flag : Bool → ℕ
 flag true = 1

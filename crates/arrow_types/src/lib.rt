@@ -5,7 +5,7 @@
 
 ghost use Rattle.std.specs.Prelude.{◌≡◌, length};
 ghost use Rattle.tokenizer.specs.Answer.{answer_of};
-ghost use Rattle.arrow_types.specs.Status.{status_of, value_of, flag, yes_of, row_of, if_named};
+ghost use Rattle.arrow_types.specs.Status.{status_of, value_of, place_of, flag, yes_of, row_of, if_named};
 ghost use Rattle.datatype.specs.Tree.{name_of, zone_of};
 ghost use Rattle.subtrees.specs.Parents.{with_parents};
 ghost use Rattle.row_table.specs.Sound.{is_sound, depth_of};
@@ -36,13 +36,26 @@ fn status(answer: Result<usize, Refusal>, value: &mut usize) -> u32
     }
 }
 
-// Reads a type text into lent rows.
-pub fn arrow_types_read(text: &[u8], rows: &mut [u32], count: &mut usize) -> u32
+// Reads a type text into lent rows. The place is that of a refusal in the text, 0 where the text is accepted.
+#[tactic(auto, unfolding(parser::specs::Answer::refusal_in, crate::specs::Status::status_of, crate::specs::Status::value_of, crate::specs::Status::place_of))]
+pub fn arrow_types_read(text: &[u8], rows: &mut [u32], count: &mut usize, place: &mut usize) -> u32
     ensures status { result ≡ status_of (parse_answer text.now rows.old) }
     ensures value { count.new ≡ value_of (parse_answer text.now rows.old) }
+    ensures place { place.new ≡ place_of (parse_answer text.now rows.old) }
     ensures contents { rows.new ≡ parse_rows text.now rows.old }
 {
-    status(datatype_parse::parse_data_type(text, rows), count)
+    match datatype_parse::parse_data_type(text, rows) {
+        Ok(n) => {
+            *count = n;
+            *place = 0;
+            0
+        }
+        Err(error) => {
+            *count = 0;
+            *place = error.place;
+            error.refusal.number()
+        }
+    }
 }
 
 // How many rows to lend for a text of so many bytes.

@@ -4,7 +4,7 @@
 #![tactic(auto)]
 
 ghost use Rattle.std.specs.Prelude.{◌≡◌, length};
-ghost use Rattle.arrow_types.specs.Status.{status_of, value_of, flag, yes_of, row_of, if_named};
+ghost use Rattle.arrow_types.specs.Status.{status_of, value_of, place_of, flag, yes_of, row_of, if_named};
 ghost use Rattle.datatype.specs.Tree.{name_of, zone_of};
 ghost use Rattle.subtrees.specs.Parents.{with_parents};
 ghost use Rattle.row_table.specs.Sound.{is_sound, depth_of};
@@ -14,14 +14,20 @@ ghost use Rattle.datatype_parse.specs.Parse.{parse_answer, parse_rows};
 ghost use Rattle.datatype_parse.specs.RowsToLend.{rows_to_lend};
 ghost use Rattle.datatype_display.specs.Print.{print_answer, print_bytes};
 
-// Reads a type text into lent rows.
+// Reads a type text into lent rows. The place is that of a refusal in the text, 0 where the text is accepted.
 #[unsafe(no_mangle)]
-pub extern "C" fn arrow_types_read(text: &[u8], rows: &mut [u32], count: &mut usize) -> u32
+pub extern "C" fn arrow_types_read(
+    text: &[u8],
+    rows: &mut [u32],
+    count: &mut usize,
+    place: &mut usize,
+) -> u32
     ensures status { result ≡ status_of (parse_answer text.now rows.old) }
     ensures value { count.new ≡ value_of (parse_answer text.now rows.old) }
+    ensures place { place.new ≡ place_of (parse_answer text.now rows.old) }
     ensures contents { rows.new ≡ parse_rows text.now rows.old }
 {
-    arrow_types::arrow_types_read(text, rows, count)
+    arrow_types::arrow_types_read(text, rows, count, place)
 }
 
 // How many rows to lend for a text of so many bytes.

@@ -8,7 +8,7 @@ use Prim.Native.Nat.{ℕ, zero, suc, ◌+◌, ◌*◌, ◌-◌, ◌≤◌, ◌<�
 use native.Mathlib.Omega.{arith}
 use lib.ListN.{length, drop, get_or}
 use lib.Dec.{T, leb, eqb, leb→le, eqb→eq}
-use Rattle.tokenizer.specs.Answer.{Out, done, refuse, ◌>>=◌}
+use Rattle.tokenizer.specs.Answer.{Out, done, ◌>>=◌}
 use Rattle.tokenizer.specs.Words.{words}
 use Rattle.tokenizer.specs.Places.{after_spaces}
 use Rattle.tokenizer.specs.Token.{Standing, token_at, sort_of, value_of, word_of, word_kind, string_token, until_quote, lparen, rparen, comma, colon, integer, double_quoted, single_quoted, type_word, time_unit, interval_unit, union_mode, map_sorted, nullability, field_word, some_word, none_word, x_word}
@@ -18,8 +18,8 @@ use Rattle.tokenizer.proofs.Runs.{spaces-end}
 use Rattle.tokenizer.proofs.Marks as Marks
 use Rattle.datatype.specs.Kind.{Shape, leaf, timestamp, time, interval, fixed, list, fixed_list, struct, union, dictionary, decimal, mapping, run_end_encoded, shape_of, unit_fits, decimal_fits, entries_refusal, ids_fit}
 use Rattle.datatype.specs.Tree.{Forest, ∅, count, roots, Row}
-use Rattle.parser.specs.Parse.{Name, item, run_ends, values, Tree, Fields, Zone, Item, end, last, more, rows_in, id_of, refusal_of, need, stands, role_at, after_role, number_in, signed_byte_at, length_at, precision_at, unit_at, close_at, some_zone, zone_string, zone_at, timestamp_at, time_at, interval_at, fixed_size_binary_at, scale_at, decimal_at, list_name_at, fields_from, items_by, field_at, default_field, list_field, struct_item, union_field, union_item, named_run_ends, default_run_ends, run_end_fields, entries_at, fixed_list_field, list_at, fixed_size_list_at, struct_at, union_at, dictionary_at, map_at, run_end_encoded_at, shape_at, type_with, type_at}
-use Rattle.parser.proofs.Holds.{Holds, holds_then, holds_if}
+use Rattle.parser.specs.Parse.{refuse_last, last_token, Name, item, run_ends, values, Tree, Fields, Zone, Item, end, last, more, rows_in, id_of, need, stands, role_at, after_role, number_in, signed_byte_at, length_at, precision_at, unit_at, close_at, some_zone, zone_string, zone_at, timestamp_at, time_at, interval_at, fixed_size_binary_at, scale_at, decimal_at, list_name_at, fields_from, items_by, field_at, default_field, list_field, struct_item, union_field, union_item, named_run_ends, default_run_ends, run_end_fields, entries_at, fixed_list_field, list_at, fixed_size_list_at, struct_at, union_at, dictionary_at, map_at, run_end_encoded_at, shape_at, type_with, type_at}
+use Rattle.parser.proofs.Holds.{Holds, holds_last, holds_then, holds_if}
 use Rattle.datatype_parse.specs.RowsToLend.{row_bytes, leaf_bytes, word_bytes}
 use Rattle.datatype_parse.proofs.TokenFacts.{holds_when, holds_as, Taken, need_taken}
 
@@ -94,7 +94,7 @@ module _ (text : List ℕ) where
   unfolding need
   need-word at =
       let t = token_at text at in
-      holds_when (PastWord at) (eqb (sort_of t.kind) type_word) (done t) (refuse (refusal_of t.kind))
+      holds_when (PastWord at) (eqb (sort_of t.kind) type_word) (done t) _
       (λ e. word-past at (eqb→eq (sort_of t.kind) type_word e)) tt
 
   -- a step that takes a token
@@ -300,7 +300,7 @@ module _ (text : List ℕ) where
     unfolding named_run_ends
     named-bytes at rows =
         holds_then (FieldBytes at) (PairBytes at) (field_at text type 0 at rows) _ (field-bytes 0 at rows) λ r a.
-        holds_then (λ (s : Tree). s ≡ r) (PairBytes at) (if eqb r.row.role 2 then done r else refuse 13) _ (holds_if (λ (s : Tree). s ≡ r) (eqb r.row.role 2) _ _ refl tt) λ s e.
+        holds_then (λ (s : Tree). s ≡ r) (PairBytes at) (if eqb r.row.role 2 then done r else refuse_last 13 (last_token text at r.row.kind r.next)) _ (holds_if (λ (s : Tree). s ≡ r) (eqb r.row.role 2) _ _ refl (holds_last _ _ _)) λ s e.
         taken (PairBytes at) comma s.next _ tt λ c b.
         holds_then (FieldBytes c.next) (PairBytes at) (field_at text type 0 c.next (rows - rows_in r)) _ (field-bytes 0 c.next (rows - rows_in r)) λ v d.
         (let q : s.next ≡ r.next = ap (λ (x : Tree). x.next) e in omega arith)
@@ -322,7 +322,7 @@ module _ (text : List ℕ) where
     unfolding entries_at
     entries-bytes at rows =
         holds_then (FieldBytes at) (FieldBytes at) (field_at text type 0 at rows) _ (field-bytes 0 at rows) λ t h.
-        holds_if (FieldBytes at) (eqb (entries_refusal t.row.role t.row.kind (map (λ (r : Row). r.role) (roots t.kids))) 0) (done t) _ h tt
+        holds_if (FieldBytes at) (eqb (entries_refusal t.row.role t.row.kind (map (λ (r : Row). r.role) (roots t.kids))) 0) (done t) _ h (holds_last _ _ _)
 
     shape-bytes : (sh : Shape) (k at rows : ℕ) → Holds (ShapeBytes at (least sh)) (shape_at text type sh k at rows)
     unfolding shape_at list_at fixed_size_list_at struct_at union_at dictionary_at map_at run_end_encoded_at

@@ -7,6 +7,6 @@ pub mod SoundFields
 pub mod ReadSound
 pub mod Whole
 pub mod OwnRows
-pub mod Inside
+pub mod Placed
 pub mod FiveBytes
 pub mod RowsToLend

@@ -9,14 +9,14 @@ use native.Mathlib.Omega.{arith}
 use lib.ListN.{length, take, drop}
 use lib.Seq.{take-append_seam}
 use lib.Dec.{leb, eqb}
-use Rattle.tokenizer.specs.Answer.{Refusal, Out, refused, done, refuse, ◌>>=◌}
+use Rattle.tokenizer.specs.Answer.{Refusal, Out, refused, done, refuse_at, ◌>>=◌}
 use Rattle.tokenizer.specs.Utf8.{is_utf8}
 use Rattle.tokenizer.specs.Token.{value_of, double_quoted, colon, comma, lparen, rparen, x_word, union_mode, type_word}
 use Rattle.datatype.specs.Kind.{Shape, leaf, timestamp, time, interval, fixed, list, fixed_list, struct, union, dictionary, decimal, mapping, run_end_encoded, shape_of}
 use Rattle.datatype.specs.Tree.{Forest, Row, count}
 use Rattle.datatype.specs.Table.{row_words, table_of, rows_lent}
 use Rattle.datatype.proofs.Table.{length_table}
-use Rattle.parser.specs.Parse.{Name, Tree, Fields, Item, end, last, more, rows_in, id_of, need, signed_byte_at, length_at, after_role, item, run_ends, values, fields_from, items_by, stands, role_at, field_at, default_field, list_field, struct_item, union_field, union_item, named_run_ends, default_run_ends, run_end_fields, entries_at, fixed_list_field, list_at, fixed_size_list_at, struct_at, union_at, dictionary_at, map_at, run_end_encoded_at, shape_at, type_with, type_at, first_type}
+use Rattle.parser.specs.Parse.{refuse_last, last_token, Name, Tree, Fields, Item, end, last, more, rows_in, id_of, need, signed_byte_at, length_at, after_role, item, run_ends, values, fields_from, items_by, stands, role_at, field_at, default_field, list_field, struct_item, union_field, union_item, named_run_ends, default_run_ends, run_end_fields, entries_at, fixed_list_field, list_at, fixed_size_list_at, struct_at, union_at, dictionary_at, map_at, run_end_encoded_at, shape_at, type_with, type_at, first_type}
 use Rattle.datatype_parse.specs.Parse.{parse, row_count, parse_answer, filled, parse_rows}
 
 -- The second answer is the first one's, where that is no refusal for lack of rows.
@@ -31,9 +31,9 @@ module _ {A : Type 0} where
   keeps_same (done x) = refl
 
   -- the rows ran out
-  pub keeps-four : (p : Out A) → Keeps (refuse 4) p
+  pub keeps-four : (n : ℕ) (p : Out A) → Keeps (refuse_at 4 n) p
   unfolding Keeps
-  keeps-four p = λ n. absurd (n refl)
+  keeps-four place p = λ n. absurd (n refl)
 
   pub keeps-if : (b : Bool) (o p o' p' : Out A) → Keeps o o' → Keeps p p' → Keeps (if b then o else p) (if b then o' else p')
   keeps-if true o p o' p' h k = h
@@ -60,7 +60,7 @@ turn_up go go' r s h (more t next) = keeps-bind _ _ _ _ (h next (rows_in t)) (λ
 module _ (item : ℕ → ℕ → Out Item) (up : (at r s : ℕ) → r ≤ s → Keeps (item at r) (item at s)) where
   pub items-up : (m n at r s : ℕ) → m ≤ n → r ≤ s → Keeps (items_by item m at r) (items_by item n at s)
   unfolding items_by
-  items-up zero n at r s h k = keeps-four _
+  items-up zero n at r s h k = keeps-four _ _
   items-up (suc m) zero at r s h k = absurd (omega arith)
   items-up (suc m) (suc n) at r s h k =
       keeps-bind (item at r) (item at s) (fields_from (items_by item m) r) (fields_from (items_by item n) s) (up at r s k) (turn_up (items_by item m) (items_by item n) r s (λ next d. items-up m n next (r - d) (s - d) (omega arith) (omega arith)))
@@ -101,7 +101,7 @@ module _ (text : List ℕ) (type : ℕ → ℕ → Out Tree) (up : (at r s : ℕ
   pub named-up : (at r s : ℕ) → r ≤ s → Keeps (named_run_ends text type at r) (named_run_ends text type at s)
   unfolding named_run_ends
   named-up at r s h =
-      keeps-bind _ _ _ _ (field-up 0 at r s h) (λ t. keeps_then (if eqb t.row.role 2 then done t else refuse 13) _ _ (λ u. keeps_then (need text comma u.next) _ _ (λ c.
+      keeps-bind _ _ _ _ (field-up 0 at r s h) (λ t. keeps_then (if eqb t.row.role 2 then done t else refuse_last 13 (last_token text at t.row.kind t.next)) _ _ (λ u. keeps_then (need text comma u.next) _ _ (λ c.
       keeps-bind _ _ _ _ (field-up 0 c.next (r - rows_in t) (s - rows_in t) (omega arith)) (λ v. keeps_same _))))
 
   pub short-up : (at r s : ℕ) → r ≤ s → Keeps (default_run_ends text type at r) (default_run_ends text type at s)
@@ -181,7 +181,7 @@ module _ (text : List ℕ) (type : ℕ → ℕ → Out Tree) (up : (at r s : ℕ
 
   pub with-up : (at r s : ℕ) → r ≤ s → Keeps (type_with text type at r) (type_with text type at s)
   unfolding type_with
-  with-up at zero s h = keeps-four _
+  with-up at zero s h = keeps-four _ _
   with-up at (suc r) zero h = absurd (omega arith)
   with-up at (suc r) (suc s) h = keeps_then (need text type_word at) _ _ (λ t. shape-up (shape_of (value_of t.kind)) (value_of t.kind) t.next r s (omega arith))
 

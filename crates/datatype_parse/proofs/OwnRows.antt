@@ -7,15 +7,15 @@ use Prim.Native.Nat.{ℕ, zero, suc, ◌*◌, ◌-◌, ◌≤◌, ◌<◌}
 use native.Mathlib.Omega.{arith}
 use lib.ListN.{length, take}
 use lib.Dec.{leb, eqb}
-use Rattle.tokenizer.specs.Answer.{Refusal, Out, refused, done, refuse, ◌>>=◌}
+use Rattle.tokenizer.specs.Answer.{Refusal, Out, refused, done, ◌>>=◌}
 use Rattle.tokenizer.specs.Utf8.{is_utf8}
 use Rattle.tokenizer.specs.Token.{value_of, double_quoted, colon, comma, lparen, rparen, x_word, union_mode, map_sorted, type_word}
 use Rattle.datatype.specs.Kind.{Shape, leaf, timestamp, time, interval, fixed, list, fixed_list, struct, union, dictionary, decimal, mapping, run_end_encoded, shape_of, ids_fit, entries_refusal}
 use Rattle.datatype.specs.Tree.{Forest, Row, count}
 use Rattle.datatype.specs.Table.{row_words, rows_lent}
 use Rattle.subtrees.proofs.ParentTree.{count_parented}
-use Rattle.parser.specs.Parse.{Name, Tree, single, Fields, Item, end, last, more, rows_in, id_of, need, signed_byte_at, length_at, list_name_at, close_at, after_role, item, run_ends, values, fields_from, items_by, stands, role_at, field_at, default_field, list_field, struct_item, union_field, union_item, named_run_ends, default_run_ends, run_end_fields, entries_at, fixed_list_field, list_at, fixed_size_list_at, struct_at, union_at, dictionary_at, map_at, run_end_encoded_at, shape_at, type_with, type_at, first_type}
-use Rattle.parser.proofs.Holds.{Holds, holds_bind, holds_if}
+use Rattle.parser.specs.Parse.{refuse_last, last_token, Name, Tree, single, Fields, Item, end, last, more, rows_in, id_of, need, signed_byte_at, length_at, list_name_at, close_at, after_role, item, run_ends, values, fields_from, items_by, stands, role_at, field_at, default_field, list_field, struct_item, union_field, union_item, named_run_ends, default_run_ends, run_end_fields, entries_at, fixed_list_field, list_at, fixed_size_list_at, struct_at, union_at, dictionary_at, map_at, run_end_encoded_at, shape_at, type_with, type_at, first_type}
+use Rattle.parser.proofs.Holds.{Holds, holds_last, holds_bind, holds_if}
 use Rattle.datatype_parse.specs.Parse.{text_over, parse, row_count, parse_answer, filled, parse_rows}
 use Rattle.datatype_parse.proofs.MoreRows.{filled_rows, SameRows}
 
@@ -160,11 +160,11 @@ module _ (text : List ℕ) where
     unfolding named_run_ends
     named-own at r s =
         enough-bind (Fit s) (FitAll s) (field_at text type 0 at r) (field_at text type 0 at s) _ _ (field-own 0 at r s)
-        (λ t. holds_bind (λ (fs : Fields). FitAll s fs → Fit s t) (if eqb t.row.role 2 then done t else refuse 13) _ λ u.
+        (λ t. holds_bind (λ (fs : Fields). FitAll s fs → Fit s t) (if eqb t.row.role 2 then done t else refuse_last 13 (last_token text at t.row.kind t.next)) _ λ u.
         holds_bind (λ (fs : Fields). FitAll s fs → Fit s t) (need text comma u.next) _ λ c.
         holds_bind (λ (fs : Fields). FitAll s fs → Fit s t) (field_at text type 0 c.next (r - rows_in t)) _ λ v d. omega arith)
         λ t h.
-        enough_then (FitAll s) (if eqb t.row.role 2 then done t else refuse 13) _ _ λ u.
+        enough_then (FitAll s) (if eqb t.row.role 2 then done t else refuse_last 13 (last_token text at t.row.kind t.next)) _ _ λ u.
         enough_then (FitAll s) (need text comma u.next) _ _ λ c.
         enough-last (Fit (s - rows_in t)) (FitAll s) (field_at text type 0 c.next (r - rows_in t)) (field_at text type 0 c.next (s - rows_in t)) _
         (field-own 0 c.next (r - rows_in t) (s - rows_in t)) λ v d. omega arith
@@ -190,7 +190,7 @@ module _ (text : List ℕ) where
     unfolding entries_at
     entries-own at r s =
         enough-last (Fit s) (Fit s) (field_at text type 0 at r) (field_at text type 0 at s) _ (field-own 0 at r s) λ t.
-        holds_if (λ (u : Tree). Fit s u → Fit s t) (eqb (entries_refusal _ _ _) 0) _ _ (λ d. d) tt
+        holds_if (λ (u : Tree). Fit s u → Fit s t) (eqb (entries_refusal _ _ _) 0) _ _ (λ d. d) (holds_last _ _ _)
 
     fixed-field-own : (at r s : ℕ) → Enough (Fit s) (fixed_list_field text type at r) (fixed_list_field text type at s)
     unfolding fixed_list_field

@@ -7,7 +7,7 @@ use Prim.Native.Nat.{ℕ, zero, suc, ◌+◌, ◌*◌, ◌-◌, ◌^◌, ◌≤�
 use native.Mathlib.Omega.{arith}
 use lib.ListN.{length, take}
 use lib.Dec.{T, leb, ltb, leb→le, ltb→lt}
-use Rattle.tokenizer.specs.Answer.{Out, refused, done, refuse}
+use Rattle.tokenizer.specs.Answer.{Out, refused, done}
 use Rattle.tokenizer.specs.Utf8.{is_utf8}
 use Rattle.tokenizer.specs.Token.{Standing, value_of, lparen, comma, type_word, union_mode, map_sorted}
 use Rattle.datatype.specs.Kind.{Shape, leaf, timestamp, time, interval, fixed, list, fixed_list, struct, union, dictionary, decimal, mapping, run_end_encoded, kinds, shape_of, ids_fit}
@@ -74,7 +74,7 @@ module _ (text : List ℕ) (good : T (is_utf8 text)) where
           holds_then (λ (m : Standing). T (ltb (value_of m.kind) 2)) Over (need text union_mode p.next) _ (need-value text union_mode p.next) λ m h.
           holds_then (Run text level union_field rows) Over (items_by (union_item text type) (suc rows) m.next rows) _
           (items-sound text level union_field (union_item text type) (union-item-sound text good level type down) (suc rows) m.next rows) λ fs w.
-          holds_when Over (ids_fit (ids fs.trees)) _ (refuse 15)
+          holds_when Over (ids_fit (ids fs.trees)) _ _
           (λ i. over (value_of m.kind) fs.trees union e (record { params = ltb→lt (value_of m.kind) 2 h; scales = omega arith; shape = tt; zone = tt; arity = tt; over = i }) i w) tt
 
       dictionary-sound : (at : ℕ) → shape_of k ≡ dictionary → Holds Over (dictionary_at text type k at rows)
@@ -157,8 +157,8 @@ begun text rows short good (done t) w = record { root = t.row; kids = t.kids; is
 pub first_read : (text : List ℕ) (rows : ℕ) → Holds (Begun text rows) (first_type text rows)
 unfolding first_type
 first_read text rows =
-    holds_when (Begun text rows) (leb (length text) 16384) _ (refuse 1)
-    (λ l. holds_when (Begun text rows) (is_utf8 text) (type_at text 64 0 rows) (refuse 2)
+    holds_when (Begun text rows) (leb (length text) 16384) _ _
+    (λ l. holds_when (Begun text rows) (is_utf8 text) (type_at text 64 0 rows) _
     (λ u. begun text rows (leb→le (length text) 16384 l) u (type_at text 64 0 rows) (type-sound text u 64 0 rows)) tt) tt
 
 pub parse_read : (text : List ℕ) (rows : ℕ) → Holds (Read text rows) (parse text rows)

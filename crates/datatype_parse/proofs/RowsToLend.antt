@@ -5,7 +5,7 @@ use Prim.Native.Nat.{ℕ, ◌+◌, ◌*◌, ◌/◌, ◌≤◌}
 use native.Mathlib.Omega.{arith}
 use lib.ListN.{length}
 use lib.Dec.{leb}
-use Rattle.tokenizer.specs.Answer.{Out, refused, done, refuse}
+use Rattle.tokenizer.specs.Answer.{Out, refused, done}
 use Rattle.tokenizer.specs.Utf8.{is_utf8}
 use Rattle.datatype.specs.Tree.{Forest, Row, count}
 use Rattle.datatype.specs.Table.{row_words, rows_lent}
@@ -17,7 +17,7 @@ use Rattle.parser.specs.Parse.{Tree, rows_in, single, type_at, first_type}
 use Rattle.parser.proofs.Holds.{Holds, holds_then, holds_if}
 use Rattle.datatype_parse.specs.Parse.{text_over, parse, parse_answer}
 use Rattle.datatype_parse.specs.RowsToLend.{row_bytes, rows_to_lend}
-use Rattle.datatype_parse.proofs.Inside.{TypeEnds, type-ends}
+use Rattle.datatype_parse.proofs.Placed.{TypeEnds, type-ends}
 use Rattle.datatype_parse.proofs.FiveBytes.{TypeBytes, type-bytes}
 use Rattle.datatype_parse.proofs.TokenFacts.{holds_when}
 use Rattle.datatype_parse.proofs.SoundRows.{Typed}
@@ -39,8 +39,8 @@ module _ (text : List ℕ) where
   unfolding first_type
   first_short lent =
       holds_if (ShortType lent) (leb (length text) 16384) _ _
-      (holds_when (ShortType lent) (is_utf8 text) (type_at text 64 0 lent) (refuse 2)
-      (λ u. all (type_at text 64 0 lent) (type-bytes text 64 0 lent) (type-ends text 64 0 lent) (type-sound text u 64 0 lent)) tt) tt
+      (holds_when (ShortType lent) (is_utf8 text) (type_at text 64 0 lent) _
+      (λ u. all (type_at text 64 0 lent) (type-bytes text 64 0 lent) (type-ends text 64 lent) (type-sound text u 64 0 lent)) tt) tt
     where
       all : (o : Out Tree) → Holds (TypeBytes text 0) o → Holds (TypeEnds text) o → Holds (Typed text bare 64 lent) o → Holds (ShortType lent) o
       all (refused r) b e s = tt

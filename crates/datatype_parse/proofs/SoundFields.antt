@@ -5,15 +5,15 @@ use mathlib.Core.List.{List, [], ◌∷◌}
 use Prim.Native.Nat.{ℕ, zero, suc, ◌-◌}
 use lib.ListN.{length}
 use lib.Dec.{T, eqb}
-use Rattle.tokenizer.specs.Answer.{Out, done, refuse}
+use Rattle.tokenizer.specs.Answer.{Out, done}
 use Rattle.tokenizer.specs.Utf8.{is_utf8}
 use Rattle.tokenizer.specs.Token.{lparen, rparen, comma, colon, double_quoted, x_word}
 use Rattle.datatype.specs.Tree.{roots}
 use Rattle.row_table.specs.Sound.{Standing, bare, field, union_field, two_children, arity_fits, id_fits}
 use Rattle.row_table.specs.Internal.Check.{entries_ok, first_non_null}
-use Rattle.parser.specs.Parse.{Name, item, run_ends, values, text_name, Tree, Fields, rows_in, single, pair, Item, end, last, more, fields_from, items_by, id_of, need, stands, role_at, after_role, signed_byte_at, close_at, list_name_at, field_at, default_field, list_field, struct_item, union_item, named_run_ends, default_run_ends, run_end_fields, entries_at, fixed_list_field}
+use Rattle.parser.specs.Parse.{refuse_last, last_token, Name, item, run_ends, values, text_name, Tree, Fields, rows_in, single, pair, Item, end, last, more, fields_from, items_by, id_of, need, stands, role_at, after_role, signed_byte_at, close_at, list_name_at, field_at, default_field, list_field, struct_item, union_item, named_run_ends, default_run_ends, run_end_fields, entries_at, fixed_list_field}
 use Rattle.parser.specs.Parse as P
-use Rattle.parser.proofs.Holds.{Holds, holds_bind, holds_then, holds_if}
+use Rattle.parser.proofs.Holds.{Holds, holds_last, holds_bind, holds_then, holds_if}
 use Rattle.datatype_parse.proofs.TokenFacts.{holds_when, role-some, Part, need-part, list-name-part}
 use Rattle.datatype_parse.proofs.SoundRows.{is_field, ids_allow, field_id, union_id_lem, Found, found-text, Fits, Typed, fits-none, fits_more, fits-field}
 
@@ -138,8 +138,8 @@ module _ (text : List ℕ) (good : T (is_utf8 text)) (level : ℕ) (type : ℕ �
   unfolding named_run_ends
   named-sound at rows =
       holds_then (Typed text field level rows) (RunEnds text level rows) (field_at text type 0 at rows) _ (plain-field at rows) λ r a.
-      holds_then (λ (s : Tree). T (eqb r.row.role 2)) (RunEnds text level rows) (if eqb r.row.role 2 then done r else refuse 13) _
-      (holds_when (λ (s : Tree). T (eqb r.row.role 2)) (eqb r.row.role 2) (done r) (refuse 13) (λ t. t) tt) λ s t.
+      holds_then (λ (s : Tree). T (eqb r.row.role 2)) (RunEnds text level rows) (if eqb r.row.role 2 then done r else refuse_last 13 (last_token text at r.row.kind r.next)) _
+      (holds_when (λ (s : Tree). T (eqb r.row.role 2)) (eqb r.row.role 2) (done r) _ (λ t. t) (holds_last _ _ _)) λ s t.
       holds_bind (RunEnds text level rows) (need text comma s.next) _ λ c.
       holds_then (Typed text field level (rows - rows_in r)) (RunEnds text level rows) (field_at text type 0 c.next (rows - rows_in r)) _ (plain-field c.next (rows - rows_in r)) λ v b.
       run-ends-pair text level rows r v v.next t a b
@@ -161,4 +161,4 @@ module _ (text : List ℕ) (good : T (is_utf8 text)) (level : ℕ) (type : ℕ �
   unfolding entries_at
   entries-sound at rows =
       holds_then (Typed text field level rows) (Entries text level rows) (field_at text type 0 at rows) _ (plain-field at rows) λ t w.
-      holds_when (Entries text level rows) (entries_ok (single t)) (done t) _ (λ e. (w, e)) tt
+      holds_when (Entries text level rows) (entries_ok (single t)) (done t) _ (λ e. (w, e)) (holds_last _ _ _)

@@ -4,7 +4,7 @@ use mathlib.Core.List.{List}
 use Prim.Native.Nat.{ℕ, suc, ◌-◌, ◌^◌, ◌<◌}
 use native.Mathlib.Omega.{arith}
 use lib.Dec.{T, ltb, ltb→lt}
-use Rattle.tokenizer.specs.Answer.{done, refuse}
+use Rattle.tokenizer.specs.Answer.{done}
 use Rattle.tokenizer.specs.Utf8.{is_utf8}
 use Rattle.tokenizer.specs.Token.{Standing, value_of, lparen, rparen, comma, time_unit, interval_unit}
 use Rattle.datatype.specs.Kind.{Shape, leaf, timestamp, time, interval, fixed, decimal, kinds, shape_of, decimal_fits}
@@ -76,7 +76,7 @@ module _ (text : List ℕ) (level rows : ℕ) where
         let row = bare_row k precision (scale_of s.kind) 0 0 in
         holds_then (λ (t : Tree). (t.row ≡ row) × (t.kids ≡ ∅)) Whole (close_at text row ∅ s.next) _
         (holds_bind (λ (t : Tree). (t.row ≡ row) × (t.kids ≡ ∅)) (need text rparen s.next) _ (λ c. (refl, refl))) λ t w.
-        holds_when Whole (decimal_fits k precision (scale_of s.kind)) (done t) (refuse 12)
+        holds_when Whole (decimal_fits k precision (scale_of s.kind)) (done t) _
         (λ d. rw (w.0, w.1) (childless precision (scale_of s.kind) 0 0 decimal e (record { params = h; scales = scale_most s.kind l; shape = d; zone = tt; arity = tt; over = tt }))) tt
 
     pub decimal-sound : (at : ℕ) → shape_of k ≡ decimal → Holds Whole (decimal_at text k at)

@@ -11,7 +11,7 @@ use lib.ListN.{length, take, drop, get_or, length-drop}
 use lib.Seq.{drop-cons, take-add, get_or-drop}
 use lib.Dec.{T, leb, ltb, eqb, leb→le, eqb→eq}
 use borrow.Author.Tests.{le-leb, ne_eqb, eqb-true}
-use Rattle.tokenizer.specs.Answer.{Out, refused, done, refuse}
+use Rattle.tokenizer.specs.Answer.{Out, refused, done}
 use Rattle.tokenizer.specs.Utf8.{utf8_state, is_utf8}
 use Rattle.tokenizer.specs.Words.{words}
 use Rattle.tokenizer.specs.Places.{after_spaces}
@@ -25,7 +25,7 @@ use Rattle.tokenizer.proofs.Utf8Laws.{state_append, step_ascii}
 use Rattle.datatype.specs.Kind.{unit_fits}
 use Rattle.row_table.specs.Internal.Check.{boundary, part_fits, zone_ok}
 use Rattle.row_table.proofs.Boundary.{boundary-low, part-utf8}
-use Rattle.parser.specs.Parse.{Zone, refusal_of, scale_of, need, stands, role_at, number_in, unit_at, list_name_at, some_zone, zone_string, zone_at}
+use Rattle.parser.specs.Parse.{Zone, scale_of, need, stands, role_at, number_in, unit_at, list_name_at, some_zone, zone_string, zone_at}
 use Rattle.parser.proofs.Holds.{Holds, holds_bind, holds_then, holds_if}
 
 -- a choice whose first side is taken only where a test passes
@@ -50,7 +50,7 @@ need_taken text sort at l =
     let t = token_at text at in
     let b = Marks.bounds text at in
     let s = leb→le 1 sort l in
-    holds_when (Taken text at) (eqb (sort_of t.kind) sort) (done t) (refuse (refusal_of t.kind))
+    holds_when (Taken text at) (eqb (sort_of t.kind) sort) (done t) _
     (λ e. let k = eqb→eq (sort_of t.kind) sort e in (b.past (λ z. omega arith), b.inside (λ z. omega arith))) tt
 
 -- ---- values
@@ -65,7 +65,7 @@ module _ (text : List ℕ) where
   unfolding need
   need-value sort at =
       let t = token_at text at in
-      holds_when (λ (t : Standing). T (Marks.in_range sort (value_of t.kind))) (eqb (sort_of t.kind) sort) (done t) (refuse (refusal_of t.kind))
+      holds_when (λ (t : Standing). T (Marks.in_range sort (value_of t.kind))) (eqb (sort_of t.kind) sort) (done t) _
       (λ e. Marks.value-range text at sort (eqb→eq (sort_of t.kind) sort e)) tt
 
   -- a role is 1 or 2
@@ -90,7 +90,7 @@ module _ (text : List ℕ) where
   unfolding number_in
   number-limited least most at =
       holds_bind (Limited least most) (need text integer at) _ λ t.
-      holds_when (Limited least most) (leb (value_of t.kind) (if is_negative t.kind then least else most)) (done t) (refuse 10)
+      holds_when (Limited least most) (leb (value_of t.kind) (if is_negative t.kind then least else most)) (done t) _
       (λ e. leb→le (value_of t.kind) (if is_negative t.kind then least else most) e) tt
 
   pub unit-value : (k at : ℕ) → Holds (λ (t : Standing). T (ltb (value_of t.kind) 4) × T (unit_fits k (value_of t.kind))) (unit_at text k at)
@@ -98,7 +98,7 @@ module _ (text : List ℕ) where
   unit-value k at =
       holds_then (λ (t : Standing). T (ltb (value_of t.kind) 4)) (λ (t : Standing). T (ltb (value_of t.kind) 4) × T (unit_fits k (value_of t.kind)))
       (need text time_unit at) _ (need-value time_unit at) λ t h.
-      holds_when (λ (t : Standing). T (ltb (value_of t.kind) 4) × T (unit_fits k (value_of t.kind))) (unit_fits k (value_of t.kind)) (done t) (refuse 11) (λ e. (h, e)) tt
+      holds_when (λ (t : Standing). T (ltb (value_of t.kind) 4) × T (unit_fits k (value_of t.kind))) (unit_fits k (value_of t.kind)) (done t) _ (λ e. (h, e)) tt
 
 pub limit_most : (k : Out TokenKind) (most : ℕ) → value_of k ≤ (if is_negative k then 0 else most) → value_of k ≤ most
 limit_most k most = go (is_negative k) (value_of k)
@@ -205,7 +205,7 @@ module _ (text : List ℕ) (good : T (is_utf8 text)) where
   unfolding need
   need-part sort at q =
       let t = token_at text at in
-      holds_when Part (eqb (sort_of t.kind) sort) (done t) (refuse (refusal_of t.kind))
+      holds_when Part (eqb (sort_of t.kind) sort) (done t) _
       (λ e. token-cut at (subst (λ (s : ℕ). T (is_quoted s)) (sym (eqb→eq (sort_of t.kind) sort e)) q)) tt
 
   pub list-name-part : (at : ℕ) → Holds Part (list_name_at text at)

@@ -9,13 +9,16 @@ use native.Mathlib.Omega.{arith}
 use lib.ListN.{length, get_or, drop, replicate}
 use lib.Dec.{T, eqb, leb}
 use borrow.Author.Tests.{leb-true, leb-false}
-use Rattle.tokenizer.specs.Answer.{Refusal, Out, refused, done, refuse, ◌>>=◌}
+use Rattle.tokenizer.specs.Answer.{Refusal, Out, refused, done, refuse_at, ◌>>=◌}
+use Rattle.tokenizer.specs.declared.refusal.Refusal.TheVariants.{TrailingText}
 use Rattle.tokenizer.specs.Places.{after_spaces}
 use Rattle.tokenizer.specs.Words.{words}
 use Rattle.tokenizer.specs.Token.{Standing, token_at, sort_of, value_of, word_of, word_kind, no_token, until_quote, string_token}
 use Rattle.tokenizer.specs.declared.TokenKind.{TokenKind}
 use Rattle.tokenizer.specs.declared.TokenKind.TheVariants.{DoubleQuotedString, SingleQuotedString}
-use Rattle.tokenizer.proofs.Answered.{handed_on}
+use Rattle.parser.proofs.Matched.{handed_on, handed}
+use Rattle.parser.proofs.Places.{place_spaces}
+use Rattle.parser.specs.Answer.{refusal_in}
 use Rattle.tokenizer.proofs.Basics.{is_false}
 use Rattle.tokenizer.proofs.Marks as Marks
 use Rattle.tokenizer.proofs.Tokens.{token_end}
@@ -27,7 +30,7 @@ use Rattle.subtrees.proofs.ParentSet.{lent_small}
 use Rattle.subtrees.proofs.ParentTree.{count_parented, first-parents-lent}
 use Rattle.parser.proofs.Holds.{Holds}
 use Rattle.datatype_parse.proofs.ReadSound.{Begun, first_read}
-use Rattle.parser.specs.Parse.{Tree, single, rows_in, stands, first_type, read_of, rows_of}
+use Rattle.parser.specs.Parse.{Tree, single, rows_in, place_at, stands, first_type, read_of, rows_of}
 use Rattle.parser.specs.declared.Extent.{Extent}
 use Rattle.datatype_parse.specs.Parse.{text_over, parse, row_count, parse_answer, filled, parse_rows}
 
@@ -89,7 +92,7 @@ begun_few text rows l = go (first_type text rows) (first_read text rows)
 
 -- a tree, from the type that the text begins with
 abbrev ended : List ℕ → Out Tree → Out (Forest Row)
-ended text o = o >>= (λ t. if text_over text t.next then done (parented (single t)) else refuse 16)
+ended text o = o >>= (λ t. if text_over text t.next then done (parented (single t)) else refuse_at 16 (place_at text t.next))
 
 module _ (text before : List ℕ) where
   abbrev first : Out Tree
@@ -98,12 +101,12 @@ module _ (text before : List ℕ) where
   few : Holds (λ (t : Tree). count (single t) ≤ 1024) first
   few = begun_few text (rows_lent (length before)) (lent_small (length before))
 
-  pub read-refused : (after : List ℕ) (x : ℕ) → refuse x ≡ read_of first → after ≡ rows_of before first → (refuse x ≡ parse_answer text before) × (after ≡ parse_rows text before)
+  pub read-refused : (after : List ℕ) (x : Refusal) → refused x ≡ read_of first → after ≡ rows_of before first → (refused x ≡ parse_answer text before) × (after ≡ parse_rows text before)
   unfolding parse parse_answer parse_rows read_of rows_of
   read-refused after x e w = go first e w
     where
-      go : (o : Out Tree) → refuse x ≡ read_of o → after ≡ rows_of before o → (refuse x ≡ row_count (ended text o)) × (after ≡ filled before (ended text o))
-      go (refused y) e w = let z : ◌≡◌ {A = Refusal} (record { number = x }) y = cc in (ap refused z, w)
+      go : (o : Out Tree) → refused x ≡ read_of o → after ≡ rows_of before o → (refused x ≡ row_count (ended text o)) × (after ≡ filled before (ended text o))
+      go (refused y) e w = let z : ◌≡◌ {A = Refusal} x y = cc in (ap refused z, w)
       go (done t) e w = absurd (let z : ◌≡◌ {A = ℕ} 0 1 = cc in omega arith)
 
   -- a type was read, and this is its place and row count
@@ -119,9 +122,9 @@ module _ (text before : List ℕ) where
     over_there : (b : Bool) → text_over text x.next ≡ b → text_over text tree_read.0.next ≡ b
     over_there b o = ap (text_over text) tree_read.2 ∙ o
 
-    pub read_answer : (n : ℕ) → n ≡ x.used → text_over text x.next ≡ true → done n ≡ parse_answer text before
+    pub read_count : (n : ℕ) → n ≡ x.used → text_over text x.next ≡ true → done n ≡ parse_answer text before
     unfolding parse parse_answer
-    read_answer n z o = rw (tree_read.1, over_there true o) (ap done (z ∙ tree_read.3 ∙ sym (count_parented 0 0 (single tree_read.0))))
+    read_count n z o = rw (tree_read.1, over_there true o) (ap done (z ∙ tree_read.3 ∙ sym (count_parented 0 0 (single tree_read.0))))
 
     pub read_rows : (after mid : List ℕ) → mid ≡ rows_of before first → after ≡ parents_set mid (min x.used (rows_lent (length mid))) → text_over text x.next ≡ true → after ≡ parse_rows text before
     unfolding parse parse_rows rows_of
@@ -137,9 +140,9 @@ module _ (text before : List ℕ) where
             ∙ first-parents-lent (single t) rest l
             ∙ ap (λ (i : ℕ). table_of (parented (single t)) ++ drop i before) long
 
-    pub trailing_answer : text_over text x.next ≡ false → refuse 16 ≡ parse_answer text before
-    unfolding parse parse_answer
-    trailing_answer o = rw (tree_read.1, over_there false o)
+    pub trailing_answer : text_over text x.next ≡ false → (place : ℕ) → place ≡ after_spaces text x.next → refused (refusal_in (record { place = place; refusal = TrailingText })) ≡ parse_answer text before
+    unfolding parse parse_answer refusal_in
+    trailing_answer o place p = rw (p ∙ place_spaces text x.next ∙ ap (place_at text) (sym tree_read.2), tree_read.1, over_there false o)
 
     pub trailing_rows : (after : List ℕ) → after ≡ replicate (length before) 0 → text_over text x.next ≡ false → after ≡ parse_rows text before
     unfolding parse parse_rows
@@ -148,4 +151,4 @@ module _ (text before : List ℕ) where
 -- what the returns cite
 pub ruleset over_steps = (over-is)
 
-pub ruleset read_steps = (handed_on, read-refused, read_answer, trailing_answer, trailing_rows)
+pub ruleset read_steps = (handed_on, handed, read-refused, read_count, trailing_answer, trailing_rows)

@@ -1,3 +1,4 @@
+pub mod Examples
 pub mod Parse
 pub mod RowsToLend
 pub mod Internal

@@ -3,11 +3,12 @@
 #![tactic(auto)]
 
 ghost use Rattle.std.specs.Prelude.{◌≡◌};
-ghost use Rattle.tokenizer.specs.Answer.{answer_of};
+ghost use Rattle.parser.specs.Answer.{read_answer};
 ghost use Rattle.datatype_parse.specs.Parse.{text_over, parse_answer, parse_rows};
 ghost use Rattle.datatype_parse.specs.RowsToLend.{rows_to_lend};
 
 use datatype::rows::MAX_ROWS;
+use parser::ReadError;
 use tokenizer::Refusal;
 
 // Whether nothing but spaces is left of a text.
@@ -20,8 +21,8 @@ fn text_over(text: &[u8], at: usize) -> bool
 
 // Reads a type text into lent rows: the row count, or the refusal. A refused text leaves the rows all zeros.
 #[tactic(auto, using(crate::proofs::Whole::read_steps))]
-pub fn parse_data_type(text: &[u8], rows: &mut [u32]) -> Result<usize, Refusal>
-    ensures answer { answer_of result ≡ parse_answer text.now rows.old }
+pub fn parse_data_type(text: &[u8], rows: &mut [u32]) -> Result<usize, ReadError>
+    ensures answer { read_answer result ≡ parse_answer text.now rows.old }
     ensures contents { rows.new ≡ parse_rows text.now rows.old }
 {
     let read = parser::parse_first_type(text, rows)?;
@@ -30,7 +31,10 @@ pub fn parse_data_type(text: &[u8], rows: &mut [u32]) -> Result<usize, Refusal>
         return Ok(read.used);
     }
     rows.fill(0);
-    Err(Refusal::TrailingText)
+    Err(ReadError {
+        place: tokenizer::skip_spaces(text, read.next),
+        refusal: Refusal::TrailingText,
+    })
 }
 
 // The fewest bytes that a row of an accepted text takes.

@@ -10,22 +10,22 @@ use Prim.Native.Nat.{ℕ, ◌+◌}
 use native.Mathlib.Omega.{arith}
 use borrow.Author.Tests.{eq-eqb, ne_eqb}
 use Rattle.std.specs.Prelude.{Ok, Err}
-use Rattle.std.specs.Result.{IsErrAnd}
-use Rattle.tokenizer.specs.Answer.{Refusal, Out, refused, done, refuse, number_of, ◌>>=◌}
-use Rattle.tokenizer.specs.declared.refusal.Refusal as R
-use Rattle.tokenizer.proofs.Answered.{handed_on}
+use Rattle.tokenizer.specs.Answer.{Refusal, Out, refused, done, ◌>>=◌}
+use Rattle.tokenizer.specs.declared.refusal.Refusal.TheVariants.{MustBeNonNull}
+use Rattle.parser.specs.Answer.{refusal_in, read_answer}
+use Rattle.parser.specs.declared.error.ReadError.{ReadError}
 use Rattle.tokenizer.specs.Token.{Standing, lparen, rparen, comma, colon, double_quoted}
 use Rattle.datatype.specs.Tree.{Forest, ∅, node, count, Row}
-use Rattle.parser.specs.Parse.{Tree, Fields, end, last, more, run_ends, values, id_of, need, stands, role_at, after_role, signed_byte_at, close_at, field_at, default_field, named_run_ends, default_run_ends, run_end_fields, struct_item, union_field, union_item}
+use Rattle.parser.specs.Parse.{role_place, last_token, Tree, Fields, end, last, more, run_ends, values, id_of, need, stands, role_at, after_role, signed_byte_at, close_at, field_at, default_field, named_run_ends, default_run_ends, run_end_fields, struct_item, union_field, union_item}
 use Rattle.parser.specs.Internal.Steps.{integer_of, extent, rows_left, Stored, Meets, MeetsFields, FieldWords}
 use Rattle.parser.proofs.Matched.{Read, behind, GotTree, GotNumber, got_integer}
 use Rattle.parser.proofs.Looks.{needed-stands, refused-stands}
 use Rattle.parser.proofs.Values.{id-is}
 use Rattle.parser.proofs.Readers.{meets-done, rest_of, pair_stored, default-1, default-is, default-tree}
-use Rattle.parser.proofs.Stores.{rows_from, with_rows, role_said}
+use Rattle.parser.proofs.Stores.{rows_from, with_rows, kind_said, role_said}
 
 module _ (before after : List ℕ) where
-  pub fields-refused : (o : Out Fields) (e : R.Refusal) → o ≡ refuse (number_of e) → MeetsFields o before (Err e) after
+  pub fields-refused : (o : Out Fields) (e : ReadError) → o ≡ refused (refusal_in e) → MeetsFields o before (Err e) after
   unfolding MeetsFields
   fields-refused o e w = rw w refl
 
@@ -34,9 +34,9 @@ module _ (before after : List ℕ) where
   fields-done o f n k e c s = rw e (ap (λ (i : ℕ). Ok (extent n i)) c, s)
 
   -- a refusal is handed on
-  pub fields-handed : (o : Out Fields) (a : Read) (e : R.Refusal) → IsErrAnd a (λ y. y ≡ e) → o ≡ refuse (number_of e) → MeetsFields o before a after
+  pub fields-handed : (o : Out Fields) (a : Read) (x : Refusal) → read_answer a ≡ refused x → o ≡ refused x → MeetsFields o before a after
   unfolding MeetsFields
-  fields-handed o a e h w = rw w (handed_on a e h)
+  fields-handed o a x h w = rw w h
 
 -- a tree that was read
 abbrev pub tree_of : (o : Out Tree) (n k : ℕ) (before after : List ℕ) → GotTree o n k before after → Tree
@@ -55,7 +55,7 @@ module _ (text : List ℕ) (type : ℕ → ℕ → Out Tree) where
 
   module _ (at left : ℕ) where
     -- the long form
-    pub long-1 : (x : ℕ) → field_at text type 0 at left ≡ refuse x → named_run_ends text type at left ≡ refuse x
+    pub long-1 : (x : Refusal) → field_at text type 0 at left ≡ refused x → named_run_ends text type at left ≡ refused x
     unfolding named_run_ends
     long-1 x e = rw e refl
 
@@ -65,20 +65,28 @@ module _ (text : List ℕ) (type : ℕ → ℕ → Out Tree) where
         role-is : role ≡ g.row.role
         role-is = said ∙ role_said g.row g.kids before mid g.stored
 
-        pub long-2 : (role ≡ 2 → ⊥) → named_run_ends text type at left ≡ refuse 13
+        pub long-2 : (role ≡ 2 → ⊥) → (kind : ℕ) → kind ≡ get_or mid 0 0 → (place : ℕ) → done place ≡ last_token text at kind n → named_run_ends text type at left ≡ refused (refusal_in (record { place = place; refusal = MustBeNonNull }))
+        unfolding named_run_ends refusal_in
+        long-2 z kind k place p =
+            let q = p ∙ ap (λ (i : ℕ). last_token text at i n) (k ∙ kind_said g.row g.kids before mid g.stored) in
+            rw (g.is, ← role-is, ne_eqb role 2 z, ← q) refl
+
+        pub long-last : (role ≡ 2 → ⊥) → (kind : ℕ) → kind ≡ get_or mid 0 0 → (x : Refusal) → refused x ≡ last_token text at kind n → named_run_ends text type at left ≡ refused x
         unfolding named_run_ends
-        long-2 z = rw (g.is, ← role-is, ne_eqb role 2 z) refl
+        long-last z kind k x p =
+            let q = p ∙ ap (λ (i : ℕ). last_token text at i n) (k ∙ kind_said g.row g.kids before mid g.stored) in
+            rw (g.is, ← role-is, ne_eqb role 2 z, ← q) refl
 
       module _ (role : ℕ) (said : role ≡ get_or mid 2 0) (two : role ≡ 2) where
         z : g.row.role ≡ 2
         z = sym (role-is role said) ∙ two
 
-        pub long-3 : (x : ℕ) → need text comma n ≡ refuse x → named_run_ends text type at left ≡ refuse x
+        pub long-3 : (x : Refusal) → need text comma n ≡ refused x → named_run_ends text type at left ≡ refused x
         unfolding named_run_ends
         long-3 x e = rw (g.is, eq-eqb g.row.role 2 z, e) refl
 
         module _ (c : Standing) (d : ℕ) (f : need text comma n ≡ done (behind c d)) (i : left ≡ rows_left before) where
-          pub long-4 : (x : ℕ) → field_at text type 0 d (rows_left (rows_from used mid)) ≡ refuse x → named_run_ends text type at left ≡ refuse x
+          pub long-4 : (x : Refusal) → field_at text type 0 d (rows_left (rows_from used mid)) ≡ refused x → named_run_ends text type at left ≡ refused x
           unfolding named_run_ends
           long-4 x e = rw (g.is, eq-eqb g.row.role 2 z, f, ← rest_of _ n used left before mid g i, e) refl
 
@@ -88,19 +96,19 @@ module _ (text : List ℕ) (type : ℕ → ℕ → Out Tree) where
           long-5 m k sub h = pair_done _ _ _ n m used k before mid sub g h (rw (g.is, eq-eqb g.row.role 2 z, f, ← rest_of _ n used left before mid g i, h.is) refl)
 
     -- the short form
-    pub short-1 : (role : ℕ) → role ≡ role_at text at → (role ≡ 2 → ⊥) → default_run_ends text type at left ≡ refuse 13
-    unfolding default_run_ends
-    short-1 role e z = rw (← e, ne_eqb role 2 z) refl
+    pub short-1 : (role : ℕ) → role ≡ role_at text at → (role ≡ 2 → ⊥) → (place : ℕ) → place ≡ role_place text at → default_run_ends text type at left ≡ refused (refusal_in (record { place = place; refusal = MustBeNonNull }))
+    unfolding default_run_ends refusal_in
+    short-1 role e z place p = rw (← e, ne_eqb role 2 z, ← p) refl
 
     module _ (role next : ℕ) (ro : role ≡ role_at text at) (z : role ≡ 2) (ne : next ≡ after_role text at) where
       two : 2 ≡ role_at text at
       two = sym z ∙ ro
 
-      pub short-2 : (x : ℕ) → type next left ≡ refuse x → default_run_ends text type at left ≡ refuse x
+      pub short-2 : (x : Refusal) → type next left ≡ refused x → default_run_ends text type at left ≡ refused x
       unfolding default_run_ends
       short-2 x e = rw (← ro, eq-eqb role 2 z, default-1 text type run_ends at left role next ro ne x e) refl
 
-      pub short-3 : (n used : ℕ) (before mid₀ : List ℕ) → GotTree (type next left) n used before mid₀ → (x : ℕ) → need text comma n ≡ refuse x → default_run_ends text type at left ≡ refuse x
+      pub short-3 : (n used : ℕ) (before mid₀ : List ℕ) → GotTree (type next left) n used before mid₀ → (x : Refusal) → need text comma n ≡ refused x → default_run_ends text type at left ≡ refused x
       unfolding default_run_ends
       short-3 n used before mid₀ t x e = rw (← ro, eq-eqb role 2 z, default-is text type run_ends at left 2 next two ne n used before mid₀ t, e) refl
 
@@ -109,7 +117,7 @@ module _ (text : List ℕ) (type : ℕ → ℕ → Out Tree) where
         g = default-tree text type run_ends at left 2 next two ne n used before mid₀ t mid w
 
         module _ (c : Standing) (d role₂ next₂ : ℕ) (f : need text comma n ≡ done (behind c d)) (i : left ≡ rows_left before) (ro₂ : role₂ ≡ role_at text d) (ne₂ : next₂ ≡ after_role text d) where
-          pub short-4 : (x : ℕ) → type next₂ (rows_left (rows_from used mid)) ≡ refuse x → default_run_ends text type at left ≡ refuse x
+          pub short-4 : (x : Refusal) → type next₂ (rows_left (rows_from used mid)) ≡ refused x → default_run_ends text type at left ≡ refused x
           unfolding default_run_ends
           short-4 x e =
               rw (← ro, eq-eqb role 2 z, g.is, f, ← rest_of _ n used left before mid g i, default-1 text type values d (rows_left (rows_from used mid)) role₂ next₂ ro₂ ne₂ x e) refl
@@ -137,7 +145,7 @@ module _ (text : List ℕ) (type : ℕ → ℕ → Out Tree) where
     struct-end c n e = rw (needed-stands text rparen at (behind c n) e, e) refl
 
     module _ (s : Refusal) (z : need text rparen at ≡ refused s) where
-      pub struct-field-1 : (x : ℕ) → field_at text type 0 at left ≡ refuse x → struct_item text type at left ≡ refuse x
+      pub struct-field-1 : (x : Refusal) → field_at text type 0 at left ≡ refused x → struct_item text type at left ≡ refused x
       unfolding struct_item
       struct-field-1 x e = rw (refused-stands text rparen at s z, e) refl
 
@@ -157,12 +165,12 @@ module _ (text : List ℕ) (type : ℕ → ℕ → Out Tree) where
     union-end c n e = rw (needed-stands text rparen at (behind c n) e, e) refl
 
     module _ (s : Refusal) (z : need text rparen at ≡ refused s) where
-      pub union-open : (x : ℕ) → need text comma at ≡ refuse x → union_item text type at left ≡ refuse x
+      pub union-open : (x : Refusal) → need text comma at ≡ refused x → union_item text type at left ≡ refused x
       unfolding union_item
       union-open x e = rw (refused-stands text rparen at s z, e) refl
 
       module _ (c : Standing) (b : ℕ) (e : need text comma at ≡ done (behind c b)) where
-        pub union-lost : (x : ℕ) → union_field text type b left ≡ refuse x → union_item text type at left ≡ refuse x
+        pub union-lost : (x : Refusal) → union_field text type b left ≡ refused x → union_item text type at left ≡ refused x
         unfolding union_item
         union-lost x f = rw (refused-stands text rparen at s z, e, f) refl
 
@@ -173,7 +181,7 @@ module _ (text : List ℕ) (type : ℕ → ℕ → Out Tree) where
 
     -- ---- a Union's field
 
-    pub union-1 : (x : ℕ) → signed_byte_at text at ≡ refuse x → union_field text type at left ≡ refuse x
+    pub union-1 : (x : Refusal) → signed_byte_at text at ≡ refused x → union_field text type at left ≡ refused x
     unfolding union_field
     union-1 x e = rw e refl
 
@@ -181,12 +189,12 @@ module _ (text : List ℕ) (type : ℕ → ℕ → Out Tree) where
       f : GotNumber (signed_byte_at text at) z.value z.next
       f = got_integer (signed_byte_at text at) z r
 
-      pub union-2 : (x : ℕ) → need text colon z.next ≡ refuse x → union_field text type at left ≡ refuse x
+      pub union-2 : (x : Refusal) → need text colon z.next ≡ refused x → union_field text type at left ≡ refused x
       unfolding union_field
       union-2 x g = rw (f.is, g) refl
 
       module _ (l : Standing) (m : ℕ) (g : need text colon z.next ≡ done (behind l m)) where
-        pub union-3 : (x : ℕ) → need text lparen m ≡ refuse x → union_field text type at left ≡ refuse x
+        pub union-3 : (x : Refusal) → need text lparen m ≡ refused x → union_field text type at left ≡ refused x
         unfolding union_field
         union-3 x h = rw (f.is, g, h) refl
 
@@ -194,12 +202,12 @@ module _ (text : List ℕ) (type : ℕ → ℕ → Out Tree) where
           w : id ≡ id_of f.token.kind
           w = i ∙ id-is _ z.value z.next f
 
-          pub union-4 : (x : ℕ) → field_at text type id q left ≡ refuse x → union_field text type at left ≡ refuse x
+          pub union-4 : (x : Refusal) → field_at text type id q left ≡ refused x → union_field text type at left ≡ refused x
           unfolding union_field
           union-4 x v = rw (f.is, g, h, ← w, v) refl
 
           module _ (n k : ℕ) (before after : List ℕ) (v : GotTree (field_at text type id q left) n k before after) where
-            pub union-5 : (x : ℕ) → need text rparen n ≡ refuse x → union_field text type at left ≡ refuse x
+            pub union-5 : (x : Refusal) → need text rparen n ≡ refused x → union_field text type at left ≡ refused x
             unfolding union_field close_at
             union-5 x y = rw (f.is, g, h, ← w, v.is, y) refl
 

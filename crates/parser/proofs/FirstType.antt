@@ -9,8 +9,10 @@ use lib.Seq.{length-take-le}
 use borrow.Author.Tests.{le-leb, lt-leb}
 use Rattle.std.proofs.lemmas.List.{take-append-drop}
 use Rattle.std.specs.Prelude.{Ok, Err}
-use Rattle.tokenizer.specs.Answer.{done, refuse, number_of}
-use Rattle.tokenizer.specs.declared.refusal.Refusal as R
+use Rattle.tokenizer.specs.Answer.{refused, done}
+use Rattle.tokenizer.specs.declared.refusal.Refusal.TheVariants.{TextTooLong, NotUtf8}
+use Rattle.parser.specs.Answer.{refusal_in}
+use Rattle.parser.specs.declared.error.ReadError.{ReadError}
 use Rattle.tokenizer.specs.Utf8.{is_utf8}
 use Rattle.datatype.specs.Tree.{Forest, ∅, node, Row}
 use Rattle.datatype.specs.Table.{row_words, table_of, rows_lent}
@@ -24,13 +26,13 @@ use Rattle.parser.proofs.Readers.{meets-refused, meets-further}
 -- ---- the text as a whole
 
 module _ (text : List ℕ) (rows : ℕ) where
-  pub too_long : 16384 < length text → first_type text rows ≡ refuse 1
-  unfolding first_type
+  pub too_long : 16384 < length text → first_type text rows ≡ refused (refusal_in (record { place = 16384; refusal = TextTooLong }))
+  unfolding first_type refusal_in
   too_long h = rw (lt-leb (length text) 16384 h)
 
   module _ (short : length text ≤ 16384) where
-    pub not-utf8 : is_utf8 text ≡ false → first_type text rows ≡ refuse 2
-    unfolding first_type
+    pub not-utf8 : is_utf8 text ≡ false → first_type text rows ≡ refused (refusal_in (record { place = 0; refusal = NotUtf8 }))
+    unfolding first_type refusal_in
     not-utf8 u = rw (le-leb (length text) 16384 short, u)
 
     pub first-type : is_utf8 text ≡ true → first_type text rows ≡ type_at text 64 0 rows
@@ -43,7 +45,7 @@ module _ (text before : List ℕ) where
   abbrev rows : ℕ
   rows = rows_lent (length before)
 
-  pub text-refused : (e : R.Refusal) (after : List ℕ) → first_type text rows ≡ refuse (number_of e) → Meets (first_type text rows) before (Err e) after
+  pub text-refused : (e : ReadError) (after : List ℕ) → first_type text rows ≡ refused (refusal_in e) → Meets (first_type text rows) before (Err e) after
   text-refused e after w = meets-refused before after (first_type text rows) e w
 
   module _ (lent : ℕ) (l : lent ≡ rows) where
@@ -72,11 +74,11 @@ module _ (text before : List ℕ) where
 
   module _ (after : List ℕ) where
     -- what the public function leaves
-    module _ (e : R.Refusal) (h : Meets (first_type text rows) before (Err e) after) where
-      lost : first_type text rows ≡ refuse (number_of e)
+    module _ (e : ReadError) (h : Meets (first_type text rows) before (Err e) after) where
+      lost : first_type text rows ≡ refused (refusal_in e)
       lost = lost-tree before after (first_type text rows) e h
 
-      pub refused-answer : refuse (number_of e) ≡ read_of (first_type text rows)
+      pub refused-answer : refused (refusal_in e) ≡ read_of (first_type text rows)
       unfolding read_of
       refused-answer = rw lost
 

@@ -2,7 +2,9 @@
 use Rattle.std.specs.Prelude.{if◌then◌else◌}
 use mathlib.Core.Path.{◌≡◌, refl}
 use mathlib.Core.Bool.{Bool, true, false}
+use Prim.Native.Nat.{ℕ}
 use Rattle.tokenizer.specs.Answer.{Out, refused, done, ◌>>=◌}
+use Rattle.parser.specs.Parse.{refuse_last}
 
 -- a fact of the value, if there is one
 abbrev pub Holds : {A : Type 0} → (A → Type 0) → Out A → Type 0
@@ -21,6 +23,10 @@ holds_then Q P (done a) f q h = h a q
 pub holds_if : {A : Type 0} (P : A → Type 0) (b : Bool) (x y : Out A) → Holds P x → Holds P y → Holds P (if b then x else y)
 holds_if P true x y p q = p
 holds_if P false x y p q = q
+
+-- nothing is answered where a last token is refused
+pub holds_last : {A : Type 0} (P : A → Type 0) (n : ℕ) (o : Out ℕ) → Holds P (refuse_last n o)
+holds_last P n o = holds_bind P o _ λ place. tt
 
 -- an answer that is a refusal
 abbrev pub Refuses : {A : Type 0} → Out A → Type 0

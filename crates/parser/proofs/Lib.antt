@@ -2,6 +2,7 @@ pub mod Holds
 pub mod Stores
 pub mod Matched
 pub mod Looks
+pub mod Places
 pub mod TokenLaws
 pub mod ZoneLaws
 pub mod Values

@@ -5,9 +5,9 @@ use mathlib.Core.List.{List}
 use Prim.Native.Nat.{ℕ}
 use native.Mathlib.Omega.{arith}
 use lib.Dec.{eqb}
-use Rattle.tokenizer.specs.Answer.{Refusal, refused, done, refuse}
+use Rattle.tokenizer.specs.Answer.{Refusal, refused, done, refuse_at}
 use Rattle.tokenizer.specs.Token.{Standing, token_at, sort_of}
-use Rattle.parser.specs.Parse.{refusal_of, need, stands}
+use Rattle.parser.specs.Parse.{refusal_of, place_at, need, stands}
 
 module _ (text : List ℕ) (sort at : ℕ) where
   pub needed-stands : (t : Standing) → need text sort at ≡ done t → stands text sort at ≡ true
@@ -23,6 +23,6 @@ module _ (text : List ℕ) (sort at : ℕ) where
   unfolding need
   need-is e = rw e refl
 
-  pub need-not : eqb (sort_of (token_at text at).kind) sort ≡ false → need text sort at ≡ refuse (refusal_of (token_at text at).kind)
+  pub need-not : eqb (sort_of (token_at text at).kind) sort ≡ false → need text sort at ≡ refuse_at (refusal_of (token_at text at).kind) (place_at text at)
   unfolding need
   need-not e = rw e refl

@@ -4,7 +4,7 @@ use mathlib.Core.List.{List}
 use Prim.Native.Nat.{ℕ, suc, ◌+◌, ◌-◌, ◌*◌, ◌≤◌, ◌<◌}
 use native.Mathlib.Omega.{arith}
 use lib.ListN.{length}
-use Rattle.tokenizer.specs.Answer.{Out, refused, done, refuse, ◌>>=◌}
+use Rattle.tokenizer.specs.Answer.{Refusal, Out, refused, done, ◌>>=◌}
 use Rattle.datatype.specs.Tree.{Forest, ∅, node, count, Row}
 use Rattle.datatype.specs.Table.{row_words, table_of}
 use Rattle.parser.specs.Parse.{Tree, Fields, Item, end, last, more, single, rows_in, fields_from, items_by}
@@ -67,8 +67,8 @@ module _ (type : Out Tree) (made : Fields → Out Tree) (item : ℕ → ℕ → 
         l.so_far ∙ ap (λ (k : ℕ). prepend l.trees (items_by item k at (rows_left before - used)) >>= made) m
         ∙ ap (λ (o : Out Item). prepend l.trees (o >>= fields_from (items_by item (l.most - 1)) (rows_left before - used)) >>= made) (ap (item at) (sym here) ∙ e)
 
-    pub loop-lost : (x : ℕ) → item at (rows_left (rows_from used now)) ≡ refuse x → type ≡ refuse x
-    loop-lost x e = turned (refuse x) e
+    pub loop-lost : (x : Refusal) → item at (rows_left (rows_from used now)) ≡ refused x → type ≡ refused x
+    loop-lost x e = turned (refused x) e
 
     pub loop-end : (n : ℕ) → item at (rows_left (rows_from used now)) ≡ done (end n) → type ≡ made (record { trees = l.trees; next = n })
     loop-end n e = turned (done (end n)) e ∙ ap (λ (f : Forest Row). made (record { trees = f; next = n })) (append_none l.trees)

@@ -1,31 +1,46 @@
 -- What is known of a definition's answer once the code's answer was matched on.
-use mathlib.Core.Path.{◌≡◌, ◌∙◌}
+use mathlib.Core.Path.{◌≡◌, ap, ◌∙◌}
 use mathlib.Core.List.{List}
 use lib.IntN.{ℤ}
 use Prim.Native.Nat.{ℕ, suc}
 use native.Mathlib.Omega.{arith}
 use Rattle.std.specs.Prelude.{Result, Ok, Err, Some, None}
 use Rattle.std.specs.Result.{IsErrAnd}
-use Rattle.tokenizer.specs.Answer.{Refusal, Out, refused, done, refuse, number_of, answer_of}
-use Rattle.tokenizer.specs.Token.{Standing, value_of, is_negative, signed, token_or_refusal}
+use Rattle.tokenizer.specs.Answer.{Refusal, Out, refused, done}
+use Rattle.tokenizer.specs.Token.{Standing, no_token, sort_of, value_of, is_negative, place_of, signed}
 use Rattle.tokenizer.specs.declared.Token.{Token}
 use Rattle.tokenizer.specs.declared.TokenKind.{TokenKind}
 use Rattle.tokenizer.specs.declared.refusal.Refusal as R
-use Rattle.tokenizer.proofs.Answered.{handed_on}
+use Rattle.tokenizer.specs.declared.refusal.Refusal.TheVariants.{UnexpectedToken}
 use Rattle.datatype.specs.Tree.{Forest, ∅, node, count, Row}
-use Rattle.parser.specs.Parse.{Tree, Fields, Zone}
-use Rattle.parser.specs.Internal.Steps.{next_of, look_of, word_of, integer_of, span_of, zone_of, Stored, Meets, MeetsFields}
+use Rattle.parser.specs.Answer.{refusal_in, read_answer}
+use Rattle.parser.specs.Parse.{Tree, Fields, Zone, place_at}
+use Rattle.parser.specs.Internal.Steps.{taken, next_of, look_of, word_of, integer_of, span_of, zone_of, Stored, Meets, MeetsFields}
 use Rattle.parser.specs.declared.ReadValue.{ReadValue}
 use Rattle.parser.specs.declared.Span.{Span}
 use Rattle.parser.specs.declared.Extent.{Extent}
+use Rattle.parser.specs.declared.error.ReadError.{ReadError}
 
 -- what a reader of types answers
 abbrev pub Read : Type 0
-Read = Result Extent R.Refusal
+Read = Result Extent ReadError
 
 -- a refusal that `?` hands on is the answer
-pub handed : {A : Type 0} (o : Out A) (r : Result A R.Refusal) (e : R.Refusal) → IsErrAnd r (λ y. y ≡ e) → refuse (number_of e) ≡ o → answer_of r ≡ o
-handed o r e h w = handed_on r e h ∙ w
+pub handed_on : {A : Type 0} (r : Result A ReadError) (e : ReadError) → IsErrAnd r (λ y. y ≡ e) → read_answer r ≡ refused (refusal_in e)
+handed_on (Ok x) e h = absurd h
+handed_on (Err y) e h = ap (λ (z : ReadError). refused (refusal_in z)) h
+
+pub handed : {A : Type 0} (o : Out A) (r : Result A ReadError) (x : Refusal) → read_answer r ≡ refused x → refused x ≡ o → read_answer r ≡ o
+handed o r x h w = h ∙ w
+
+-- ---- errors that the reader makes
+
+-- a refusal at the token at or behind a place, and one of a token that was taken
+abbrev pub error_at : List ℕ → ℕ → R.Refusal → ReadError
+error_at text at refusal = record { place = place_at text at; refusal = refusal }
+
+abbrev pub unexpected : Token → ReadError
+unexpected t = record { place = place_of (done t.kind) t.start; refusal = UnexpectedToken }
 
 -- ---- tokens
 
@@ -33,11 +48,17 @@ handed o r e h w = handed_on r e h ∙ w
 abbrev pub standing : Token → Standing
 standing t = record { kind = done t.kind; start = t.start; size = t.size; next = t.next }
 
-pub got_token : (s : Standing) (t : Token) → done t ≡ token_or_refusal s → s ≡ standing t
+pub got_token : (s : Standing) (t : Token) → done t ≡ taken s → s ≡ standing t
+unfolding taken
 got_token s t e = grind arith
 
-pub lost_token : (s : Standing) (x : ℕ) → refuse x ≡ token_or_refusal s → s.kind ≡ refuse x
-lost_token s x e = grind arith
+pub record Lost (s : Standing) (x : Refusal) : Type 0 where
+  pub none : sort_of s.kind ≡ no_token
+  pub is : x ≡ record { number = value_of s.kind; place = Some (place_of s.kind s.start) }
+
+pub lost_token : (s : Standing) (x : Refusal) → refused x ≡ taken s → Lost s x
+unfolding taken
+lost_token s x e = record { none = grind arith; is = grind arith }
 
 -- a token with the place behind it given
 abbrev pub behind : Standing → ℕ → Standing
@@ -48,7 +69,7 @@ unfolding next_of
 got_next (refused r) n e = absurd cc
 got_next (done t) n e = (t, grind arith)
 
-pub lost_next : (o : Out Standing) (x : ℕ) → refuse x ≡ next_of o → o ≡ refuse x
+pub lost_next : (o : Out Standing) (x : Refusal) → refused x ≡ next_of o → o ≡ refused x
 unfolding next_of
 lost_next o x e = grind arith
 
@@ -71,7 +92,7 @@ unfolding word_of
 got_word (refused r) w e = absurd cc
 got_word (done t) w e = record { token = t; is = grind arith; value = grind arith }
 
-pub lost_word : (o : Out Standing) (x : ℕ) → refuse x ≡ word_of o → o ≡ refuse x
+pub lost_word : (o : Out Standing) (x : Refusal) → refused x ≡ word_of o → o ≡ refused x
 unfolding word_of
 lost_word o x e = grind arith
 
@@ -93,7 +114,7 @@ unfolding integer_of
 got_integer (refused r) i e = absurd cc
 got_integer (done t) i e = record { token = t; is = grind arith; value = grind arith }
 
-pub lost_integer : (o : Out Standing) (x : ℕ) → refuse x ≡ integer_of o → o ≡ refuse x
+pub lost_integer : (o : Out Standing) (x : Refusal) → refused x ≡ integer_of o → o ≡ refused x
 unfolding integer_of
 lost_integer o x e = grind arith
 
@@ -106,7 +127,7 @@ unfolding span_of
 got_span (refused r) p e = absurd cc
 got_span (done t) p e = (t.kind, grind arith)
 
-pub lost_span : (o : Out Standing) (x : ℕ) → refuse x ≡ span_of o → o ≡ refuse x
+pub lost_span : (o : Out Standing) (x : Refusal) → refused x ≡ span_of o → o ≡ refused x
 unfolding span_of
 lost_span o x e = grind arith
 
@@ -114,7 +135,7 @@ pub got_zone : (o : Out Zone) (p : Span) → done p ≡ zone_of o → o ≡ done
 unfolding zone_of
 got_zone o p e = grind arith
 
-pub lost_zone : (o : Out Zone) (x : ℕ) → refuse x ≡ zone_of o → o ≡ refuse x
+pub lost_zone : (o : Out Zone) (x : Refusal) → refused x ≡ zone_of o → o ≡ refused x
 unfolding zone_of
 lost_zone o x e = grind arith
 
@@ -139,7 +160,7 @@ module _ (before after : List ℕ) where
   got-tree (refused x) e h = absurd cc
   got-tree (done t) e h = let f = h.0 in record { row = t.row; kids = t.kids; is = grind arith; rows = cc; stored = h.1 }
 
-  pub lost-tree : (o : Out Tree) (e : R.Refusal) → Meets o before (Err e) after → o ≡ refuse (number_of e)
+  pub lost-tree : (o : Out Tree) (e : ReadError) → Meets o before (Err e) after → o ≡ refused (refusal_in e)
   unfolding Meets
   lost-tree o e h = grind arith
 
@@ -148,6 +169,6 @@ module _ (before after : List ℕ) where
   got-fields (refused x) e h = absurd cc
   got-fields (done fs) e h = let f = h.0 in record { trees = fs.trees; is = grind arith; rows = cc; stored = h.1 }
 
-  pub lost-fields : (o : Out Fields) (e : R.Refusal) → MeetsFields o before (Err e) after → o ≡ refuse (number_of e)
+  pub lost-fields : (o : Out Fields) (e : ReadError) → MeetsFields o before (Err e) after → o ≡ refused (refusal_in e)
   unfolding MeetsFields
   lost-fields o e h = grind arith

@@ -10,10 +10,10 @@ use Prim.Native.Nat.{ℕ, suc, ◌+◌, ◌*◌, ◌-◌, ◌≤◌}
 use native.Mathlib.Omega.{arith}
 use lib.ListN.{length}
 use Rattle.std.specs.Result.{IsErrAnd}
-use Rattle.tokenizer.specs.Answer.{Out, refused, done, refuse, number_of, answer_of, ◌>>=◌}
-use Rattle.tokenizer.specs.declared.refusal.Refusal as R
+use Rattle.tokenizer.specs.Answer.{Refusal, Out, refused, done, refuse_at, ◌>>=◌}
 use Rattle.tokenizer.specs.declared.refusal.Refusal.TheVariants.{WrongDecimal}
-use Rattle.tokenizer.proofs.Answered.{handed_on}
+use Rattle.parser.specs.Answer.{refusal_in, read_answer}
+use Rattle.parser.specs.declared.error.ReadError.{ReadError}
 use Rattle.parser.specs.declared.Extent.{Extent}
 use Rattle.parser.specs.declared.ReadValue.{ReadValue}
 use Rattle.tokenizer.specs.Token.{Standing, value_of, lparen, rparen, comma, colon, double_quoted, single_quoted, time_unit, interval_unit, field_word}
@@ -24,22 +24,22 @@ use Rattle.datatype.specs.Table.{row_words, words_of}
 use Rattle.parser.specs.Parse.{Name, Tree, Fields, item, bare_row, field_row, scale_of, need, unit_at, length_at, time_at, interval_at, fixed_size_binary_at, stands, role_at, after_role, number_in, close_at, zone_at, timestamp_at, scale_at, decimal_at, list_name_at, field_at, default_field, list_field}
 use Rattle.parser.specs.Internal.Steps.{word_of, integer_of, extent, rows_left, Stored, Meets, Put, Closed, FieldWords, MeetsFields}
 use Rattle.parser.proofs.Stores.{further, rows_from, with_rows, left_behind, follows, in_front, alone, as_field}
-use Rattle.parser.proofs.Matched.{Read, behind, string, GotWord, GotTree, got_word, got_integer, got-tree, lost-tree, got-fields}
+use Rattle.parser.proofs.Matched.{Read, handed_on, behind, string, GotWord, GotTree, got_word, got_integer, got-tree, lost-tree, got-fields}
 
 -- ---- refusals, and rows
 
 module _ (before after : List ℕ) where
-  pub meets-refused : (o : Out Tree) (e : R.Refusal) → o ≡ refuse (number_of e) → Meets o before (Err e) after
+  pub meets-refused : (o : Out Tree) (e : ReadError) → o ≡ refused (refusal_in e) → Meets o before (Err e) after
   unfolding Meets
   meets-refused o e w = rw w refl
 
   -- a refusal is handed on
-  pub meets-lost : (o : Out Tree) (a : Read) (x : ℕ) → answer_of a ≡ refuse x → o ≡ refuse x → Meets o before a after
+  pub meets-handed : (o : Out Tree) (a : Read) (x : Refusal) → read_answer a ≡ refused x → o ≡ refused x → Meets o before a after
   unfolding Meets
-  meets-lost o a x f e = rw e f
+  meets-handed o a x f e = rw e f
 
-  pub meets-handed : (o : Out Tree) (a : Read) (e : R.Refusal) → IsErrAnd a (λ y. y ≡ e) → o ≡ refuse (number_of e) → Meets o before a after
-  meets-handed o a e h w = meets-lost o a (number_of e) (handed_on a e h) w
+  pub meets-lost : (o : Out Tree) (a : Read) (e : ReadError) → IsErrAnd a (λ y. y ≡ e) → o ≡ refused (refusal_in e) → Meets o before a after
+  meets-lost o a e h w = meets-handed o a (refusal_in e) (handed_on a e h) w
 
   pub meets-done : (o : Out Tree) (r : Row) (kids : Forest Row) (n k : ℕ) → o ≡ done (record { row = r; kids = kids; next = n }) → k ≡ suc (count kids)
       → Stored (node r kids ∅) before after → Meets o before (Ok (extent n k)) after
@@ -59,9 +59,9 @@ module _ (before after : List ℕ) where
   meets-further (done t) a rest m = (m.0, further (node t.row t.kids ∅) before after m.1 rest)
 
 module _ (used : ℕ) (r : Row) (row : List ℕ) (o : Out Standing) where
-  pub closed-lost : (a : Read) (e : R.Refusal) → IsErrAnd a (λ y. y ≡ e) → o ≡ refuse (number_of e) → Closed o used r a row
+  pub closed-lost : (a : Read) (x : Refusal) → read_answer a ≡ refused x → o ≡ refused x → Closed o used r a row
   unfolding Closed
-  closed-lost a e h w = rw w (handed_on a e h)
+  closed-lost a x h w = rw w h
 
   pub closed-done : (a : Extent) (t : Standing) (n : ℕ) → o ≡ done (behind t n) → Put n used r a row → Closed o used r (Ok a) row
   unfolding Closed
@@ -116,17 +116,17 @@ pair_stored o₁ o₂ n m used k before mid sub g h =
 -- ---- types without children
 
 module _ (text : List ℕ) (k at : ℕ) where
-  pub timestamp-1 : (x : ℕ) → need text lparen at ≡ refuse x → timestamp_at text k at ≡ refuse x
+  pub timestamp-1 : (x : Refusal) → need text lparen at ≡ refused x → timestamp_at text k at ≡ refused x
   unfolding timestamp_at
   timestamp-1 x e = rw e refl
 
-  pub decimal-1 : (x : ℕ) → need text lparen at ≡ refuse x → decimal_at text k at ≡ refuse x
+  pub decimal-1 : (x : Refusal) → need text lparen at ≡ refused x → decimal_at text k at ≡ refused x
   unfolding decimal_at
   decimal-1 x e = rw e refl
 
   module _ (p : Standing) (a : ℕ) (e : need text lparen at ≡ done (behind p a)) where
     -- Timestamp
-    pub timestamp-2 : (x : ℕ) → need text time_unit a ≡ refuse x → timestamp_at text k at ≡ refuse x
+    pub timestamp-2 : (x : Refusal) → need text time_unit a ≡ refused x → timestamp_at text k at ≡ refused x
     unfolding timestamp_at
     timestamp-2 x f = rw (e, f) refl
 
@@ -134,7 +134,7 @@ module _ (text : List ℕ) (k at : ℕ) where
       g : GotWord (need text time_unit a) u.value u.next
       g = got_word (need text time_unit a) u h
 
-      pub timestamp-3 : (x : ℕ) → zone_at text u.next ≡ refuse x → timestamp_at text k at ≡ refuse x
+      pub timestamp-3 : (x : Refusal) → zone_at text u.next ≡ refused x → timestamp_at text k at ≡ refused x
       unfolding timestamp_at
       timestamp-3 x f = rw (e, g.is, f) refl
 
@@ -146,7 +146,7 @@ module _ (text : List ℕ) (k at : ℕ) where
           → Meets (timestamp_at text k at) row (Ok r) row₂
       timestamp-5 s l n row row₂ r i f w = meets-put row row₂ (timestamp_at text k at) (bare_row k u.value 0 s l) ∅ n 0 r row₂ (timestamp-4 s l n f) refl w (alone (bare_row k u.value 0 s l) row row₂ i)
 
-    pub decimal-2 : (x : ℕ) → number_in text 0 255 a ≡ refuse x → decimal_at text k at ≡ refuse x
+    pub decimal-2 : (x : Refusal) → number_in text 0 255 a ≡ refused x → decimal_at text k at ≡ refused x
     unfolding decimal_at
     decimal-2 x f = rw (e, f) refl
 
@@ -154,7 +154,7 @@ module _ (text : List ℕ) (k at : ℕ) where
       precision : GotWord (number_in text 0 255 a) n.value n.next
       precision = got_word (number_in text 0 255 a) n i
 
-      pub decimal-3 : (x : ℕ) → need text comma n.next ≡ refuse x → decimal_at text k at ≡ refuse x
+      pub decimal-3 : (x : Refusal) → need text comma n.next ≡ refused x → decimal_at text k at ≡ refused x
       unfolding decimal_at
       decimal-3 x f = rw (e, precision.is, f) refl
 
@@ -167,11 +167,11 @@ abbrev pub value_at : List ℕ → (ℕ → Out Standing) → ℕ → ℕ → Ou
 value_at text value k at = need text lparen at >>= (λ p. value p.next >>= (λ v. close_at text (bare_row k (value_of v.kind) 0 0 0) ∅ v.next))
 
 module _ (text : List ℕ) (value : ℕ → Out Standing) (k at : ℕ) where
-  pub value-1 : (x : ℕ) → need text lparen at ≡ refuse x → value_at text value k at ≡ refuse x
+  pub value-1 : (x : Refusal) → need text lparen at ≡ refused x → value_at text value k at ≡ refused x
   value-1 x e = rw e refl
 
   module _ (p : Standing) (a : ℕ) (e : need text lparen at ≡ done (behind p a)) where
-    pub value-2 : (x : ℕ) → value a ≡ refuse x → value_at text value k at ≡ refuse x
+    pub value-2 : (x : Refusal) → value a ≡ refused x → value_at text value k at ≡ refused x
     value-2 x f = rw (e, f) refl
 
     pub value-3 : (v : ReadValue ℕ) (row row₂ : List ℕ) (r : Read) → length row ≡ row_words → done v ≡ word_of (value a) → Closed (need text rparen v.next) 0 (bare_row k v.value 0 0 0) r row₂ → Meets (value_at text value k at) row r row₂
@@ -193,7 +193,7 @@ module _ (text : List ℕ) (k at : ℕ) (p : Standing) (a : ℕ) (e : need text 
 
 -- a decimal's scale
 module _ (text : List ℕ) (k v at : ℕ) where
-  pub scale-1 : (x : ℕ) → number_in text 128 127 at ≡ refuse x → scale_at text k v at ≡ refuse x
+  pub scale-1 : (x : Refusal) → number_in text 128 127 at ≡ refused x → scale_at text k v at ≡ refused x
   unfolding scale_at
   scale-1 x e = rw e refl
 
@@ -202,15 +202,15 @@ module _ (text : List ℕ) (k v at : ℕ) where
     abbrev closed : Out Tree
     closed = close_at text (bare_row k v scale 0 0) ∅ n.next
 
-    scaled : scale_at text k v at ≡ (closed >>= (λ t. if decimal_fits k v scale then done t else refuse 12))
+    scaled : scale_at text k v at ≡ (closed >>= (λ t. if decimal_fits k v scale then done t else refuse_at 12 (t.next - 1)))
     unfolding scale_at
     scaled =
         let g = got_integer (number_in text 128 127 at) n i in
         let s = w ∙ scale-is _ n.value n.next g in
         rw (g.is, ← s) refl
 
-    pub scale-2 : (x : R.Refusal) (b : Read) → Closed (need text rparen n.next) 0 (bare_row k v scale 0 0) (Err x) row₂ → IsErrAnd b (λ y. y ≡ x) → Meets (scale_at text k v at) row b row₂
-    scale-2 x b c h = meets-handed row row₂ (scale_at text k v at) b x h (scaled ∙ rw (lost-tree row row₂ closed x (closes-alone text (bare_row k v scale 0 0) n.next row row₂ (Err x) l c)))
+    pub scale-2 : (x : ReadError) (b : Read) → Closed (need text rparen n.next) 0 (bare_row k v scale 0 0) (Err x) row₂ → IsErrAnd b (λ y. y ≡ x) → Meets (scale_at text k v at) row b row₂
+    scale-2 x b c h = meets-handed row row₂ (scale_at text k v at) b (refusal_in x) (handed_on b x h) (scaled ∙ rw (lost-tree row row₂ closed x (closes-alone text (bare_row k v scale 0 0) n.next row row₂ (Err x) l c)))
 
     module _ (e : Extent) (c : Closed (need text rparen n.next) 0 (bare_row k v scale 0 0) (Ok e) row₂) where
       tree : GotTree closed e.next e.used row row₂
@@ -219,25 +219,26 @@ module _ (text : List ℕ) (k v at : ℕ) where
       pub scale-3 : (fit : Bool) → fit ≡ decimal_fits k v scale → fit ≡ true → Meets (scale_at text k v at) row (Ok e) row₂
       scale-3 fit q z = meets-done row row₂ (scale_at text k v at) tree.row tree.kids e.next e.used (scaled ∙ rw (tree.is, ← q, z)) tree.rows tree.stored
 
-      pub scale-4 : (fit : Bool) → fit ≡ decimal_fits k v scale → fit ≡ false → Meets (scale_at text k v at) row (Err WrongDecimal) row₂
-      scale-4 fit q z = meets-refused row row₂ (scale_at text k v at) WrongDecimal (scaled ∙ rw (tree.is, ← q, z))
+      pub scale-4 : (fit : Bool) → fit ≡ decimal_fits k v scale → fit ≡ false → (place : ℕ) → place ≡ e.next - 1 → Meets (scale_at text k v at) row (Err (record { place = place; refusal = WrongDecimal })) row₂
+      unfolding refusal_in
+      scale-4 fit q z place i = meets-refused row row₂ (scale_at text k v at) (record { place = place; refusal = WrongDecimal }) (scaled ∙ rw (tree.is, ← q, z, i) refl)
 
 -- ---- fields
 
 module _ (text : List ℕ) (type : ℕ → ℕ → Out Tree) where
   -- "name": [nullability] type
   module _ (id at left : ℕ) where
-    pub field-1 : (x : ℕ) → need text double_quoted at ≡ refuse x → field_at text type id at left ≡ refuse x
+    pub field-1 : (x : Refusal) → need text double_quoted at ≡ refused x → field_at text type id at left ≡ refused x
     unfolding field_at
     field-1 x e = rw e refl
 
     module _ (q : Out TokenKind) (s l b : ℕ) (e : need text double_quoted at ≡ done (string q s l b)) where
-      pub field-2 : (x : ℕ) → need text colon b ≡ refuse x → field_at text type id at left ≡ refuse x
+      pub field-2 : (x : Refusal) → need text colon b ≡ refused x → field_at text type id at left ≡ refused x
       unfolding field_at
       field-2 x f = rw (e, f) refl
 
       module _ (c : Standing) (d role next : ℕ) (f : need text colon b ≡ done (behind c d)) (ro : role ≡ role_at text d) (ne : next ≡ after_role text d) where
-        pub field-3 : (x : ℕ) → type next left ≡ refuse x → field_at text type id at left ≡ refuse x
+        pub field-3 : (x : Refusal) → type next left ≡ refused x → field_at text type id at left ≡ refused x
         unfolding field_at
         field-3 x g = rw (e, f, ← ne, g) refl
 
@@ -260,7 +261,7 @@ module _ (text : List ℕ) (type : ℕ → ℕ → Out Tree) where
 
   -- [nullability] type, as a field of a name of the name list
   module _ (name : Name) (at left role next : ℕ) (ro : role ≡ role_at text at) (ne : next ≡ after_role text at) where
-    pub default-1 : (x : ℕ) → type next left ≡ refuse x → default_field text type name at left ≡ refuse x
+    pub default-1 : (x : Refusal) → type next left ≡ refused x → default_field text type name at left ≡ refused x
     unfolding default_field
     default-1 x g = rw (← ne, g) refl
 
@@ -280,7 +281,7 @@ module _ (text : List ℕ) (type : ℕ → ℕ → Out Tree) where
 
   -- [nullability] type [, field: 'name']
   module _ (at left role next : ℕ) (ro : role ≡ role_at text at) (ne : next ≡ after_role text at) where
-    pub list-field-1 : (x : ℕ) → type next left ≡ refuse x → list_field text type at left ≡ refuse x
+    pub list-field-1 : (x : Refusal) → type next left ≡ refused x → list_field text type at left ≡ refused x
     unfolding list_field
     list-field-1 x g = rw (default-1 item at left role next ro ne x g) refl
 
@@ -294,7 +295,7 @@ module _ (text : List ℕ) (type : ℕ → ℕ → Out Tree) where
           (as_field role 0 item g.row g.kids before mid after g.stored w)
 
       module _ (c : Standing) (d : ℕ) (f : stands text comma n ≡ true) (h : need text comma n ≡ done (behind c d)) where
-        pub list-field-3 : (x : ℕ) → list_name_at text d ≡ refuse x → list_field text type at left ≡ refuse x
+        pub list-field-3 : (x : Refusal) → list_name_at text d ≡ refused x → list_field text type at left ≡ refused x
         unfolding list_field
         list-field-3 x y = rw (default-is item at left role next ro ne n k before mid g, f, h, y) refl
 
@@ -309,12 +310,12 @@ module _ (text : List ℕ) (type : ℕ → ℕ → Out Tree) where
 
 -- field: 'name'
 module _ (text : List ℕ) (at : ℕ) where
-  pub name-1 : (x : ℕ) → need text field_word at ≡ refuse x → list_name_at text at ≡ refuse x
+  pub name-1 : (x : Refusal) → need text field_word at ≡ refused x → list_name_at text at ≡ refused x
   unfolding list_name_at
   name-1 x e = rw e refl
 
   module _ (f : Standing) (a : ℕ) (e : need text field_word at ≡ done (behind f a)) where
-    pub name-2 : (x : ℕ) → need text colon a ≡ refuse x → list_name_at text at ≡ refuse x
+    pub name-2 : (x : Refusal) → need text colon a ≡ refused x → list_name_at text at ≡ refused x
     unfolding list_name_at
     name-2 x g = rw (e, g) refl
 

@@ -174,6 +174,10 @@ module _ (r : Row) (kids : Forest Row) (before after : List ℕ) (s : Stored (no
       s.rows ∙ ap (λ (l : List ℕ). l ++ drop (row_words * count (node r kids ∅)) before) (table_one r kids)
       ∙ append_assoc (words_of r (suc (count kids))) (table_of kids) (drop (row_words * count (node r kids ∅)) before)
 
+  pub kind_said : get_or after 0 0 ≡ r.kind
+  unfolding words_of
+  kind_said = ap (λ (l : List ℕ). get_or l 0 0) first_row
+
   pub role_said : get_or after 2 0 ≡ r.role
   unfolding words_of
   role_said = ap (λ (l : List ℕ). get_or l 2 0) first_row

@@ -9,23 +9,23 @@ use lib.ListN.{get_or}
 use lib.IntN.{ℤ}
 use lib.Dec.{T, eqb}
 use borrow.Author.Tests.{eq-eqb, ne_eqb}
-use Rattle.tokenizer.specs.Answer.{Out, done, refuse, number_of, answer_of}
+use Rattle.tokenizer.specs.Answer.{Refusal, Out, refused, done, refuse_at}
 use Rattle.tokenizer.specs.Places.{after_spaces, next_byte}
-use Rattle.tokenizer.specs.Token.{Standing, token, token_at, token_or_refusal, sort_of, value_of, is_negative, signed, is_below_zero, no_token, integer, type_word, time_unit, interval_unit, union_mode, map_sorted, nullability}
+use Rattle.tokenizer.specs.Token.{Standing, token, token_at, sort_of, value_of, is_negative, signed, is_below_zero, no_token, integer, type_word, time_unit, interval_unit, union_mode, map_sorted, nullability}
 use Rattle.tokenizer.specs.declared.Token.{Token}
 use Rattle.tokenizer.specs.declared.TokenKind.{TokenKind}
 use Rattle.tokenizer.specs.declared.TokenKind.TheVariants as K
 use Rattle.tokenizer.proofs.Marks as Marks
 use Rattle.tokenizer.proofs.Basics.{of_true}
 use Rattle.tokenizer.proofs.NextByte.{byte-here, byte-not}
-use Rattle.parser.specs.Parse.{refusal_of, need, stands, role_at, after_role}
-use Rattle.parser.specs.Internal.Steps.{mark_sort, is_mark, next_of, look_of, word_of, integer_of, span_of}
+use Rattle.parser.specs.Answer.{refusal_in, read_answer}
+use Rattle.parser.specs.declared.error.ReadError.{ReadError}
+use Rattle.parser.specs.Parse.{refusal_of, place_at, need, stands, role_at, after_role}
+use Rattle.parser.specs.Internal.Steps.{taken, refused_here, mark_sort, is_mark, next_of, look_of, word_of, integer_of, span_of}
 use Rattle.parser.specs.declared.ReadValue.{ReadValue}
 use Rattle.parser.specs.declared.Span.{Span}
 use Rattle.std.specs.Prelude.{Result}
-use Rattle.std.specs.Result.{IsErrAnd}
-use Rattle.tokenizer.specs.declared.refusal.Refusal as R
-use Rattle.parser.proofs.Matched.{standing, got_token, lost_token, handed}
+use Rattle.parser.proofs.Matched.{standing, unexpected, got_token, lost_token, handed}
 use Rattle.parser.proofs.Looks.{need-is, need-not}
 
 -- ---- kinds and their sorts
@@ -48,9 +48,27 @@ told k = grind (arith, signed_back)
 pub other_sort : (sort : ℕ) (k : TokenKind) → (k ≡ of_sort k sort → ⊥) → eqb (sort_of (done k)) sort ≡ false
 other_sort sort k n = ne_eqb (sort_of (done k)) sort (λ e. n (told k ∙ ap (of_sort k) e))
 
--- a token of another sort is refused with 9
+-- a token of another sort is refused with 9, where it begins
 pub nine : (k : TokenKind) → refusal_of (done k) ≡ 9
 nine k = grind arith
+
+pub refused-there : (text : List ℕ) (at : ℕ) (t : Token) (e : done t ≡ taken (token_at text at)) (err : ReadError) → err ≡ unexpected t
+    → ◌≡◌ {A = Out Standing} (refuse_at (refusal_of (token_at text at).kind) (place_at text at)) (refused (refusal_in err))
+unfolding place_at refusal_in
+refused-there text at t e err q = rw (got_token (token_at text at) t e, nine t.kind, q) refl
+
+pub refused-none : (text : List ℕ) (at : ℕ) (x : Refusal) (e : refused x ≡ taken (token_at text at))
+    → ◌≡◌ {A = Out Standing} (refuse_at (refusal_of (token_at text at).kind) (place_at text at)) (refused x)
+unfolding place_at
+refused-none text at x e = let l = lost_token (token_at text at) x e in rw (l.is, l.none) refl
+
+-- what is refused where a mark is needed
+pub unexpected_is : (text : List ℕ) (at : ℕ) (t : Token) → done t ≡ taken (token_at text at) → (err : ReadError) → err ≡ unexpected t → refusal_in err ≡ refused_here (token_at text at)
+unfolding refusal_in
+unexpected_is text at t e err q = rw (got_token (token_at text at) t e, nine t.kind, q) refl
+
+pub none_is : (text : List ℕ) (at : ℕ) (err : ReadError) → refused (refusal_in err) ≡ taken (token_at text at) → refusal_in err ≡ refused_here (token_at text at)
+none_is text at err e = let l = lost_token (token_at text at) (refusal_in err) e in rw (l.is, l.none) refl
 
 -- ---- one token, taken or refused
 
@@ -58,17 +76,17 @@ module _ (text : List ℕ) (sort at : ℕ) (t : Standing) (e : t ≡ token_at te
   pub here : sort_of t.kind ≡ sort → need text sort at ≡ done t
   here s = need-is text sort at (eq-eqb _ sort (sym (ap (λ (x : Standing). sort_of x.kind) e) ∙ s)) ∙ ap done (sym e)
 
-  pub not-here : eqb (sort_of t.kind) sort ≡ false → need text sort at ≡ refuse (refusal_of t.kind)
-  not-here s = need-not text sort at (sym (ap (λ (x : Standing). eqb (sort_of x.kind) sort) e) ∙ s) ∙ ap (λ (x : Standing). refuse (refusal_of x.kind)) (sym e)
+  pub not-here : eqb (sort_of t.kind) sort ≡ false → need text sort at ≡ refuse_at (refusal_of (token_at text at).kind) (place_at text at)
+  not-here s = need-not text sort at (sym (ap (λ (x : Standing). eqb (sort_of x.kind) sort) e) ∙ s)
 
 -- the token that was read, where it is of the sort
-module _ (text : List ℕ) (sort at : ℕ) (t : Token) (e : done t ≡ token_or_refusal (token_at text at)) where
-  taken : sort_of (done t.kind) ≡ sort → need text sort at ≡ done (standing t)
-  taken s = here text sort at (standing t) (sym (got_token (token_at text at) t e)) s
+module _ (text : List ℕ) (sort at : ℕ) (t : Token) (e : done t ≡ taken (token_at text at)) where
+  got : sort_of (done t.kind) ≡ sort → need text sort at ≡ done (standing t)
+  got s = here text sort at (standing t) (sym (got_token (token_at text at) t e)) s
 
   word-here : (k : TokenKind) (v : ℕ) → t.kind ≡ k → sort_of (done k) ≡ sort → value_of (done k) ≡ v → ◌≡◌ {A = Out (ReadValue ℕ)} (done (record { value = v; next = t.next })) (word_of (need text sort at))
   unfolding word_of
-  word-here k v q s w = rw (taken (ap (λ (x : TokenKind). sort_of (done x)) q ∙ s), q, w)
+  word-here k v q s w = rw (got (ap (λ (x : TokenKind). sort_of (done x)) q ∙ s), q, w)
 
   module _ (q : t.kind ≡ of_sort t.kind sort) (s : sort_of (done (of_sort t.kind sort)) ≡ sort) where
     same_sort : sort_of (done t.kind) ≡ sort
@@ -76,15 +94,15 @@ module _ (text : List ℕ) (sort at : ℕ) (t : Token) (e : done t ≡ token_or_
 
     pub span-here : ◌≡◌ {A = Out Span} (done (record { start = t.start; size = t.size; next = t.next })) (span_of (need text sort at))
     unfolding span_of
-    span-here = rw (taken same_sort)
+    span-here = rw (got same_sort)
 
     pub next-here : done t.next ≡ next_of (need text sort at)
     unfolding next_of
-    next-here = rw (taken same_sort)
+    next-here = rw (got same_sort)
 
     pub look-here : Some t.next ≡ look_of (need text sort at)
     unfolding look_of
-    look-here = rw (taken same_sort)
+    look-here = rw (got same_sort)
 
     pub stands_here : true ≡ stands text sort at
     unfolding stands
@@ -92,17 +110,15 @@ module _ (text : List ℕ) (sort at : ℕ) (t : Token) (e : done t ≡ token_or_
 
   -- and where it is of another
   module _ (n : t.kind ≡ of_sort t.kind sort → ⊥) where
-    pub gone : need text sort at ≡ refuse 9
-    gone =
-        not-here text sort at (standing t) (sym (got_token (token_at text at) t e)) (other_sort sort t.kind n)
-        ∙ ap (λ (n : ℕ). refuse n) (nine t.kind)
+    pub gone : (err : ReadError) → err ≡ unexpected t → need text sort at ≡ refused (refusal_in err)
+    gone err q = not-here text sort at (standing t) (sym (got_token (token_at text at) t e)) (other_sort sort t.kind n) ∙ refused-there text at t e err q
 
     pub stands-gone : false ≡ stands text sort at
     unfolding stands
     stands-gone = sym (ap (λ (x : Standing). eqb (sort_of x.kind) sort) (got_token (token_at text at) t e) ∙ other_sort sort t.kind n)
 
 -- the words, each of its sort
-module _ (text : List ℕ) (at : ℕ) (t : Token) (e : done t ≡ token_or_refusal (token_at text at)) (v : ℕ) where
+module _ (text : List ℕ) (at : ℕ) (t : Token) (e : done t ≡ taken (token_at text at)) (v : ℕ) where
   abbrev read_word : Out (ReadValue ℕ)
   read_word = done (record { value = v; next = t.next })
 
@@ -122,12 +138,12 @@ module _ (text : List ℕ) (at : ℕ) (t : Token) (e : done t ≡ token_or_refus
   map-sorted-here q = word-here text map_sorted at t e (K.MapSorted v) v q refl refl
 
 -- where no token was read
-module _ (text : List ℕ) (sort at : ℕ) (n : eqb no_token sort ≡ false) (x : ℕ) (e : refuse x ≡ token_or_refusal (token_at text at)) where
+module _ (text : List ℕ) (sort at : ℕ) (n : eqb no_token sort ≡ false) (x : Refusal) (e : refused x ≡ taken (token_at text at)) where
   not-there : eqb (sort_of (token_at text at).kind) sort ≡ false
-  not-there = ap (λ (k : Out TokenKind). eqb (sort_of k) sort) (lost_token (token_at text at) x e) ∙ n
+  not-there = ap (λ (s : ℕ). eqb s sort) (lost_token (token_at text at) x e).none ∙ n
 
-  pub lost : need text sort at ≡ refuse x
-  lost = need-not text sort at not-there ∙ ap (λ (k : Out TokenKind). refuse (refusal_of k)) (lost_token (token_at text at) x e)
+  pub lost : need text sort at ≡ refused x
+  lost = need-not text sort at not-there ∙ refused-none text at x e
 
   pub stands-lost : false ≡ stands text sort at
   unfolding stands
@@ -139,33 +155,33 @@ unfolding look_of stands
 look-not text sort at e = rw (need-not text sort at (sym e))
 
 -- a refusal of what is needed
-module _ (o : Out Standing) (x : ℕ) (e : o ≡ refuse x) where
-  pub next-refused : refuse x ≡ next_of o
+module _ (o : Out Standing) (x : Refusal) (e : o ≡ refused x) where
+  pub next-refused : refused x ≡ next_of o
   unfolding next_of
   next-refused = rw e
 
-  pub word-refused : refuse x ≡ word_of o
+  pub word-refused : refused x ≡ word_of o
   unfolding word_of
   word-refused = rw e
 
-  pub span-refused : refuse x ≡ span_of o
+  pub span-refused : refused x ≡ span_of o
   unfolding span_of
   span-refused = rw e
 
-  pub integer-refused : refuse x ≡ integer_of o
+  pub integer-refused : refused x ≡ integer_of o
   unfolding integer_of
   integer-refused = rw e
 
 -- what `?` hands on, where a token is needed
-pub word_lost : (text : List ℕ) (sort at : ℕ) (r : Result (ReadValue ℕ) R.Refusal) (e : R.Refusal) → eqb no_token sort ≡ false → refuse (number_of e) ≡ token_or_refusal (token_at text at) → IsErrAnd r (λ y. y ≡ e) → answer_of r ≡ word_of (need text sort at)
-word_lost text sort at r e n t h = handed (word_of (need text sort at)) r e h (word-refused (need text sort at) (number_of e) (lost text sort at n (number_of e) t))
+pub word_lost : (text : List ℕ) (sort at : ℕ) (r : Result (ReadValue ℕ) ReadError) (x : Refusal) → eqb no_token sort ≡ false → refused x ≡ taken (token_at text at) → read_answer r ≡ refused x → read_answer r ≡ word_of (need text sort at)
+word_lost text sort at r x n t h = handed (word_of (need text sort at)) r x h (word-refused (need text sort at) x (lost text sort at n x t))
 
 -- ---- numbers
 
-module _ (text : List ℕ) (at : ℕ) (t : Token) (e : done t ≡ token_or_refusal (token_at text at)) (z : ℤ) (k : t.kind ≡ K.Integer z) where
+module _ (text : List ℕ) (at : ℕ) (t : Token) (e : done t ≡ taken (token_at text at)) (z : ℤ) (k : t.kind ≡ K.Integer z) where
   pub integer-found : done (record { value = z; next = t.next }) ≡ integer_of (need text integer at)
   unfolding integer_of
-  integer-found = rw (taken text integer at t e (ap (λ (x : TokenKind). sort_of (done x)) k), k, signed_back z)
+  integer-found = rw (got text integer at t e (ap (λ (x : TokenKind). sort_of (done x)) k), k, signed_back z)
 
 -- ---- marks, by the first byte that is no space
 
@@ -195,18 +211,16 @@ module _ (text : List ℕ) (at mark : ℕ) (m : is_mark mark ≡ true) where
 
   -- where another byte stands, its token is refused, or its own refusal is handed on
   module _ (h : None ≡ next_byte text at mark) where
-    other : need text (mark_sort mark) at ≡ refuse (refusal_of (token_at text at).kind)
+    other : need text (mark_sort mark) at ≡ refuse_at (refusal_of (token_at text at).kind) (place_at text at)
     other =
         need-not text (mark_sort mark) at
         (Marks.marks (λ (x : ℕ). (get_or text (after_spaces text at) 0 ≡ x → ⊥) → eqb (sort_of (token_at text at).kind) (mark_sort x) ≡ false)
         (Marks.no-lparen text at) (Marks.no-rparen text at) (Marks.no-comma text at) (Marks.no-colon text at) mark (of_true (is_mark mark) m)
         (byte-not text at mark h (mark_more mark (of_true (is_mark mark) m))))
 
-    pub expect-lost : (x : ℕ) → refuse x ≡ token_or_refusal (token_at text at) → need text (mark_sort mark) at ≡ refuse x
-    expect-lost x e = other ∙ ap (λ (k : Out TokenKind). refuse (refusal_of k)) (lost_token (token_at text at) x e)
-
-    pub expect-other : (t : Token) → done t ≡ token_or_refusal (token_at text at) → need text (mark_sort mark) at ≡ refuse 9
-    expect-other t e = other ∙ ap (λ (s : Standing). refuse (refusal_of s.kind)) (got_token (token_at text at) t e) ∙ ap (λ (n : ℕ). refuse n) (nine t.kind)
+    pub expect-refused : (err : ReadError) → refusal_in err ≡ refused_here (token_at text at) → refused (refusal_in err) ≡ next_of (need text (mark_sort mark) at)
+    unfolding next_of place_at
+    expect-refused err e = rw (other, e)
 
     look-other : None ≡ look_of (need text (mark_sort mark) at)
     unfolding look_of
@@ -236,7 +250,7 @@ module _ (text : List ℕ) (at : ℕ) where
   unfolding stands
   null-other h = sym (Marks.no-nullability text at (byte-not text at 110 h (omega arith)))
 
-  module _ (t : Token) (e : done t ≡ token_or_refusal (token_at text at)) where
+  module _ (t : Token) (e : done t ≡ taken (token_at text at)) where
     pub null-not : ((r : ℕ) → t.kind ≡ K.Nullability r → ⊥) → false ≡ stands text nullability at
     null-not n = stands-gone text nullability at t e (n _)
 

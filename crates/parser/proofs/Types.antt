@@ -8,7 +8,10 @@ use lib.ListN.{length, take, drop}
 use lib.Seq.{length-take-le}
 use Rattle.std.proofs.lemmas.List.{take-append-drop}
 use Rattle.std.specs.Prelude.{Ok, Some, None, if◌then◌else◌}
-use Rattle.tokenizer.specs.Answer.{Refusal, Out, refused, done, refuse}
+use Rattle.tokenizer.specs.Answer.{Refusal, Out, refused, done, refuse_at}
+use Rattle.tokenizer.specs.declared.refusal.Refusal.TheVariants.{TooDeep, TooManyRows, WrongUnionId}
+use Rattle.parser.specs.Answer.{refusal_in}
+use Rattle.parser.specs.declared.error.ReadError.{ReadError}
 use Rattle.tokenizer.specs.Token.{Standing, lparen, rparen, comma, union_mode, type_word}
 use Rattle.std.proofs.lemmas.Bool.Decides.{nat_tests}
 use Rattle.datatype.proofs.KindShapes.{shape_by}
@@ -20,8 +23,8 @@ use Rattle.parser.specs.Internal.Steps.{next_of, look_of, word_of, extent, rows_
 use Rattle.parser.specs.declared.Extent.{Extent}
 use Rattle.parser.specs.declared.ReadValue.{ReadValue}
 use Rattle.parser.proofs.Stores.{rows_from, with_rows, in_front, alone}
-use Rattle.parser.proofs.Matched.{Read, behind, GotTree, got_look, got_next, got_word, lost_look, lost_next}
-use Rattle.parser.proofs.Readers.{meets-lost, meets-put, meets-further}
+use Rattle.parser.proofs.Matched.{Read, error_at, behind, GotTree, got_look, got_next, got_word, lost_look, lost_next}
+use Rattle.parser.proofs.Readers.{meets-handed, meets-put, meets-further}
 use Rattle.subtrees.specs.UnionFields.{type_ids_fit}
 use Rattle.parser.proofs.Entries.{ids-read}
 use Rattle.parser.proofs.FieldLaws.{struct-end, struct-field-1, struct_more, struct-last, union-end, union-open, union-lost, union_more}
@@ -34,15 +37,15 @@ fronted o r kids n used row row₂ before mid a l e s u w =
     meets-put (row ++ before) (row₂ ++ mid) o r kids n used a row₂ e u w (in_front r kids row row₂ before mid (used + 1) l s (omega arith))
 
 module _ (text : List ℕ) (type : ℕ → ℕ → Out Tree) (k at left : ℕ) where
-  pub struct-1 : (x : ℕ) → need text lparen at ≡ refuse x → struct_at text type k at left ≡ refuse x
+  pub struct-1 : (x : Refusal) → need text lparen at ≡ refused x → struct_at text type k at left ≡ refused x
   unfolding struct_at
   struct-1 x e = rw e refl
 
-  pub union-at-1 : (x : ℕ) → need text lparen at ≡ refuse x → union_at text type k at left ≡ refuse x
+  pub union-at-1 : (x : Refusal) → need text lparen at ≡ refused x → union_at text type k at left ≡ refused x
   unfolding union_at
   union-at-1 x e = rw e refl
 
-  pub union-at-2 : (p : Standing) (b : ℕ) → need text lparen at ≡ done (behind p b) → (x : ℕ) → need text union_mode b ≡ refuse x → union_at text type k at left ≡ refuse x
+  pub union-at-2 : (p : Standing) (b : ℕ) → need text lparen at ≡ done (behind p b) → (x : Refusal) → need text union_mode b ≡ refused x → union_at text type k at left ≡ refused x
   unfolding union_at
   union-at-2 p b e x f = rw (e, f) refl
 
@@ -73,7 +76,7 @@ module _ (text : List ℕ) (type : ℕ → ℕ → Out Tree) (k at : ℕ) (befor
 
     -- no mark closes the fields
     module _ (s : Refusal) (z : need text rparen next ≡ refused s) where
-      pub struct-2 : (x : ℕ) → field_at text type 0 next struct_left ≡ refuse x → struct_type ≡ refuse x
+      pub struct-2 : (x : Refusal) → field_at text type 0 next struct_left ≡ refused x → struct_type ≡ refused x
       struct-2 x f = loop-lost _ _ _ before now next used l x (struct-field-1 text type next struct_left s z x f)
 
       module _ (n more : ℕ) (sub : List ℕ) (g : GotTree (field_at text type 0 next struct_left) n more (rows_from used now) sub) where
@@ -88,8 +91,8 @@ module _ (text : List ℕ) (type : ℕ → ℕ → Out Tree) (k at : ℕ) (befor
           where
             go : (o : Out Standing) → need text rparen n ≡ o → Closed o (used + more) (bare_row k 0 0 0 0) a row₂ → Meets struct_type (row ++ before) a (row₂ ++ with_rows used now sub)
             go (refused x) e h =
-                meets-lost (row ++ before) (row₂ ++ with_rows used now sub) struct_type a x.number h
-                (loop-lost _ _ _ before now next used l x.number (struct-last text type next struct_left s z n more (rows_from used now) sub g t y ∙ rw e refl))
+                meets-handed (row ++ before) (row₂ ++ with_rows used now sub) struct_type a x h
+                (loop-lost _ _ _ before now next used l x (struct-last text type next struct_left s z n more (rows_from used now) sub g t y ∙ rw e refl))
             go (done c) e h =
                 subst (λ (x : Read). Meets struct_type (row ++ before) x (row₂ ++ with_rows used now sub)) (sym h.0)
                 (fronted struct_type (bare_row k 0 0 0 0) (all_read _ _ _ before now next used l _ n more sub g) c.next (used + more) row row₂ before (with_rows used now sub) (extent c.next (used + more + 1)) i
@@ -98,7 +101,7 @@ module _ (text : List ℕ) (type : ℕ → ℕ → Out Tree) (k at : ℕ) (befor
 
 -- a Union before a turn
 unfoldable pub union_of : ℕ → ℕ → Fields → Out Tree
-union_of k mode fs = if ids_fit (map (λ r. r.union_id) (roots fs.trees)) then done (record { row = bare_row k mode 0 0 0; kids = fs.trees; next = fs.next }) else refuse 15
+union_of k mode fs = if ids_fit (map (λ r. r.union_id) (roots fs.trees)) then done (record { row = bare_row k mode 0 0 0; kids = fs.trees; next = fs.next }) else refuse_at 15 (fs.next - 1)
 
 abbrev pub UnionLoop : List ℕ → (ℕ → ℕ → Out Tree) → ℕ → ℕ → ℕ → List ℕ → List ℕ → ℕ → ℕ → Type 0
 UnionLoop text type k mode at before now next used = Loop (union_at text type k at (rows_left before)) (union_of k mode) (union_item text type) before now next used
@@ -123,14 +126,14 @@ module _ (text : List ℕ) (type : ℕ → ℕ → Out Tree) (k at : ℕ) (befor
       no_mark : (s : Refusal) × (need text rparen next ≡ refused s)
       no_mark = lost_look (need text rparen next) z
 
-      pub union-at-3 : (x : ℕ) → refuse x ≡ next_of (need text comma next) → union_type ≡ refuse x
+      pub union-at-3 : (x : Refusal) → refused x ≡ next_of (need text comma next) → union_type ≡ refused x
       union-at-3 x f = loop-lost _ _ _ before now next used l x (union-open text type next union_left no_mark.0 no_mark.1 x (lost_next (need text comma next) x f))
 
       module _ (d : ℕ) (e : done d ≡ next_of (need text comma next)) where
         separated : (c : Standing) × (need text comma next ≡ done (behind c d))
         separated = got_next (need text comma next) d e
 
-        pub union-at-4 : (x : ℕ) → union_field text type d union_left ≡ refuse x → union_type ≡ refuse x
+        pub union-at-4 : (x : Refusal) → union_field text type d union_left ≡ refused x → union_type ≡ refused x
         union-at-4 x g = loop-lost _ _ _ before now next used l x (union-lost text type next union_left no_mark.0 no_mark.1 separated.0 d separated.1 x g)
 
         pub union-loop : (n more : ℕ) (sub : List ℕ) → GotTree (union_field text type d union_left) n more (rows_from used now) sub → UnionLoop text type k mode at before (with_rows used now sub) n (used + more)
@@ -139,14 +142,15 @@ module _ (text : List ℕ) (type : ℕ → ℕ → Out Tree) (k at : ℕ) (befor
 
     -- the mark is there, and the ids are judged
     module _ (n : ℕ) (z : Some n ≡ look_of (need text rparen next)) (fit : Bool) (q : fit ≡ type_ids_fit now 0 used) where
-      judged : union_type ≡ (if fit then done (record { row = bare_row k mode 0 0 0; kids = l.trees; next = n }) else refuse 15)
+      judged : union_type ≡ (if fit then done (record { row = bare_row k mode 0 0 0; kids = l.trees; next = n }) else refuse_at 15 (n - 1))
       unfolding union_of
       judged =
           let c = got_look (need text rparen next) n z in
           rw (q, ids-read l.trees used before now l.stored l.counted) (loop-end _ _ _ before now next used l n (union-end text type next union_left c.0 n c.1))
 
-      pub union-at-5 : fit ≡ false → union_type ≡ refuse 15
-      union-at-5 e = judged ∙ rw e refl
+      pub union-at-5 : fit ≡ false → (place : ℕ) → place ≡ n - 1 → union_type ≡ refused (refusal_in (record { place = place; refusal = WrongUnionId }))
+      unfolding refusal_in
+      union-at-5 e place p = judged ∙ rw (e, p) refl
 
       pub union-at-6 : fit ≡ true → (row row₂ : List ℕ) (a : Extent) → length row ≡ row_words → Put n used (bare_row k mode 0 0 0) a row₂ → Meets union_type (row ++ before) (Ok a) (row₂ ++ now)
       union-at-6 e row row₂ a i w = fronted union_type (bare_row k mode 0 0 0) l.trees n used row row₂ before now a i (judged ∙ rw e refl) l.stored l.counted w
@@ -158,23 +162,23 @@ abbrev pub Split : List ℕ → List ℕ → List ℕ → Type 0
 Split rows row below = (row ≡ take row_words rows) × (below ≡ drop row_words rows) × (length below + row_words ≡ length rows)
 
 module _ (text : List ℕ) (level at : ℕ) where
-  pub type-deep : (left : ℕ) → level ≡ 0 → type_at text level at left ≡ refuse 3
-  unfolding type_at
-  type-deep left e = rw e refl
+  pub type-deep : (left : ℕ) → level ≡ 0 → (err : ReadError) → err ≡ error_at text at TooDeep → type_at text level at left ≡ refused (refusal_in err)
+  unfolding type_at refusal_in
+  type-deep left e err q = rw (e, q) refl
 
   module _ (deep : level ≡ 0 → ⊥) where
     down : (left : ℕ) → type_at text level at left ≡ type_with text (type_at text (level - 1)) at left
     unfolding type_at
     down left = let e : level ≡ suc (level - 1) = omega arith in ap (λ (i : ℕ). type_at text i at left) e
 
-    pub type-full : (rows : List ℕ) → length rows < row_words → type_at text level at (rows_left rows) ≡ refuse 4
-    unfolding type_with
-    type-full rows h = let e : rows_left rows ≡ 0 = omega arith in down (rows_left rows) ∙ ap (λ (i : ℕ). type_with text (type_at text (level - 1)) at i) e
+    pub type-full : (rows : List ℕ) → length rows < row_words → (err : ReadError) → err ≡ error_at text at TooManyRows → type_at text level at (rows_left rows) ≡ refused (refusal_in err)
+    unfolding type_with refusal_in
+    type-full rows h err q = let e : rows_left rows ≡ 0 = omega arith in down (rows_left rows) ∙ rw (e, q) refl
 
     one-row : (rows : List ℕ) (left : ℕ) → rows_left rows ≡ suc left → type_at text level at (rows_left rows) ≡ type_with text (type_at text (level - 1)) at (suc left)
     one-row rows left e = down (rows_left rows) ∙ ap (λ (i : ℕ). type_with text (type_at text (level - 1)) at i) e
 
-    pub type-word : (rows : List ℕ) → row_words ≤ length rows → (x : ℕ) → need text type_word at ≡ refuse x → type_at text level at (rows_left rows) ≡ refuse x
+    pub type-word : (rows : List ℕ) → row_words ≤ length rows → (x : Refusal) → need text type_word at ≡ refused x → type_at text level at (rows_left rows) ≡ refused x
     unfolding type_with
     type-word rows h x e = one-row rows (rows_left rows - 1) (omega arith) ∙ rw e refl
 

@@ -14,22 +14,25 @@ use mir.Syntax.{w8, w32, w64}
 use Rattle.std.specs.Int.{FitsUnsignedBits}
 use Rattle.std.specs.Int.RustNames.{FitsSigned}
 use Rattle.std.proofs.Common.{to_z-of_z}
-use Rattle.tokenizer.specs.Answer.{Refusal, Out, refused, done, refuse}
-use Rattle.tokenizer.specs.Token.{Standing, token_at, token_or_refusal, sort_of, is_below_zero, no_token, lparen, rparen, comma, colon, integer, double_quoted, single_quoted, field_word, time_unit, some_word, none_word}
+use Rattle.tokenizer.specs.Answer.{Refusal, Out, refused, done, refuse_at}
+use Rattle.tokenizer.specs.declared.refusal.Refusal.TheVariants.{NumberOutOfRange, WrongTimeUnit}
+use Rattle.tokenizer.specs.Token.{Standing, token_at, sort_of, is_below_zero, no_token, lparen, rparen, comma, colon, integer, double_quoted, single_quoted, field_word, time_unit, some_word, none_word}
 use Rattle.tokenizer.specs.declared.Token.{Token}
 use Rattle.tokenizer.specs.declared.TokenKind.{TokenKind}
 use Rattle.tokenizer.specs.declared.TokenKind.TheVariants as K
 use Rattle.tokenizer.proofs.Marks.{bounds}
 use Rattle.datatype.specs.Kind.{unit_fits}
-use Rattle.parser.specs.Parse.{Zone, refusal_of, need, stands, number_in, unit_at, some_zone, zone_string, zone_at, list_name_at}
-use Rattle.parser.specs.Internal.Steps.{word_of, integer_of, zone_of}
+use Rattle.parser.specs.Answer.{refusal_in}
+use Rattle.parser.specs.declared.error.ReadError.{ReadError}
+use Rattle.parser.specs.Parse.{Zone, refusal_of, place_at, need, stands, number_in, unit_at, some_zone, zone_string, zone_at, list_name_at}
+use Rattle.parser.specs.Internal.Steps.{taken, word_of, integer_of, zone_of}
 use Rattle.parser.specs.declared.ReadValue.{ReadValue}
 use Rattle.parser.specs.declared.Span.{Span}
 use Rattle.parser.proofs.Holds.{Holds, holds_bind, holds_then, holds_if}
-use Rattle.parser.proofs.Matched.{standing, got_token, got_word, got_integer, behind, string, GotWord, GotNumber}
+use Rattle.parser.proofs.Matched.{error_at, unexpected, standing, got_token, got_word, got_integer, behind, string, GotWord, GotNumber}
 use Rattle.parser.proofs.Values.{sign-is, magnitude-is, byte_in, byte_out, positive, positive_out}
 use Rattle.parser.proofs.Looks.{needed-stands, refused-stands}
-use Rattle.parser.proofs.TokenLaws.{here, nine, not-here, other_sort, word-refused}
+use Rattle.parser.proofs.TokenLaws.{gone, here, lost, other_sort, stands-lost, word-refused}
 
 -- a word and a string that were read
 abbrev pub word : ℕ → ℕ → ReadValue ℕ
@@ -41,7 +44,7 @@ span s l n = record { start = s; size = l; next = n }
 -- ---- units and lengths
 
 module _ (text : List ℕ) (k at : ℕ) where
-  pub unit-1 : (x : ℕ) → need text time_unit at ≡ refuse x → refuse x ≡ word_of (unit_at text k at)
+  pub unit-1 : (x : Refusal) → need text time_unit at ≡ refused x → refused x ≡ word_of (unit_at text k at)
   unfolding unit_at word_of
   unit-1 x e = rw e
 
@@ -53,18 +56,18 @@ module _ (text : List ℕ) (k at : ℕ) where
     unfolding unit_at word_of
     unit-2 fits w z = rw (g.is, g.value, ← w, z, g.value)
 
-    pub unit-3 : (fits : Bool) → fits ≡ unit_fits k u.value → fits ≡ false → refuse 11 ≡ word_of (unit_at text k at)
-    unfolding unit_at word_of
-    unit-3 fits w z = rw (g.is, g.value, ← w, z)
+    pub unit-3 : (fits : Bool) → fits ≡ unit_fits k u.value → fits ≡ false → (err : ReadError) → err ≡ error_at text at WrongTimeUnit → refused (refusal_in err) ≡ word_of (unit_at text k at)
+    unfolding unit_at word_of refusal_in
+    unit-3 fits w z err q = rw (g.is, g.value, ← w, z, q) refl
 
 -- a number where one is needed, and its range
 module _ (text : List ℕ) (least most at : ℕ) where
-  pub number_lost : (x : ℕ) → need text integer at ≡ refuse x → number_in text least most at ≡ refuse x
+  pub number_lost : (x : Refusal) → need text integer at ≡ refused x → number_in text least most at ≡ refused x
   unfolding number_in
   number_lost x e = rw e refl
 
   module _ (z : ℤ) (n : ℕ) (g : GotNumber (need text integer at) z n) where
-    pub number-out : (if is_below_zero z then least else most) < nat_abs z → number_in text least most at ≡ refuse 10
+    pub number-out : (if is_below_zero z then least else most) < nat_abs z → number_in text least most at ≡ refuse_at 10 (place_at text at)
     unfolding number_in
     number-out h =
         let l = lt-leb (nat_abs z) (if is_below_zero z then least else most) h in
@@ -95,8 +98,9 @@ module _ (text : List ℕ) (at : ℕ) (r : ReadValue ℤ) (h : done r ≡ intege
   got : GotNumber (need text integer at) r.value r.next
   got = got_integer (need text integer at) r h
 
-  pub byte-out : (FitsSigned w8 converted → ⊥) → number_in text 128 127 at ≡ refuse 10
-  byte-out n = number-out text 128 127 at r.value r.next got (byte_out r.value (subst (λ (x : ℤ). FitsSigned w8 x → ⊥) kept n))
+  pub byte-out : (FitsSigned w8 converted → ⊥) → (err : ReadError) → err ≡ error_at text at NumberOutOfRange → number_in text 128 127 at ≡ refused (refusal_in err)
+  unfolding refusal_in
+  byte-out n err q = rw q (number-out text 128 127 at r.value r.next got (byte_out r.value (subst (λ (x : ℤ). FitsSigned w8 x → ⊥) kept n)))
 
   pub byte-in : (v : ℤ) → FitsSigned w8 converted × (v ≡ converted) → done (record { value = to_z w8 (of_z w8 v); next = r.next }) ≡ integer_of (number_in text 128 127 at)
   byte-in v n =
@@ -105,8 +109,9 @@ module _ (text : List ℕ) (at : ℕ) (r : ReadValue ℤ) (h : done r ≡ intege
       ap (λ (x : ℤ). done (record { value = x; next = r.next })) (to_z-of_z (subst (FitsSigned w8) (sym i) f) ∙ i)
       ∙ signed-in text 128 127 at r.value r.next got (byte_in r.value f)
 
-  pub positive-out : (most : ℕ) → (FitsUnsignedBits 32 converted → ⊥) → most < 4294967296 → number_in text 0 most at ≡ refuse 10
-  positive-out most n m = number-out text 0 most at r.value r.next got (positive_out r.value most (subst (λ (x : ℤ). FitsUnsignedBits 32 x → ⊥) kept n) m)
+  pub positive-out : (most : ℕ) → (FitsUnsignedBits 32 converted → ⊥) → most < 4294967296 → (err : ReadError) → err ≡ error_at text at NumberOutOfRange → number_in text 0 most at ≡ refused (refusal_in err)
+  unfolding refusal_in
+  positive-out most n m err q = rw q (number-out text 0 most at r.value r.next got (positive_out r.value most (subst (λ (x : ℤ). FitsUnsignedBits 32 x → ⊥) kept n) m))
 
   module _ (most v : ℕ) (n : FitsUnsignedBits 32 converted × (v ≡ unsigned_abs converted)) where
     above : (is_below_zero r.value ≡ false) × (v ≡ nat_abs r.value)
@@ -114,15 +119,16 @@ module _ (text : List ℕ) (at : ℕ) (r : ReadValue ℤ) (h : done r ≡ intege
         let p = positive r.value (subst (FitsUnsignedBits 32) kept n.0) in
         (p.0, n.1 ∙ ap unsigned_abs kept ∙ sym p.1)
 
-    pub positive-large : most < v → refuse 10 ≡ word_of (number_in text 0 most at)
-    positive-large l = word-refused (number_in text 0 most at) 10 (number-out text 0 most at r.value r.next got (let a = above in grind arith))
+    pub positive-large : most < v → (err : ReadError) → err ≡ error_at text at NumberOutOfRange → refused (refusal_in err) ≡ word_of (number_in text 0 most at)
+    unfolding refusal_in
+    positive-large l err q = word-refused (number_in text 0 most at) (refusal_in err) (rw q (number-out text 0 most at r.value r.next got (let a = above in grind arith)))
 
     pub positive-in : v ≤ most → done (word v r.next) ≡ word_of (number_in text 0 most at)
     positive-in l = word-in text 0 most at r.value r.next got v above.1 (let a = above in grind arith)
 
 -- ---- zones
 
-pub zone_refused : (o : Out Zone) (x : ℕ) → o ≡ refuse x → refuse x ≡ zone_of o
+pub zone_refused : (o : Out Zone) (x : Refusal) → o ≡ refused x → refused x ≡ zone_of o
 unfolding zone_of
 zone_refused o x e = rw e
 
@@ -132,17 +138,17 @@ zone_done o s l n e = rw e
 
 module _ (text : List ℕ) (at : ℕ) where
   -- Some(string), behind the word
-  pub some-1 : (x : ℕ) → need text lparen at ≡ refuse x → some_zone text at ≡ refuse x
+  pub some-1 : (x : Refusal) → need text lparen at ≡ refused x → some_zone text at ≡ refused x
   unfolding some_zone
   some-1 x e = rw e refl
 
   module _ (p : Standing) (a : ℕ) (e : need text lparen at ≡ done (behind p a)) where
-    pub some-2 : (x : ℕ) → need text double_quoted a ≡ refuse x → some_zone text at ≡ refuse x
+    pub some-2 : (x : Refusal) → need text double_quoted a ≡ refused x → some_zone text at ≡ refused x
     unfolding some_zone
     some-2 x f = rw (e, f) refl
 
     module _ (q : Out TokenKind) (s l b : ℕ) (f : need text double_quoted a ≡ done (string q s l b)) where
-      pub some-3 : (x : ℕ) → need text rparen b ≡ refuse x → some_zone text at ≡ refuse x
+      pub some-3 : (x : Refusal) → need text rparen b ≡ refused x → some_zone text at ≡ refused x
       unfolding some_zone
       some-3 x g = rw (e, f, g) refl
 
@@ -172,19 +178,25 @@ module _ (text : List ℕ) (at : ℕ) where
     unfolding zone_string
     zone-string s = rw (stood-not none_word (rw s), stood-not some_word (rw s), here text double_quoted at t e s) refl
 
-  pub zone-lost : (x : ℕ) → (token_at text at).kind ≡ refuse x → zone_string text at ≡ refuse x
-  unfolding zone_string stands need
-  zone-lost x w = rw w refl
-
-  pub zone-other : (t : Token) → done t ≡ token_or_refusal (token_at text at) → (t.kind ≡ K.None → ⊥) → (t.kind ≡ K.Some → ⊥) → (t.kind ≡ K.DoubleQuotedString → ⊥) → zone_string text at ≡ refuse 9
+  pub zone-lost : (x : Refusal) → refused x ≡ taken (token_at text at) → zone_string text at ≡ refused x
   unfolding zone_string
-  zone-other t h n₁ n₂ n₃ =
+  zone-lost x e =
+      rw (
+        sym (stands-lost text none_word at refl x e),
+        sym (stands-lost text some_word at refl x e),
+        lost text double_quoted at refl x e,
+      ) refl
+
+  pub zone-other : (t : Token) → done t ≡ taken (token_at text at) → (t.kind ≡ K.None → ⊥) → (t.kind ≡ K.Some → ⊥) → (t.kind ≡ K.DoubleQuotedString → ⊥) → (err : ReadError) → err ≡ unexpected t
+      → zone_string text at ≡ refused (refusal_in err)
+  unfolding zone_string
+  zone-other t h n₁ n₂ n₃ err q =
       let e = sym (got_token (token_at text at) t h) in
       rw (
         stood-not (standing t) e none_word (other_sort none_word t.kind n₁),
         stood-not (standing t) e some_word (other_sort some_word t.kind n₂),
-        not-here text double_quoted at (standing t) e (other_sort double_quoted t.kind n₃),
-      ) (ap (λ (n : ℕ). refuse n) (nine t.kind))
+        gone text double_quoted at t h n₃ err q,
+      ) refl
 
   -- behind the unit
   pub zone-1 : (c : Standing) (n : ℕ) → need text rparen at ≡ done (behind c n) → zone_at text at ≡ done (record { start = 0; size = 0; next = n })
@@ -192,17 +204,17 @@ module _ (text : List ℕ) (at : ℕ) where
   zone-1 c n e = rw (needed-stands text rparen at (behind c n) e, e) refl
 
   module _ (r : Refusal) (z : need text rparen at ≡ refused r) where
-    pub zone-2 : (x : ℕ) → need text comma at ≡ refuse x → zone_at text at ≡ refuse x
+    pub zone-2 : (x : Refusal) → need text comma at ≡ refused x → zone_at text at ≡ refused x
     unfolding zone_at
     zone-2 x e = rw (refused-stands text rparen at r z, e) refl
 
     module _ (c : Standing) (a : ℕ) (e : need text comma at ≡ done (behind c a)) where
-      pub zone-3 : (x : ℕ) → zone_string text a ≡ refuse x → zone_at text at ≡ refuse x
+      pub zone-3 : (x : Refusal) → zone_string text a ≡ refused x → zone_at text at ≡ refused x
       unfolding zone_at
       zone-3 x f = rw (refused-stands text rparen at r z, e, f) refl
 
       module _ (s l b : ℕ) (f : zone_string text a ≡ done (record { start = s; size = l; next = b })) where
-        pub zone-4 : (x : ℕ) → need text rparen b ≡ refuse x → zone_at text at ≡ refuse x
+        pub zone-4 : (x : Refusal) → need text rparen b ≡ refused x → zone_at text at ≡ refused x
         unfolding zone_at
         zone-4 x g = rw (refused-stands text rparen at r z, e, f, g) refl
 
@@ -221,7 +233,7 @@ unfolding need
 need_inside text sort at z = go (eqb (sort_of (token_at text at).kind) sort) refl
   where
     go : (b : Bool) → eqb (sort_of (token_at text at).kind) sort ≡ b
-        → Holds (λ (t : Standing). Inside text t.start t.size) (if b then done (token_at text at) else refuse (refusal_of (token_at text at).kind))
+        → Holds (λ (t : Standing). Inside text t.start t.size) (if b then done (token_at text at) else refuse_at (refusal_of (token_at text at).kind) (place_at text at))
     go true e = (bounds text at).bytes (λ y. z (sym (borrow.Author.Tests.eqb-true (sort_of (token_at text at).kind) sort e) ∙ y))
     go false e = tt
 

@@ -1,12 +1,13 @@
 -- The reader (document 01, 'Types' and 'Numbers a caller may get'). A definition for each `parse_` function of the Rust.
--- A place is a number of bytes into the text. What is met first, from left to right, decides.
+-- A place is a number of bytes into the text. What is met first, from left to right, decides. A refusal's place is that of
+-- the last token taken, one that is only looked at not counting (document 02, [2]).
 use Rattle.std.specs.Prelude.{Bool, List, ◌++◌, map, ℕ, zero, suc, ◌+◌, ◌-◌, ◌%◌, ◌^◌, length, drop, replicate, leb, eqb, if◌then◌else◌}
-use Rattle.tokenizer.specs.Answer.{Out, refused, done, refuse, ◌>>=◌}
+use Rattle.tokenizer.specs.Answer.{Out, refused, done, refuse_at, ◌>>=◌}
 use Rattle.tokenizer.specs.Utf8.{is_utf8}
-use Rattle.tokenizer.specs.Token.{Standing, token_at, sort_of, value_of, is_negative, no_token, lparen, rparen, comma, colon, integer, double_quoted, single_quoted, type_word, time_unit, interval_unit, union_mode, map_sorted, nullability, field_word, some_word, none_word, x_word}
+use Rattle.tokenizer.specs.Token.{Standing, token_at, sort_of, value_of, is_negative, place_of, no_token, lparen, rparen, comma, colon, integer, double_quoted, single_quoted, type_word, time_unit, interval_unit, union_mode, map_sorted, nullability, field_word, some_word, none_word, x_word}
 use Rattle.tokenizer.specs.declared.TokenKind.{TokenKind}
 use Rattle.datatype.specs.Limits.{max_text, max_levels}
-use Rattle.datatype.specs.Kind.{Shape, leaf, timestamp, time, interval, fixed, list, fixed_list, struct, union, dictionary, decimal, mapping, run_end_encoded, shape_of, unit_fits, decimal_fits, entries_refusal, ids_fit}
+use Rattle.datatype.specs.Kind.{Shape, leaf, timestamp, time, interval, fixed, list, fixed_list, struct, union, dictionary, decimal, mapping, run_end_encoded, shape_of, is_word, unit_fits, decimal_fits, entries_refusal, ids_fit}
 use Rattle.datatype.specs.Tree.{Forest, ∅, node, count, roots, Row}
 use Rattle.datatype.specs.Table.{table_of}
 use Rattle.parser.specs.declared.Extent.{Extent}
@@ -88,7 +89,7 @@ fields_from go rows (more t next) = do
 -- Fields turn by turn. The first number falls with each field and never runs out where it is above the rows left,
 -- since each field takes a row.
 unfoldable pub items_by : (ℕ → ℕ → Out Item) → ℕ → ℕ → ℕ → Out Fields
-items_by item zero at rows = refuse 4
+items_by item zero at rows = refuse_at 4 at
 items_by item (suc most) at rows = item at rows >>= fields_from (items_by item most) rows
 
 -- ---- signed bytes
@@ -107,12 +108,24 @@ scale_of k = if is_negative k then 128 - value_of k else (128 + value_of k)
 abbrev pub refusal_of : Out TokenKind → ℕ
 refusal_of k = if eqb (sort_of k) no_token then value_of k else 9
 
+-- A refusal at the place that a token has.
+abbrev pub refuse_last : {A : Type 0} → ℕ → Out ℕ → Out A
+refuse_last n token = token >>= λ place. refuse_at n place
+
+-- The place of the mark that ends at a place.
+abbrev pub mark_before : ℕ → ℕ
+mark_before next = next - 1
+
 module _ (text : List ℕ) where
+  -- The place of the token at or behind a place: the text's length where none is left.
+  unfoldable pub place_at : ℕ → ℕ
+  place_at at = let t = token_at text at in place_of t.kind t.start
+
   -- A token of a sort is needed.
   unfoldable pub need : ℕ → ℕ → Out Standing
   need sort at =
       let t = token_at text at in
-      if eqb (sort_of t.kind) sort then done t else refuse (refusal_of t.kind)
+      if eqb (sort_of t.kind) sort then done t else refuse_at (refusal_of t.kind) (place_at at)
 
   -- A token is only looked at.
   unfoldable pub stands : ℕ → ℕ → Bool
@@ -125,11 +138,27 @@ module _ (text : List ℕ) where
   unfoldable pub after_role : ℕ → ℕ
   after_role at = if stands nullability at then (token_at text at).next else at
 
+  -- The last token taken where nullability was asked for behind a mark: the word, or that mark.
+  unfoldable pub role_place : ℕ → ℕ
+  role_place at = if stands nullability at then place_at at else mark_before at
+
+  -- The word of a field's type, which stands behind the name, the colon and nullability.
+  unfoldable pub word_place : ℕ → Out ℕ
+  word_place at = do
+    s ← need double_quoted at
+    c ← need colon s.next
+    done (place_at (after_role c.next))
+
+  -- The last token of a field whose type has a kind and ends at a place: the word where the type is no more than that, else
+  -- the mark that closes it.
+  unfoldable pub last_token : ℕ → ℕ → ℕ → Out ℕ
+  last_token at k next = if is_word k then word_place at else done (mark_before next)
+
   -- A number from -least to most; one outside is refused at the number.
   unfoldable pub number_in : ℕ → ℕ → ℕ → Out Standing
   number_in least most at = do
     t ← need integer at
-    if leb (value_of t.kind) (if is_negative t.kind then least else most) then done t else refuse 10
+    if leb (value_of t.kind) (if is_negative t.kind then least else most) then done t else refuse_at 10 (place_at at)
 
   -- A length: signed 32 bits, not negative. A precision: 0 to 255. A scale or a union id: signed 8 bits.
   abbrev pub length_at : ℕ → Out Standing
@@ -145,7 +174,7 @@ module _ (text : List ℕ) where
   unfoldable pub unit_at : ℕ → ℕ → Out Standing
   unit_at k at = do
     u ← need time_unit at
-    if unit_fits k (value_of u.kind) then done u else refuse 11
+    if unit_fits k (value_of u.kind) then done u else refuse_at 11 (place_at at)
 
   -- The mark that closes a type of a row and children.
   unfoldable pub close_at : Row → Forest Row → ℕ → Out Tree
@@ -218,7 +247,7 @@ module _ (text : List ℕ) where
   scale_at k precision at = do
     s ← signed_byte_at at
     t ← close_at (bare_row k precision (scale_of s.kind) 0 0) ∅ s.next
-    if decimal_fits k precision (scale_of s.kind) then done t else refuse 12
+    if decimal_fits k precision (scale_of s.kind) then done t else refuse_at 12 (mark_before t.next)
 
   unfoldable pub decimal_at : ℕ → ℕ → Out Tree
   decimal_at k at = do
@@ -301,7 +330,7 @@ module _ (text : List ℕ) where
     unfoldable pub named_run_ends : ℕ → ℕ → Out Fields
     named_run_ends at rows = do
       r ← field_at 0 at rows
-      s ← (if eqb r.row.role 2 then done r else refuse 13)
+      s ← (if eqb r.row.role 2 then done r else refuse_last 13 (last_token at r.row.kind r.next))
       c ← need comma s.next
       v ← field_at 0 c.next (rows - rows_in r)
       done (record { trees = pair r v; next = v.next })
@@ -314,7 +343,7 @@ module _ (text : List ℕ) where
           c ← need comma r.next
           v ← default_field values c.next (rows - rows_in r)
           done (record { trees = pair r v; next = v.next }))
-        else refuse 13
+        else refuse_at 13 (role_place at)
 
     -- Two fields if a whole double-quoted string is next, else two types.
     unfoldable pub run_end_fields : ℕ → ℕ → Out Fields
@@ -325,7 +354,7 @@ module _ (text : List ℕ) where
     entries_at at rows = do
       t ← field_at 0 at rows
       let number = entries_refusal t.row.role t.row.kind (map (λ r. r.role) (roots t.kids))
-      if eqb number 0 then done t else refuse number
+      if eqb number 0 then done t else refuse_last number (last_token at t.row.kind t.next)
 
     -- FixedSizeList's child behind the length: `x` and a full list field, or a comma and a type, nullable `item`.
     unfoldable pub fixed_list_field : ℕ → ℕ → Out Tree
@@ -367,7 +396,7 @@ module _ (text : List ℕ) where
       fs ← items_by union_item (suc rows) m.next rows
       if ids_fit (map (λ r. r.union_id) (roots fs.trees))
           then done (record { row = bare_row k (value_of m.kind) 0 0 0; kids = fs.trees; next = fs.next })
-          else refuse 15
+          else refuse_at 15 (mark_before fs.next)
 
     unfoldable pub dictionary_at : ℕ → ℕ → ℕ → Out Tree
     dictionary_at k at rows = do
@@ -407,16 +436,17 @@ module _ (text : List ℕ) where
     shape_at mapping k at rows = map_at k at rows
     shape_at run_end_encoded k at rows = run_end_encoded_at k at rows
 
-    -- A type that begins where a level is left: it takes a row (4), then its word is judged.
+    -- A type that begins where a level is left: it takes a row (4), then its word is judged. Without a level or a row left it
+    -- is refused where its first token would begin.
     unfoldable pub type_with : ℕ → ℕ → Out Tree
-    type_with at zero = refuse 4
+    type_with at zero = refuse_at 4 (place_at at)
     type_with at (suc rows) = do
       t ← need type_word at
       shape_at (shape_of (value_of t.kind)) (value_of t.kind) t.next rows
 
   -- A type at a place, with so many levels and rows left.
   unfoldable pub type_at : ℕ → ℕ → ℕ → Out Tree
-  type_at zero at rows = refuse 3
+  type_at zero at rows = refuse_at 3 (place_at at)
   type_at (suc level) at rows = type_with (λ a r. type_at level a r) at rows
 
 -- ---- the type that a text begins with
@@ -425,8 +455,8 @@ module _ (text : List ℕ) where
 unfoldable pub first_type : List ℕ → ℕ → Out Tree
 first_type text rows =
     let tree = type_at text max_levels 0 rows in
-    let utf8 = if is_utf8 text then tree else refuse 2 in
-    if leb (length text) max_text then utf8 else refuse 1
+    let utf8 = if is_utf8 text then tree else refuse_at 2 0 in
+    if leb (length text) max_text then utf8 else refuse_at 1 max_text
 
 -- What is answered for it: the place behind it and its row count, or the refusal.
 unfoldable pub read_of : Out Tree → Out Extent

@@ -1,12 +1,13 @@
 // Types without children, into a row of their own.
 ghost use Rattle.std.specs.Prelude.{◌≡◌};
-ghost use Rattle.tokenizer.specs.Answer.{answer_of};
+ghost use Rattle.parser.specs.Answer.{read_answer};
 ghost use Rattle.tokenizer.specs.Token.{rparen};
 ghost use Rattle.parser.specs.Parse.{bare_row, need, unit_at, timestamp_at, time_at, interval_at, fixed_size_binary_at, scale_at, decimal_at};
 ghost use Rattle.parser.specs.Internal.Steps.{Closed, Meets, word_of};
 
 use crate::rows::{Head, PLAIN, put_row};
-use crate::{Extent, Parser, ReadValue};
+use crate::tokens::mark_before;
+use crate::{Extent, Parser, ReadError, ReadValue};
 use datatype::Decimal;
 use datatype::kind::unit_fits;
 use datatype::rows::ROW_WORDS;
@@ -19,7 +20,7 @@ impl<'a> Parser<'a> {
         row: &mut [u32; ROW_WORDS],
         kind: u32,
         at: usize,
-    ) -> Result<Extent, Refusal>
+    ) -> Result<Extent, ReadError>
         ensures { Meets (timestamp_at self.now.text.now kind at) row.old result row.new }
     {
         let open = self.expect_token(at, b'(')?;
@@ -37,14 +38,14 @@ impl<'a> Parser<'a> {
 
     // The unit of a kind of time is needed.
     #[tactic(auto, using(crate::proofs::Rules::unit_steps))]
-    fn parse_unit(&self, kind: u32, at: usize) -> Result<ReadValue<u32>, Refusal>
-        ensures { answer_of result ≡ word_of (unit_at self.now.text.now kind at) }
+    fn parse_unit(&self, kind: u32, at: usize) -> Result<ReadValue<u32>, ReadError>
+        ensures { read_answer result ≡ word_of (unit_at self.now.text.now kind at) }
     {
         let unit = self.parse_time_unit(at)?;
         if unit_fits(kind, unit.value) {
             return Ok(unit);
         }
-        Err(Refusal::WrongTimeUnit)
+        Err(self.make_error(Refusal::WrongTimeUnit, at))
     }
 
     // The mark that closes a type which is its kind and one value, as that of the three below is.
@@ -53,7 +54,7 @@ impl<'a> Parser<'a> {
         row: &mut [u32; ROW_WORDS],
         kind: u32,
         value: ReadValue<u32>,
-    ) -> Result<Extent, Refusal>
+    ) -> Result<Extent, ReadError>
         ensures { Closed (need self.now.text.now rparen value.next) 0 (bare_row kind value.value 0 0 0) result row.new }
     {
         let head = Head {
@@ -73,7 +74,7 @@ impl<'a> Parser<'a> {
         row: &mut [u32; ROW_WORDS],
         kind: u32,
         at: usize,
-    ) -> Result<Extent, Refusal>
+    ) -> Result<Extent, ReadError>
         ensures { Meets (time_at self.now.text.now kind at) row.old result row.new }
     {
         let open = self.expect_token(at, b'(')?;
@@ -87,7 +88,7 @@ impl<'a> Parser<'a> {
         row: &mut [u32; ROW_WORDS],
         kind: u32,
         at: usize,
-    ) -> Result<Extent, Refusal>
+    ) -> Result<Extent, ReadError>
         ensures { Meets (interval_at self.now.text.now kind at) row.old result row.new }
     {
         let open = self.expect_token(at, b'(')?;
@@ -101,7 +102,7 @@ impl<'a> Parser<'a> {
         row: &mut [u32; ROW_WORDS],
         kind: u32,
         at: usize,
-    ) -> Result<Extent, Refusal>
+    ) -> Result<Extent, ReadError>
         ensures { Meets (fixed_size_binary_at self.now.text.now kind at) row.old result row.new }
     {
         let open = self.expect_token(at, b'(')?;
@@ -117,7 +118,7 @@ impl<'a> Parser<'a> {
         kind: u32,
         precision: u32,
         at: usize,
-    ) -> Result<Extent, Refusal>
+    ) -> Result<Extent, ReadError>
         ensures { Meets (scale_at self.now.text.now kind precision at) row.old result row.new }
     {
         let number = self.parse_i8(at)?;
@@ -133,7 +134,10 @@ impl<'a> Parser<'a> {
         if decimal.fits(kind) {
             return Ok(closed);
         }
-        Err(Refusal::WrongDecimal)
+        Err(ReadError {
+            place: mark_before(closed.next),
+            refusal: Refusal::WrongDecimal,
+        })
     }
 
     // The four decimals.
@@ -143,7 +147,7 @@ impl<'a> Parser<'a> {
         row: &mut [u32; ROW_WORDS],
         kind: u32,
         at: usize,
-    ) -> Result<Extent, Refusal>
+    ) -> Result<Extent, ReadError>
         ensures { Meets (decimal_at self.now.text.now kind at) row.old result row.new }
     {
         let open = self.expect_token(at, b'(')?;

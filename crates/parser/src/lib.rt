@@ -7,7 +7,8 @@
 #![tactic(auto)]
 
 ghost use Rattle.std.specs.Prelude.{◌≡◌, ◌≤◌, ◌++◌, length};
-ghost use Rattle.tokenizer.specs.Answer.{answer_of, done};
+ghost use Rattle.tokenizer.specs.Answer.{done};
+ghost use Rattle.parser.specs.Answer.{read_answer};
 ghost use Rattle.tokenizer.specs.declared.TokenKind.TheVariants.{Integer};
 ghost use Rattle.datatype.specs.Limits.{max_text};
 ghost use Rattle.datatype.specs.Table.{rows_lent};
@@ -15,6 +16,7 @@ ghost use Rattle.parser.specs.Parse.{id_of, scale_of, field_at, list_field, list
 ghost use Rattle.parser.specs.Internal.Steps.{Room, RoomBelow, Meets, MeetsFields, rows_left, span_of};
 
 use crate::rows::{Head, PLAIN, put_field, put_row};
+use crate::tokens::mark_before;
 use datatype::kind::{
     DECIMAL32, DECIMAL64, DECIMAL128, DECIMAL256, DICTIONARY, DURATION, FIXED_SIZE_BINARY,
     FIXED_SIZE_LIST, INTERVAL, LARGE_LIST, LARGE_LIST_VIEW, LIST, LIST_VIEW, MAP, RUN_END_ENCODED,
@@ -22,8 +24,10 @@ use datatype::kind::{
 };
 use datatype::rows::{MAX_LEVELS, MAX_TEXT, NON_NULL, NULLABLE, ROW_WORDS, rows_lent};
 use datatype::{Field, Row};
+pub use error::ReadError;
 use tokenizer::Refusal;
 
+mod error;
 mod leaves;
 mod rows;
 mod tokens;
@@ -80,15 +84,20 @@ impl<'a> Parser<'a> {
     // A type at a place: a level (3) and a row (4) must be left, then its word is judged.
     #[cycle(types)]
     #[tactic(auto, using(crate::proofs::Rules::next_type_steps))]
-    fn parse_next_type(&self, rows: &mut [u32], at: usize, level: usize) -> Result<Extent, Refusal>
+    fn parse_next_type(
+        &self,
+        rows: &mut [u32],
+        at: usize,
+        level: usize,
+    ) -> Result<Extent, ReadError>
         requires { Room rows.old }
         ensures { Meets (type_at self.now.text.now level at (rows_left rows.old)) rows.old result rows.new }
     {
         if level == 0 {
-            return Err(Refusal::TooDeep);
+            return Err(self.make_error(Refusal::TooDeep, at));
         }
         let Some((row, below)) = rows.split_first_chunk_mut::<ROW_WORDS>() else {
-            return Err(Refusal::TooManyRows);
+            return Err(self.make_error(Refusal::TooManyRows, at));
         };
         let word = self.parse_type_word(at)?;
         let kind = word.value;
@@ -124,7 +133,7 @@ impl<'a> Parser<'a> {
         id: u32,
         at: usize,
         level: usize,
-    ) -> Result<Extent, Refusal>
+    ) -> Result<Extent, ReadError>
         requires { Room rows.old }
         ensures { Meets (field_at self.now.text.now (type_at self.now.text.now level) id at (rows_left rows.old)) rows.old result rows.new }
     {
@@ -144,7 +153,12 @@ impl<'a> Parser<'a> {
     // [nullability] type [, field: 'name'].
     #[cycle(types)]
     #[tactic(auto, using(crate::proofs::Rules::list_field_steps, crate::proofs::Readers::read_most, crate::proofs::Readers::read_some))]
-    fn parse_list_field(&self, rows: &mut [u32], at: usize, level: usize) -> Result<Extent, Refusal>
+    fn parse_list_field(
+        &self,
+        rows: &mut [u32],
+        at: usize,
+        level: usize,
+    ) -> Result<Extent, ReadError>
         requires { Room rows.old }
         ensures { Meets (list_field self.now.text.now (type_at self.now.text.now level) at (rows_left rows.old)) rows.old result rows.new }
     {
@@ -169,8 +183,8 @@ impl<'a> Parser<'a> {
 
     // A list's name behind the comma: field: 'name'.
     #[tactic(auto, using(crate::proofs::Rules::list_name_steps))]
-    fn parse_list_name(&self, at: usize) -> Result<Span, Refusal>
-        ensures { answer_of result ≡ span_of (list_name_at self.now.text.now at) }
+    fn parse_list_name(&self, at: usize) -> Result<Span, ReadError>
+        ensures { read_answer result ≡ span_of (list_name_at self.now.text.now at) }
     {
         let word = self.expect_field(at)?;
         let colon = self.expect_token(word, b':')?;
@@ -189,7 +203,7 @@ impl<'a> Parser<'a> {
         kind: u32,
         at: usize,
         level: usize,
-    ) -> Result<Extent, Refusal>
+    ) -> Result<Extent, ReadError>
         requires { RoomBelow below.old }
         ensures { Meets (list_at self.now.text.now (type_at self.now.text.now level) kind at (rows_left below.old)) (row.old ++ below.old) result (row.new ++ below.new) }
     {
@@ -209,7 +223,7 @@ impl<'a> Parser<'a> {
         kind: u32,
         at: usize,
         level: usize,
-    ) -> Result<Extent, Refusal>
+    ) -> Result<Extent, ReadError>
         requires { RoomBelow below.old }
         ensures { Meets (fixed_size_list_at self.now.text.now (type_at self.now.text.now level) kind at (rows_left below.old)) (row.old ++ below.old) result (row.new ++ below.new) }
     {
@@ -239,7 +253,7 @@ impl<'a> Parser<'a> {
         kind: u32,
         at: usize,
         level: usize,
-    ) -> Result<Extent, Refusal>
+    ) -> Result<Extent, ReadError>
         requires { RoomBelow below.old }
         ensures { Meets (dictionary_at self.now.text.now (type_at self.now.text.now level) kind at (rows_left below.old)) (row.old ++ below.old) result (row.new ++ below.new) }
     {
@@ -261,7 +275,7 @@ impl<'a> Parser<'a> {
         kind: u32,
         at: usize,
         level: usize,
-    ) -> Result<Extent, Refusal>
+    ) -> Result<Extent, ReadError>
         requires { RoomBelow below.old }
         ensures { Meets (struct_at self.now.text.now (type_at self.now.text.now level) kind at (rows_left below.old)) (row.old ++ below.old) result (row.new ++ below.new) }
     {
@@ -294,7 +308,7 @@ impl<'a> Parser<'a> {
         kind: u32,
         at: usize,
         level: usize,
-    ) -> Result<Extent, Refusal>
+    ) -> Result<Extent, ReadError>
         requires { RoomBelow below.old }
         ensures { Meets (union_at self.now.text.now (type_at self.now.text.now level) kind at (rows_left below.old)) (row.old ++ below.old) result (row.new ++ below.new) }
     {
@@ -311,7 +325,10 @@ impl<'a> Parser<'a> {
         loop {
             if let Some(end) = self.next_if(next, b')') {
                 if !subtrees::try_new(below, 0, used) {
-                    return Err(Refusal::WrongUnionId);
+                    return Err(ReadError {
+                        place: mark_before(end),
+                        refusal: Refusal::WrongUnionId,
+                    });
                 }
                 return Ok(put_row(row, used, head, end));
             }
@@ -331,7 +348,7 @@ impl<'a> Parser<'a> {
         rows: &mut [u32],
         at: usize,
         level: usize,
-    ) -> Result<Extent, Refusal>
+    ) -> Result<Extent, ReadError>
         requires { Room rows.old }
         ensures { Meets (union_field self.now.text.now (type_at self.now.text.now level) at (rows_left rows.old)) rows.old result rows.new }
     {
@@ -356,13 +373,17 @@ impl<'a> Parser<'a> {
         kind: u32,
         at: usize,
         level: usize,
-    ) -> Result<Extent, Refusal>
+    ) -> Result<Extent, ReadError>
         requires { RoomBelow below.old }
         ensures { Meets (map_at self.now.text.now (type_at self.now.text.now level) kind at (rows_left below.old)) (row.old ++ below.old) result (row.new ++ below.new) }
     {
         let open = self.expect_token(at, b'(')?;
         let entries = self.parse_field(below, 0, open, level)?;
-        subtrees::check_entries(below, 0)?;
+        if let Err(refusal) = subtrees::check_entries(below, 0) {
+            let kind = Row { rows: below, at: 0 }.kind();
+            let place = self.last_token(open, kind, entries.next)?;
+            return Err(ReadError { place, refusal });
+        }
         let comma = self.expect_token(entries.next, b',')?;
         let sorted = self.parse_map_sorted(comma)?;
         let head = Head {
@@ -383,7 +404,7 @@ impl<'a> Parser<'a> {
         kind: u32,
         at: usize,
         level: usize,
-    ) -> Result<Extent, Refusal>
+    ) -> Result<Extent, ReadError>
         requires { RoomBelow below.old }
         ensures { Meets (run_end_encoded_at self.now.text.now (type_at self.now.text.now level) kind at (rows_left below.old)) (row.old ++ below.old) result (row.new ++ below.new) }
     {
@@ -400,13 +421,18 @@ impl<'a> Parser<'a> {
     // RunEndEncoded's two fields, in the long form.
     #[cycle(types)]
     #[tactic(auto, using(crate::proofs::Rules::ree_fields_steps, crate::proofs::Readers::read_most, crate::proofs::Readers::read_some))]
-    fn ree_fields(&self, rows: &mut [u32], at: usize, level: usize) -> Result<Extent, Refusal>
+    fn ree_fields(&self, rows: &mut [u32], at: usize, level: usize) -> Result<Extent, ReadError>
         requires { Room rows.old }
         ensures { MeetsFields (named_run_ends self.now.text.now (type_at self.now.text.now level) at (rows_left rows.old)) rows.old result rows.new }
     {
         let run_ends = self.parse_field(rows, 0, at, level)?;
-        if (Row { rows, at: 0 }.role() != NON_NULL) {
-            return Err(Refusal::MustBeNonNull);
+        let row = Row { rows, at: 0 };
+        if row.role() != NON_NULL {
+            let place = self.last_token(at, row.kind(), run_ends.next)?;
+            return Err(ReadError {
+                place,
+                refusal: Refusal::MustBeNonNull,
+            });
         }
         let comma = self.expect_token(run_ends.next, b',')?;
         let behind = &mut rows[ROW_WORDS * run_ends.used..];
@@ -420,13 +446,16 @@ impl<'a> Parser<'a> {
     // RunEndEncoded's fields in the short form: two types, named by the name list.
     #[cycle(types)]
     #[tactic(auto, using(crate::proofs::Rules::ree_types_steps, crate::proofs::Readers::read_most, crate::proofs::Readers::read_some))]
-    fn ree_types(&self, rows: &mut [u32], at: usize, level: usize) -> Result<Extent, Refusal>
+    fn ree_types(&self, rows: &mut [u32], at: usize, level: usize) -> Result<Extent, ReadError>
         requires { Room rows.old }
         ensures { MeetsFields (default_run_ends self.now.text.now (type_at self.now.text.now level) at (rows_left rows.old)) rows.old result rows.new }
     {
         let sure = self.parse_opt_nullable(at);
         if sure.value != NON_NULL {
-            return Err(Refusal::MustBeNonNull);
+            return Err(ReadError {
+                place: self.role_place(at),
+                refusal: Refusal::MustBeNonNull,
+            });
         }
         let run_ends = self.parse_next_type(rows, sure.next, level)?;
         put_field(rows, NON_NULL, 0, Field::REE_RUN_ENDS_FIELD);
@@ -446,14 +475,20 @@ impl<'a> Parser<'a> {
 
 // Reads the type that a text begins with. The rows are left open on a refusal.
 #[tactic(auto, using(crate::proofs::Rules::text_steps), unfolding(tokenizer::specs::Edges::edges))]
-fn parse_text(text: &[u8], rows: &mut [u32]) -> Result<Extent, Refusal>
+fn parse_text(text: &[u8], rows: &mut [u32]) -> Result<Extent, ReadError>
     ensures { Meets (first_type text.now (rows_lent (length rows.old))) rows.old result rows.new }
 {
     if text.len() > MAX_TEXT {
-        return Err(Refusal::TextTooLong);
+        return Err(ReadError {
+            place: MAX_TEXT,
+            refusal: Refusal::TextTooLong,
+        });
     }
     if !tokenizer::is_utf8(text) {
-        return Err(Refusal::NotUtf8);
+        return Err(ReadError {
+            place: 0,
+            refusal: Refusal::NotUtf8,
+        });
     }
     let parser = Parser { text };
     let lent = rows_lent(rows.len());
@@ -463,8 +498,8 @@ fn parse_text(text: &[u8], rows: &mut [u32]) -> Result<Extent, Refusal>
 // Reads the type that a text begins with into lent rows: the place behind it and how many rows it fills, or the refusal.
 // A refusal leaves the rows all zeros.
 #[tactic(auto, using(crate::proofs::Rules::first_type_steps))]
-pub fn parse_first_type(text: &[u8], rows: &mut [u32]) -> Result<Extent, Refusal>
-    ensures answer { answer_of result ≡ read_of (first_type text.now (rows_lent (length rows.old))) }
+pub fn parse_first_type(text: &[u8], rows: &mut [u32]) -> Result<Extent, ReadError>
+    ensures answer { read_answer result ≡ read_of (first_type text.now (rows_lent (length rows.old))) }
     ensures contents { rows.new ≡ rows_of rows.old (first_type text.now (rows_lent (length rows.old))) }
 {
     let read = parse_text(text, rows);

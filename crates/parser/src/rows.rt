@@ -6,13 +6,12 @@ ghost use Rattle.datatype.specs.Table.{row_words};
 ghost use Rattle.parser.specs.Parse.{need};
 ghost use Rattle.parser.specs.Internal.Steps.{Put, Closed, FieldWords, head_row};
 
-use crate::{Extent, Parser};
+use crate::{Extent, Parser, ReadError};
 use datatype::Field;
 use datatype::rows::{
     HOME, KIND, NAME_LENGTH, NAME_START, NUMBER, PARENT, ROLE, ROW_WORDS, ROWS, SCALE, UNION_ID,
     ZONE_LENGTH, ZONE_START,
 };
-use tokenizer::Refusal;
 
 // What a type's row says of the type alone.
 #[derive(Clone, Copy)]
@@ -67,7 +66,7 @@ impl<'a> Parser<'a> {
         at: usize,
         used: usize,
         head: Head,
-    ) -> Result<Extent, Refusal>
+    ) -> Result<Extent, ReadError>
         requires { used < max_rows }
         ensures { Closed (need self.now.text.now rparen at) used (head_row head) result row.new }
     {

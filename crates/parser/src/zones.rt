@@ -1,17 +1,18 @@
 // A timestamp's zone, behind the unit.
 ghost use Rattle.std.specs.Prelude.{◌≡◌};
-ghost use Rattle.tokenizer.specs.Answer.{answer_of};
+ghost use Rattle.parser.specs.Answer.{read_answer};
 ghost use Rattle.parser.specs.Parse.{some_zone, zone_string, zone_at};
 ghost use Rattle.parser.specs.Internal.Steps.{zone_of};
 
-use crate::{Parser, Span};
-use tokenizer::{Refusal, TokenKind};
+use crate::tokens::make_error_expected;
+use crate::{Parser, ReadError, Span};
+use tokenizer::TokenKind;
 
 impl<'a> Parser<'a> {
     // A zone in `Some(..)`, behind the word.
     #[tactic(auto, using(crate::proofs::Rules::some_steps))]
-    fn parse_some(&self, at: usize) -> Result<Span, Refusal>
-        ensures { answer_of result ≡ zone_of (some_zone self.now.text.now at) }
+    fn parse_some(&self, at: usize) -> Result<Span, ReadError>
+        ensures { read_answer result ≡ zone_of (some_zone self.now.text.now at) }
     {
         let open = self.expect_token(at, b'(')?;
         let zone = self.parse_double_quoted_string(open)?;
@@ -21,8 +22,8 @@ impl<'a> Parser<'a> {
 
     // A timestamp's zone behind the comma: a string, `Some(string)` or `None`.
     #[tactic(auto, using(crate::proofs::Rules::zone_string_steps))]
-    fn parse_zone_string(&self, at: usize) -> Result<Span, Refusal>
-        ensures { answer_of result ≡ zone_of (zone_string self.now.text.now at) }
+    fn parse_zone_string(&self, at: usize) -> Result<Span, ReadError>
+        ensures { read_answer result ≡ zone_of (zone_string self.now.text.now at) }
     {
         let token = self.next_token(at)?;
         match token.kind {
@@ -37,14 +38,14 @@ impl<'a> Parser<'a> {
                 size: token.size,
                 next: token.next,
             }),
-            _ => Err(Refusal::UnexpectedToken),
+            _ => Err(make_error_expected(token)),
         }
     }
 
     // What follows a timestamp's unit: the closing mark, or a comma, a zone and the closing mark.
     #[tactic(auto, using(crate::proofs::Rules::zone_steps))]
-    pub(crate) fn parse_zone(&self, at: usize) -> Result<Span, Refusal>
-        ensures { answer_of result ≡ zone_of (zone_at self.now.text.now at) }
+    pub(crate) fn parse_zone(&self, at: usize) -> Result<Span, ReadError>
+        ensures { read_answer result ≡ zone_of (zone_at self.now.text.now at) }
     {
         if let Some(next) = self.next_if(at, b')') {
             return Ok(Span {

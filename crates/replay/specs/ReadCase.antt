@@ -1,5 +1,5 @@
 -- The stored sample of the reader: how many cases, then the cases. A case is the words lent, the text's length, the text,
--- the status and the value (`arrow_types/Status`), and the words of as many rows as the value says. The words lent hold
+-- the status, the value and the place (`arrow_types/Status`), and the words of as many rows as the value says. The words lent hold
 -- `unread` before; those behind the rows are to hold it still, or 0 where the text is refused.
 use Rattle.std.specs.Prelude.{Bool, ◌&&◌, List, ◌++◌, ℕ, ◌*◌, ◌-◌, min, replicate, eqb, if◌then◌else◌}
 use Rattle.tokenizer.specs.Text.{same}
@@ -7,7 +7,7 @@ use Rattle.datatype.specs.Tree.{part}
 use Rattle.datatype.specs.Table.{row_words}
 use Rattle.datatype_parse.specs.Parse.{parse_answer, parse_rows}
 use Rattle.datatype_parse.specs.RowsToLend.{rows_to_lend}
-use Rattle.arrow_types.specs.Status.{status_of, value_of}
+use Rattle.arrow_types.specs.Status.{status_of, value_of, place_of}
 use Rattle.replay.specs.Sample.{number_at, numbers_at, after_numbers, after_part, counted, replayed}
 use Rattle.replay.specs.declared.ReadCase.{ReadCase}
 use Rattle.replay.specs.declared.Tally.{Tally}
@@ -22,7 +22,8 @@ read_case_at sample at =
     let size = number_at sample lent.next in
     let status = number_at sample (after_part sample size.next size.value) in
     let value = number_at sample status.next in
-    record { lent = lent.value; at = size.next; size = size.value; status = status.value; value = value.value; next = value.next }
+    let place = number_at sample value.next in
+    record { lent = lent.value; at = size.next; size = size.value; status = status.value; value = value.value; place = place.value; next = place.next }
 
 -- How many words a case is lent: those stored with it, or, read again where it is accepted, those of its rows to lend.
 unfoldable pub words_lent : Bool → ReadCase → ℕ
@@ -41,16 +42,16 @@ left_words sample case lent =
 unfoldable pub after_case : List ℕ → ReadCase → ℕ → ℕ
 after_case sample case lent = after_numbers sample (min (row_words * case.value) lent) case.next
 
--- The reader gives a text this status and this value, and leaves these words of so many lent.
-unfoldable pub gives : List ℕ → ℕ → ℕ → ℕ → List ℕ → Bool
-gives text lent status value left =
+-- The reader gives a text this status, this value and this place, and leaves these words of so many lent.
+unfoldable pub gives : List ℕ → ℕ → ℕ → ℕ → ℕ → List ℕ → Bool
+gives text lent status value place left =
     let answer = parse_answer text (replicate lent unread) in
-    eqb (status_of answer) status && eqb (value_of answer) value && same (parse_rows text (replicate lent unread)) left
+    eqb (status_of answer) status && eqb (value_of answer) value && eqb (place_of answer) place && same (parse_rows text (replicate lent unread)) left
 
 -- The tally with one case more, which is lent so many words and is to leave so many.
 unfoldable pub one_case : List ℕ → Tally → ReadCase → ℕ → ℕ → Tally
 one_case sample t case lent left =
-    counted t (gives (part sample case.at case.size) lent case.status case.value (left_words sample case left)) (after_case sample case left)
+    counted t (gives (part sample case.at case.size) lent case.status case.value case.place (left_words sample case left)) (after_case sample case left)
 
 -- The tally with the case that stands behind it, which is lent as many words as `words` says, and no more than so many.
 unfoldable pub read_one : List ℕ → (ReadCase → ℕ) → ℕ → Tally → Tally

@@ -50,7 +50,7 @@ struct Tally {
 }
 
 // A stored case of the reader, but for the rows' words: the words lent, where the text stands and how long it is, the
-// status, the value, and the place of the words.
+// status, the value, the place of a refusal, and the place of the words.
 #[derive(Clone, Copy)]
 struct ReadCase {
     lent: u32,
@@ -58,6 +58,7 @@ struct ReadCase {
     size: u32,
     status: u32,
     value: u32,
+    place: u32,
     next: usize,
 }
 

@@ -19,13 +19,15 @@ fn case_at(sample: &[u8], at: usize) -> ReadCase
     let size = number_at(sample, lent.next);
     let status = number_at(sample, after_part(sample, size.next, size.value));
     let value = number_at(sample, status.next);
+    let place = number_at(sample, value.next);
     ReadCase {
         lent: lent.value,
         at: size.next,
         size: size.value,
         status: status.value,
         value: value.value,
-        next: value.next,
+        place: place.value,
+        next: place.next,
     }
 }
 
@@ -87,18 +89,19 @@ fn left_words(sample: &[u8], case: ReadCase, left: &mut [u32]) -> usize
     words_at(sample, case.next, &mut left[..n])
 }
 
-// Whether the reader gives a text the status and the value of a case, and leaves these words of those lent.
+// Whether the reader gives a text the status, the value and the place of a case, and leaves these words of those lent.
 #[tactic(auto, unfolding(crate::specs::ReadCase::gives))]
 fn gives(text: &[u8], case: ReadCase, left: &[u32], rows: &mut [u32]) -> bool
-    ensures { result ≡ gives_of text.now (length rows.old) case.status case.value left.now }
+    ensures { result ≡ gives_of text.now (length rows.old) case.status case.value case.place left.now }
 {
     rows.fill(UNTOUCHED);
     let mut count: usize = 0;
-    let status = arrow_types::arrow_types_read(text, rows, &mut count);
-    if status != case.status {
+    let mut place: usize = 0;
+    let status = arrow_types::arrow_types_read(text, rows, &mut count, &mut place);
+    if status != case.status || count != case.value as usize {
         return false;
     }
-    count == case.value as usize && datatype::equal_words(rows, left)
+    place == case.place as usize && datatype::equal_words(rows, left)
 }
 
 // The tally with one case more.

@@ -9,12 +9,12 @@ use Rattle.std.specs.Prelude.{if◌then◌else◌}
 use mathlib.Core.Path.{◌≡◌, refl, sym, ap, ◌∙◌}
 use mathlib.Core.Bool.{Bool, true, false}
 use mathlib.Core.List.{List, [], ◌∷◌, ◌++◌, append-nil}
-use Prim.Native.Nat.{ℕ, zero, suc, ◌+◌, ◌≤◌, ◌<◌}
+use Prim.Native.Nat.{ℕ, zero, suc, ◌+◌, ◌-◌, ◌≤◌, ◌<◌}
 use native.Mathlib.Omega.{arith}
-use lib.ListN.{length, length-append}
+use lib.ListN.{length, drop, length-append, length-drop}
 use lib.Dec.{T, leb, leb→le}
 use Rattle.tokenizer.specs.Text.{bytes}
-use Rattle.tokenizer.specs.Answer.{Out, refused, done, refuse, ◌>>=◌}
+use Rattle.tokenizer.specs.Answer.{Out, refused, done, refuse_at, ◌>>=◌}
 use Rattle.tokenizer.specs.Words.{words}
 use Rattle.tokenizer.specs.Utf8.{utf8_step, utf8_state, is_utf8}
 use Rattle.tokenizer.specs.Token.{Standing, is_separator, type_word, lparen, rparen}
@@ -24,7 +24,7 @@ use Rattle.datatype.specs.Kind.{list, decimal, kinds, decimal32_kind, shape_of, 
 use Rattle.datatype.specs.Tree.{Forest, ∅, node, Row, Label}
 use Rattle.datatype.proofs.Tests.{below_at}
 use Rattle.subtrees.specs.Parents.{with_parent, parented_from, parented}
-use Rattle.parser.specs.Parse.{Tree, bare_row, single, need, close_at, list_field, list_at, decimal_at, shape_at, type_with, type_at}
+use Rattle.parser.specs.Parse.{Tree, bare_row, single, place_at, need, close_at, list_field, list_at, decimal_at, shape_at, type_with, type_at}
 use Rattle.parser.proofs.FirstType.{first-type}
 use Rattle.datatype_parse.specs.Parse.{text_over, parse}
 use Rattle.output.specs.Digits.{digits_with, digits}
@@ -127,22 +127,25 @@ module _ (w p s : ℕ) (h : w < 4) (i : p < 256) (j : s < 256) where
   abbrev tree : ℕ → Tree
   tree next = record { row = bare_row k p s 0 0; kids = ∅; next = next }
 
-  type-read : (rows : ℕ) (d : DecimalRead text k p s word.token.next []) → type_at text 64 0 (suc rows) ≡ (if decimal_fits k p s then done (tree d.next) else refuse 12)
+  type-read : (rows : ℕ) (d : DecimalRead text k p s word.token.next []) → type_at text 64 0 (suc rows) ≡ (if decimal_fits k p s then done (tree d.next) else refuse_at 12 (d.next - 1))
   unfolding type_at type_with
   type-read rows d =
       rw (need-found text type_word k 0 (decimal_tail p s) word, word.value, decimals_read text (λ a r. type_at text 63 a r) k word.token.next rows (decimal_shape_lem w h))
       d.reads
 
-  pub decimals : (rows : ℕ) → parse (decimal_text w p s) (suc rows) ≡ (if decimal_fits (decimal32_kind + w) p s then done (node (bare_row (decimal32_kind + w) p s 0 0) ∅ ∅) else refuse 12)
+  ends : tail-read.next ≡ length text
+  ends = let i = tail-read.inside in let l = length-drop tail-read.next text in let z : length (drop tail-read.next text) ≡ 0 = ap length tail-read.after in omega arith
+
+  pub decimals : (rows : ℕ) → parse (decimal_text w p s) (suc rows) ≡ (if decimal_fits (decimal32_kind + w) p s then done (node (bare_row (decimal32_kind + w) p s 0 0) ∅ ∅) else refuse_at 12 (length (decimal_text w p s) - 1))
   unfolding parse parented_from with_parent
   decimals rows = ap (λ (o : Out Tree). o >>= whole) (first-type text (suc rows) short utf8 ∙ type-read rows tail-read) ∙ go (decimal_fits k p s)
     where
       whole : Tree → Out (Forest Row)
-      whole t = if text_over text t.next then done (parented (single t)) else refuse 16
+      whole t = if text_over text t.next then done (parented (single t)) else refuse_at 16 (place_at text t.next)
 
-      go : (b : Bool) → ((if b then done (tree tail-read.next) else refuse 12) >>= whole) ≡ (if b then done (node (bare_row k p s 0 0) ∅ ∅) else refuse 12)
+      go : (b : Bool) → ((if b then done (tree tail-read.next) else refuse_at 12 (tail-read.next - 1)) >>= whole) ≡ (if b then done (node (bare_row k p s 0 0) ∅ ∅) else refuse_at 12 (length text - 1))
       go true = rw (over text tail-read.next tail-read.after)
-      go false = refl
+      go false = ap (λ (n : ℕ). refuse_at 12 (n - 1)) ends
 
 -- ---- the four plain lists, over the kind
 

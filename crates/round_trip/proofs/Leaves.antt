@@ -5,11 +5,11 @@ use mathlib.Core.Bool.{Bool, true, false}
 use mathlib.Core.List.{List, [], ◌∷◌, ◌++◌, append_assoc}
 use Prim.Native.Nat.{ℕ, zero, suc, ◌+◌, ◌-◌, ◌^◌, ◌≤◌, ◌<◌}
 use native.Mathlib.Omega.{arith}
-use lib.ListN.{length, drop}
+use lib.ListN.{length, drop, length-drop}
 use lib.Dec.{T, ltb}
 use borrow.Author.Tests.{ltb-true, ltb-false}
 use Rattle.tokenizer.specs.Text.{bytes, all}
-use Rattle.tokenizer.specs.Answer.{Out, done, refuse}
+use Rattle.tokenizer.specs.Answer.{Out, done, refuse_at}
 use Rattle.tokenizer.specs.Words.{words}
 use Rattle.tokenizer.specs.Token.{is_separator, is_digit, value_of, time_unit, interval_unit, double_quoted, rparen, none_word, some_word}
 use Rattle.tokenizer.proofs.Basics.{skip, is_true}
@@ -136,8 +136,9 @@ module _ (text : List ℕ) where
   -- the text of a precision and a scale, read as the row of a kind, or refused
   pub record DecimalRead (k p s at : ℕ) (rest : List ℕ) : Type 0 where
     pub next : ℕ
-    pub reads : decimal_at text k at ≡ (if decimal_fits k p s then done (record { row = bare_row k p s 0 0; kids = ∅; next = next }) else refuse 12)
+    pub reads : decimal_at text k at ≡ (if decimal_fits k p s then done (record { row = bare_row k p s 0 0; kids = ∅; next = next }) else refuse_at 12 (next - 1))
     pub after : drop next text ≡ rest
+    pub inside : next ≤ length text
 
   scale-read : (s from p : ℕ) (rest : List ℕ) → s < 256 → Look text from p (scale_text s ++ (41 ∷ rest)) → NumberRead text 128 127 from scale_of s (41 ∷ rest)
   unfolding scale_text
@@ -170,6 +171,7 @@ module _ (text : List ℕ) where
                 closes text (bare_row k p s 0 0) ∅ m.token.next rest m.after,
               );
           after = skip 1 m.token.next text (41 ∷ rest) m.after;
+          inside = let l = length-drop m.token.next text in let z = ap length m.after in omega arith;
         }
 
     pub decimal-any : p < 256 → s < 256 → drop at text ≡ (bytes "(" ++ (digits p ++ (bytes ", " ++ (scale_text s ++ bytes ")")))) ++ rest → DecimalRead k p s at rest

@@ -1,7 +1,8 @@
 -- Printing a tree and reading back just the bytes printed: the answer and both buffers for every input, and what demand 3
 -- says of the two calls. `print_and_read` is stated by these.
 use Rattle.std.specs.Prelude.{◌≡◌, Result, Ok, Err, List, [], ℕ, ◌*◌, ◌≤◌, length, take, T}
-use Rattle.tokenizer.specs.Answer.{Out, refused, done, number_of}
+use Rattle.tokenizer.specs.Answer.{Refusal, Out, refused, done, number_of}
+use Rattle.parser.specs.Answer.{refusal_in}
 use Rattle.datatype.specs.Tree.{count}
 use Rattle.datatype.specs.Table.{row_words, tree_of}
 use Rattle.row_table.specs.Sound.{is_sound}
@@ -14,23 +15,23 @@ use Rattle.round_trip.specs.declared.NotReadBack.{NotReadBack}
 use Rattle.round_trip.specs.declared.NotReadBack.TheVariants.{NotPrinted, NotRead}
 
 -- What the two calls come to: a printed length and a row count, or the number of the printer's refusal (17 to 19), or
--- that of the reader's (1 to 16).
+-- the reader's (1 to 16), with its place in the printed text.
 pub data Outcome : Type 0 where
   tree : (bytes rows : ℕ) → Outcome
   not_printed : (number : ℕ) → Outcome
-  not_read : (number : ℕ) → Outcome
+  not_read : Refusal → Outcome
 
 -- What the code's answer means.
 unfoldable pub printed_and_read_means : Result PrintedAndRead NotReadBack → Outcome
 printed_and_read_means (Ok r) = tree r.bytes r.rows
 printed_and_read_means (Err (NotPrinted e)) = not_printed (number_of e)
-printed_and_read_means (Err (NotRead e)) = not_read (number_of e)
+printed_and_read_means (Err (NotRead e)) = not_read (refusal_in e)
 
 -- ---- for every input
 
 -- The reader's answer, to a text of so many bytes.
 abbrev pub outcome_of : ℕ → Out ℕ → Outcome
-outcome_of bytes (refused r) = not_read r.number
+outcome_of bytes (refused r) = not_read r
 outcome_of bytes (done rows) = tree bytes rows
 
 -- The answer: where a text was printed, that text is read.
@@ -62,12 +63,12 @@ pub record Asks3 (text names table out back : List ℕ) : Type 0 where
 abbrev pub bytes_of : Outcome → List ℕ → List ℕ
 bytes_of (tree bytes rows) out = take bytes out
 bytes_of (not_printed n) out = []
-bytes_of (not_read n) out = []
+bytes_of (not_read r) out = []
 
 abbrev pub rows_of : Outcome → List ℕ → List ℕ
 rows_of (tree bytes rows) back = take (row_words * rows) back
 rows_of (not_printed n) back = []
-rows_of (not_read n) back = []
+rows_of (not_read r) back = []
 
 -- What demand 3 says of an answer and of what the two buffers then hold. What they held before is not in it.
 -- Two such trees that are not equal never get one text (`never-one-text` in proofs/PrintAndRead.antt).

@@ -2,6 +2,7 @@
 
 #![tactic(auto)]
 
+use parser::ReadError;
 use tokenizer::Refusal;
 
 // A tree that was printed and read back: the printed length and the row count.
@@ -15,5 +16,5 @@ pub struct PrintedAndRead {
 #[derive(Clone, Copy, Debug, PartialEq, Eq)]
 pub enum NotReadBack {
     NotPrinted(Refusal),
-    NotRead(Refusal),
+    NotRead(ReadError),
 }

@@ -3,13 +3,14 @@ use mathlib.Core.Path.{◌≡◌, refl, sym, ap, ◌∙◌}
 use mathlib.Core.Bool.{Bool, true, false}
 use mathlib.Core.List.{List, [], ◌∷◌}
 use Prim.Native.Nat.{ℕ, zero, suc, ◌+◌, ◌-◌, ◌≤◌, ◌<◌}
+use lib.Dec.{T}
 use native.Mathlib.Omega.{arith}
 use lib.ListN.{length}
 use Rattle.tokenizer.specs.Answer.{Refusal, Out, refused, done, refuse}
 use Rattle.tokenizer.specs.Places.{after_spaces, word_end}
 use Rattle.tokenizer.specs.Token.{Standing, no_token, sort_of, value_of, token_at}
 use Rattle.tokenizer.specs.declared.TokenKind.{TokenKind}
-use Rattle.tokenizer.proofs.Marks.{bounds}
+use Rattle.tokenizer.proofs.Marks.{placeless, token_placeless, bounds}
 use Rattle.tokenizer.proofs.Places.{refused_next}
 use Rattle.token_stream.specs.Count.{is_read, tokens_from, place_behind, count_tokens}
 
@@ -21,8 +22,8 @@ is_done (done a) = true
 read_done : (k : Out TokenKind) → is_read k ≡ is_done k
 read_done k = grind arith
 
-refused_is : (k : Out TokenKind) → is_done k ≡ false → k ≡ refuse (value_of k)
-refused_is k d = grind arith
+refused_is : (k : Out TokenKind) → T (placeless k) → is_done k ≡ false → k ≡ refuse (value_of k)
+refused_is k h d = grind arith
 
 -- ---- the place behind what is refused
 
@@ -32,7 +33,7 @@ module _ (text : List ℕ) (at : ℕ) where
   next-word e = (refused_next text at 8 e).0 refl
 
   pub next-refused : is_done (token_at text at).kind ≡ false → (value_of (token_at text at).kind ≡ 8 → ⊥) → (token_at text at).next ≡ after_spaces text at
-  next-refused d v = (refused_next text at (value_of (token_at text at).kind) (refused_is (token_at text at).kind d)).1 v
+  next-refused d v = (refused_next text at (value_of (token_at text at).kind) (refused_is (token_at text at).kind (token_placeless text at) d)).1 v
 
 pub ruleset behind_steps = (next-word, next-refused)
 

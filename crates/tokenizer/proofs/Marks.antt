@@ -1,5 +1,6 @@
 -- What callers know of the token at a place, from the definitions alone: by its first byte, its bounds and its values.
-use Rattle.std.specs.Prelude.{if◌then◌else◌}
+use Rattle.std.specs.Prelude.{if◌then◌else◌, not}
+use Rattle.std.specs.Prelude as Std
 use mathlib.Core.Path.{◌≡◌, refl, sym, ap, ◌∙◌, subst}
 use mathlib.Core.Bool.{Bool, true, false, ◌&&◌, ◌||◌}
 use mathlib.Core.List.{List, [], ◌∷◌}
@@ -12,10 +13,10 @@ use lib.Seq.{drop-cons}
 use lib.Dec.{T, leb, ltb, eqb, leb→le, eqb→eq}
 use borrow.Author.Tests.{eqb-true, eqb-false, eq-eqb, ne_eqb, le-leb}
 use Rattle.std.proofs.lemmas.Bool.Decides.{nat_tests}
-use Rattle.tokenizer.specs.Answer.{Out, done, refuse}
+use Rattle.tokenizer.specs.Answer.{Out, refused, done, refuse}
 use Rattle.tokenizer.specs.Text.{all, same}
 use Rattle.tokenizer.specs.Words.{Listed, words, find}
-use Rattle.tokenizer.specs.Token.{lparen, rparen, comma, colon, integer, double_quoted, single_quoted, type_word, time_unit, interval_unit, union_mode, map_sorted, nullability, no_token, sort_of, value_of, Standing, token, is_separator, word_of, is_digit, number_from, is_number, signed, number_kind, word_kind, until_quote, string_token, token_from, token_at}
+use Rattle.tokenizer.specs.Token.{lparen, rparen, comma, colon, integer, double_quoted, single_quoted, type_word, time_unit, interval_unit, union_mode, map_sorted, nullability, no_token, sort_of, value_of, is_string, place_of, Standing, token, is_separator, word_of, is_digit, number_from, is_number, signed, number_kind, word_kind, until_quote, string_token, token_from, token_at}
 use Rattle.tokenizer.specs.Places.{after_spaces}
 use Rattle.tokenizer.specs.declared.TokenKind.{TokenKind}
 use Rattle.tokenizer.specs.declared.TokenKind.TheVariants.{LParen, RParen, Comma, Colon, Integer, DoubleQuotedString, SingleQuotedString}
@@ -221,6 +222,64 @@ module _ (text : List ℕ) (at : ℕ) where
 
   pub no-nullability : (get_or text (after_spaces text at) 0 ≡ 110 → ⊥) → eqb (sort_of (token_at text at).kind) nullability ≡ false
   no-nullability = other_byte nullability 110 (λ c. refl)
+
+-- ---- places
+
+-- no word is a string
+word_plain : (c : ℕ) (w : List ℕ) → T (not (is_string (word_kind (c ∷ w))))
+unfolding words
+word_plain = word_holds (λ w k. not (is_string k)) (λ w negative v h. tt) (λ w. tt) tt
+
+word_place : (k : Out TokenKind) (p : ℕ) → T (not (is_string k)) → place_of k p ≡ p
+word_place k p h = grind arith
+
+-- a string's place is that of its mark, and so is that of a string that is none
+string_place : (k : TokenKind) (p : ℕ) (o : Option ℕ) → T (is_string (done k)) → place_of (string_token k p o).kind (string_token k p o).start ≡ p
+string_place k p o h = grind arith
+
+-- a token's place is where the spaces before it end
+pub place_here : (text : List ℕ) (at : ℕ) → place_of (token_at text at).kind (token_at text at).start ≡ after_spaces text at
+place_here text at =
+    let p = after_spaces text at in
+    by_cases text at (λ t. place_of t.kind t.start ≡ after_spaces text at)
+    (record {
+      over = λ h. refl;
+      mark = λ m t h e. marks (λ (x : ℕ). place_of (mark_kind x) p ≡ p) refl refl refl refl m t;
+      double = λ h e. string_place DoubleQuotedString p (until_quote 34 false (drop (p + 1) text)) tt;
+      single = λ h e. string_place SingleQuotedString p (until_quote 39 false (drop (p + 1) text)) tt;
+      word = λ h e. word_place (word_kind (word_of (drop p text))) p
+          (subst (λ (w : List ℕ). T (not (is_string (word_kind w)))) (sym (word_first text p h e)) (word_plain (get_or text p 0) (word_of (drop (suc p) text))));
+    })
+
+-- a token's own refusal tells no place
+abbrev pub no_place : Std.Option ℕ → Bool
+no_place Std.None = true
+no_place (Std.Some p) = false
+
+abbrev pub placeless : Out TokenKind → Bool
+placeless (refused r) = no_place r.place
+placeless (done k) = true
+
+word_placeless : (c : ℕ) (w : List ℕ) → T (placeless (word_kind (c ∷ w)))
+unfolding words
+word_placeless = word_holds (λ w k. placeless k) (λ w negative v h. tt) (λ w. tt) tt
+
+string_placeless : (k : TokenKind) (p : ℕ) (o : Option ℕ) → T (placeless (string_token k p o).kind)
+string_placeless k p none = tt
+string_placeless k p (some zero) = tt
+string_placeless k p (some (suc n)) = tt
+
+pub token_placeless : (text : List ℕ) (at : ℕ) → T (placeless (token_at text at).kind)
+token_placeless text at =
+    let p = after_spaces text at in
+    by_cases text at (λ t. T (placeless t.kind))
+    (record {
+      over = λ h. tt;
+      mark = λ m t h e. marks (λ (x : ℕ). T (placeless (mark_kind x))) tt tt tt tt m t;
+      double = λ h e. string_placeless DoubleQuotedString p (until_quote 34 false (drop (p + 1) text));
+      single = λ h e. string_placeless SingleQuotedString p (until_quote 39 false (drop (p + 1) text));
+      word = λ h e. subst (λ (w : List ℕ). T (placeless (word_kind w))) (sym (word_first text p h e)) (word_placeless (get_or text p 0) (word_of (drop (suc p) text)));
+    })
 
 -- ---- bounds
 

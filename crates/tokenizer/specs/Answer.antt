@@ -1,21 +1,26 @@
 -- Answers: a value, or a refusal (document 01, 'Numbers a caller may get').
-use Rattle.std.specs.Prelude.{ℕ}
+use Rattle.std.specs.Prelude.{Option, Some, None, ℕ}
 use Rattle.std.specs.declared.result.Result.{Result}
 use Rattle.std.specs.declared.result.Result.TheVariants.{Ok, Err}
 use Rattle.tokenizer.specs.declared.refusal.Refusal as R
 use Rattle.tokenizer.specs.declared.refusal.Refusal.TheVariants.{TextTooLong, NotUtf8, TooDeep, TooManyRows, TextEnds, StringNeverEnds, StringEmpty, UnknownWord, UnexpectedToken, NumberOutOfRange, WrongTimeUnit, WrongDecimal, MustBeNonNull, WrongMapEntries, WrongUnionId, TrailingText, NotSound, NotAscii, PrintTooLong}
 
--- A refusal, by its number.
+-- A refusal, by its number; where in a text it was met, if it was met in one (document 02, [2]).
 pub record Refusal : Type 0 where
   pub number : ℕ
+  pub place : Option ℕ
 
 pub data Out (A : Type 0) : Type 0 where
   refused : Refusal → Out A
   done : A → Out A
 
--- The refusal of a number.
+-- The refusal of a number, without a place: the printer's have none, and a token's is told by the token.
 abbrev pub refuse : {A : Type 0} → ℕ → Out A
-refuse n = refused (record { number = n })
+refuse n = refused (record { number = n; place = None })
+
+-- The refusal of a number at a place of the text: the reader's.
+abbrev pub refuse_at : {A : Type 0} → ℕ → ℕ → Out A
+refuse_at n place = refused (record { number = n; place = Some place })
 
 -- What comes first is met first: a refusal ends the reading.
 infixl 10 ◌>>=◌

@@ -147,6 +147,13 @@ token k at size = record { kind = k; start = at; size = size; next = at + size }
 abbrev pub token_or_refusal : Standing → Out Token
 token_or_refusal s = s.kind >>= λ k. done (record { kind = k; start = s.start; size = s.size; next = s.next })
 
+-- Its place: its first byte, of a quoted string the opening mark (document 02, [2]).
+abbrev pub is_string : Out TokenKind → Bool
+is_string k = eqb (sort_of k) double_quoted || eqb (sort_of k) single_quoted
+
+abbrev pub place_of : Out TokenKind → ℕ → ℕ
+place_of k start = if is_string k then start - 1 else start
+
 -- ---- words
 
 -- What ends a word: one of the four marks, or a space.

@@ -2,6 +2,10 @@
 
 #![tactic(auto)]
 
+ghost use Rattle.std.specs.Prelude.{◌≡◌};
+ghost use Rattle.tokenizer.specs.Answer.{done};
+ghost use Rattle.tokenizer.specs.Token.{place_of};
+
 mod edges;
 mod number;
 mod refusal;
@@ -46,4 +50,18 @@ pub struct Token {
     pub start: usize,
     pub size: usize,
     pub next: usize,
+}
+
+impl Token {
+    // Its place, which is its first byte: of a quoted string, the opening mark.
+    pub fn place(self) -> usize
+        ensures { result ≡ place_of (done self.kind) self.start }
+    {
+        match self.kind {
+            TokenKind::DoubleQuotedString | TokenKind::SingleQuotedString => {
+                self.start.saturating_sub(1)
+            }
+            _ => self.start,
+        }
+    }
 }

@@ -4,7 +4,7 @@
 use crate::generate::Random;
 use crate::generate::trees::{self, Letters, Tree};
 use crate::model::{
-    self, Limits, MOST_BYTES, MOST_LEVELS, MOST_ROWS, NAME_LIST, Row, WORDS, refusal,
+    self, Limits, MOST_BYTES, MOST_LEVELS, MOST_ROWS, NAME_LIST, Refused, Row, WORDS, refusal,
 };
 use crate::oracle::{self, Answer, ErrorKind};
 use crate::subject::Subject;
@@ -29,6 +29,8 @@ pub struct Check<'s> {
     pub printed: usize,
     /// Tables whose parents the port set.
     pub parented: usize,
+    /// Refusals of the port whose number and place were compared with the model's.
+    pub placed: usize,
     pub counts: Counts,
 }
 
@@ -41,6 +43,7 @@ impl<'s> Check<'s> {
             by_rust: 0,
             printed: 0,
             parented: 0,
+            placed: 0,
             counts: [0; 20],
         }
     }
@@ -111,6 +114,19 @@ impl<'s> Check<'s> {
     pub fn expect(&mut self, text: &[u8], read: &Result<usize, u32>, known: &Result<usize, u32>) {
         if read != known {
             self.differ_text(text, &format!("model {read:?}, known {known:?}"));
+        }
+    }
+
+    /// A refusal of which number and place are known beforehand, with so many rows lent.
+    pub fn expect_place(&mut self, text: &[u8], rows: usize, known: Refused) {
+        let model = model::read_placed(text, Limits::lent(rows)).err();
+        if model != Some(known) {
+            self.differ_text(text, &format!("model {model:?}, known {known:?}"));
+        }
+        let lent = &mut vec![WORD_BEFORE; rows * WORDS];
+        let port = self.subject.map(|port| port.read(text, lent));
+        if port.is_some_and(|port| port != Err(known)) {
+            self.differ_text(text, &format!("port {port:?}, known {known:?}"));
         }
     }
 
@@ -231,8 +247,8 @@ impl<'s> Check<'s> {
         equal
     }
 
-    /// The port's reader: the model's answer with 1,024 rows, with a random part of them and with a row for
-    /// every five bytes, and the buffer as document 01 has it.
+    /// The port's reader: the model's answer, a refusal with its place, with 1,024 rows, with a random part of
+    /// them and with a row for every five bytes, and the buffer as document 01 has it.
     fn subject_reads(&mut self, text: &[u8], read: &Result<Vec<Row>, u32>, rust: Option<&Answer>) {
         let Some(subject) = self.subject else {
             return;
@@ -242,16 +258,17 @@ impl<'s> Check<'s> {
         let much = MOST_ROWS * WORDS + self.random.below(3 * WORDS);
         let enough = (text.len() + 1) / 5 * WORDS;
         for words in [MOST_ROWS * WORDS, few, much, enough] {
-            let expected = model::read(text, Limits::lent(words / WORDS));
-            if words == enough && read.is_ok() && expected != *read {
+            let expected = model::read_placed(text, Limits::lent(words / WORDS));
+            if words == enough && read.is_ok() && expected.as_ref().ok() != read.as_ref().ok() {
                 self.differ_text(text, "not read alike with a row for every five bytes");
             }
             let mut buffer = vec![WORD_BEFORE; words];
             let answer = subject.read(text, &mut buffer);
             let (count, filled) = match &expected {
                 Ok(rows) => (Ok(rows.len()), model::to_words(rows)),
-                Err(number) => (Err(*number), vec![0; words]),
+                Err(refused) => (Err(*refused), vec![0; words]),
             };
+            self.placed += usize::from(count.is_err());
             if answer != count {
                 let what = format!("{words} words lent: port {answer:?}, model {count:?}");
                 self.differ_text(text, &what);
@@ -266,9 +283,9 @@ impl<'s> Check<'s> {
             }
             // The port and the Rust directly, where the Rust has a say.
             let added = [refusal::TOO_LONG, refusal::TOO_DEEP, refusal::NO_ROW];
-            let limited = answer.is_err_and(|number| added.contains(&number));
+            let limited = answer.is_err_and(|(number, _)| added.contains(&number));
             if let (Some(rust), false) = (rust, limited) {
-                let answer = answer.map(|count| {
+                let answer = answer.map_err(|(number, _)| number).map(|count| {
                     let filled = (count * WORDS).min(words);
                     model::from_words(&buffer[..filled])
                 });

@@ -1,7 +1,12 @@
 //! Texts whose answers are known beforehand: document 01's and those of the points that need care.
 
+use crate::model::Refused;
+
 /// A text with its row count or its refusal's number.
 pub type Known = (String, Result<usize, u32>);
+
+/// A text with the rows that it is lent, and its refusal.
+pub type Placed = (Vec<u8>, usize, Refused);
 
 /// Document 01's three lines, its texts to try and the points' smallest inputs.
 #[rustfmt::skip]
@@ -64,6 +69,43 @@ pub fn lent() -> Vec<(String, usize, Result<usize, u32>)> {
         (leaves(937), rows_of_eleven, Ok(938)),
         (leaves(938), rows_of_eleven, Err(4)),
     ]
+}
+
+/// Refused texts with their places (document 02, [2]): each number of the reader, around spaces and the text's end.
+#[rustfmt::skip]
+pub fn places() -> Vec<Placed> {
+    let all = 1_024;
+    let nested = |behind: &str| ("List(".repeat(64) + behind).into_bytes();
+    let mut places = vec![
+        (" ".repeat(16_385).into_bytes(), all, (1, 16_384)),
+        (vec![0xff; 20_000], all, (1, 16_384)),
+        (b"\xff".into(), all, (2, 0)),
+        (b"Int8 \xff".into(), all, (2, 0)),
+        (nested("nullable @"), all, (3, 329)),
+        (nested(" "), all, (3, 321)),
+        (nested("  nullable"), all, (3, 330)),
+    ];
+    let texts: &[(&str, usize, Refused)] = &[
+        ("", 0, (4, 0)), (" @", 0, (4, 1)), ("  ", 0, (4, 2)), ("List( nullable Int8)", 1, (4, 15)),
+        ("", all, (5, 0)), ("  ", all, (5, 2)), ("List", all, (5, 4)), ("List(Int8 ", all, (5, 10)),
+        ("Timestamp(s, \"CET)", all, (6, 13)), ("Struct(\"a\\\\\": Int8)", all, (6, 7)),
+        ("Timestamp(s,  \"\")", all, (7, 14)), ("List( @)", all, (8, 6)),
+        ("List(\"a\")", all, (9, 5)), ("Struct(,)", all, (9, 7)), ("Struct(\"Küche\" Int8)", all, (9, 16)),
+        ("FixedSizeBinary( -1)", all, (10, 17)), ("Time32( us)", all, (11, 8)),
+        ("Decimal32(9, 10)", all, (12, 15)),
+        ("RunEndEncoded(Int32, Utf8)", all, (13, 13)), ("RunEndEncoded( nullable Int8", all, (13, 15)),
+        ("RunEndEncoded(nullable", all, (13, 14)), ("RunEndEncoded(", all, (13, 13)),
+        ("RunEndEncoded( \"a", all, (13, 13)), ("RunEndEncoded(\"a\": List(Int8), ", all, (13, 28)),
+        ("RunEndEncoded(\"a\": nullable Int8 , ", all, (13, 28)),
+        ("Map(\"e\": Struct())", all, (13, 16)), ("Map(\"e\": Int8", all, (13, 9)),
+        ("Map(\"e\": non-null Struct(\"k\": Int8, \"v\": Int8), sorted)", all, (13, 45)),
+        ("Map(\"e\": non-null Int8, sorted)", all, (14, 18)),
+        ("Map(\"e\": non-null Struct(\"k\": Int8 ) , sorted)", all, (14, 35)),
+        ("Union(Dense, 0: (\"a\": Int8), 0: (\"b\": Int8) )", all, (15, 44)),
+        ("Int32 \"", all, (16, 6)), ("Int8)", all, (16, 4)), ("Int8  \t", all, (16, 6)),
+    ];
+    places.extend(texts.iter().map(|(text, rows, refused)| (text.as_bytes().into(), *rows, *refused)));
+    places
 }
 
 pub fn known() -> Vec<Known> {

@@ -108,7 +108,7 @@ fn show() -> Result<ExitCode, String> {
     let input = std::io::stdin().read_to_end(&mut text);
     input.map_err(|error| error.to_string())?;
     println!("text: {}", shown(&text));
-    match model::read(&text, model::Limits::lent(MOST_ROWS)) {
+    match model::read_placed(&text, model::Limits::lent(MOST_ROWS)) {
         Ok(rows) => {
             println!("model: {} rows, depth {}", rows.len(), model::depth(&rows));
             rows.iter()
@@ -119,7 +119,7 @@ fn show() -> Result<ExitCode, String> {
                 Err(number) => println!("  prints no {number}"),
             }
         }
-        Err(number) => println!("model: no {number}"),
+        Err((number, place)) => println!("model: no {number} {place}"),
     }
     match std::str::from_utf8(&text).map(oracle::read) {
         Ok(oracle::Answer::Accepted { data_type, rows }) => {
@@ -205,6 +205,9 @@ fn run(settings: &BTreeMap<String, u64>) -> Result<ExitCode, String> {
             let read = check.text(text.as_bytes()).map(|rows| rows.len());
             check.expect(text.as_bytes(), &read, &expected);
         }
+        for (text, rows, refused) in known::places() {
+            check.expect_place(&text, rows, refused);
+        }
     });
     let mut reached = 0;
     report.line("sequences", 1, |check| {
@@ -259,7 +262,11 @@ fn run(settings: &BTreeMap<String, u64>) -> Result<ExitCode, String> {
         }
     });
     report.total(1);
-    println!("sequences: all of up to {reached} tokens that could still be completed\n");
+    println!("sequences: all of up to {reached} tokens that could still be completed");
+    println!(
+        "refusals of the port compared by number and place: {}\n",
+        report.check.placed
+    );
 
     report.heading("trees", 17, 19);
     for (name, letters, share) in [

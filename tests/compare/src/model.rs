@@ -234,13 +234,16 @@ fn number(word: &str) -> Option<i64> {
     i64::try_from(if word.starts_with('-') { -size } else { size }).ok()
 }
 
+/// The first place at or behind `place` that holds no space.
+fn behind_spaces(text: &str, place: usize) -> usize {
+    let spaces = text.as_bytes()[place..].iter();
+    place + spaces.take_while(|byte| **byte == b' ').count()
+}
+
 /// The token at or behind `place` with the place behind it; none where only spaces are left.
 fn token(text: &str, place: usize) -> Result<Option<(Token, usize)>, u32> {
     let bytes = text.as_bytes();
-    let mut start = place;
-    while bytes.get(start) == Some(&b' ') {
-        start += 1;
-    }
+    let start = behind_spaces(text, place);
     let Some(&first) = bytes.get(start) else {
         return Ok(None);
     };
@@ -312,30 +315,45 @@ impl Limits {
     };
 }
 
+/// A refusal of the reader: its number, and its place in the text.
+pub type Refused = (u32, usize);
+
+/// The rows, or the refusal's number alone.
 pub fn read(text: &[u8], limits: Limits) -> Result<Vec<Row>, u32> {
+    read_placed(text, limits).map_err(|(number, _)| number)
+}
+
+/// The rows, or the refusal: its place is the start of the last token taken (document 02, [2]).
+pub fn read_placed(text: &[u8], limits: Limits) -> Result<Vec<Row>, Refused> {
     if text.len() > limits.bytes {
-        return Err(TOO_LONG);
+        return Err((TOO_LONG, MOST_BYTES));
     }
     let Ok(text) = std::str::from_utf8(text) else {
-        return Err(NOT_UTF8);
+        return Err((NOT_UTF8, 0));
     };
     let mut reader = Reader {
         text,
         place: 0,
+        last: 0,
         rows: Vec::new(),
         open: Vec::new(),
         limits,
     };
-    reader.data_type(1, Row::default())?;
-    match token(text, reader.place) {
-        Ok(None) => Ok(reader.rows),
-        _ => Err(LEFT_OVER),
+    if let Err(number) = reader.data_type(1, Row::default()) {
+        return Err((number, reader.last));
     }
+    let left = behind_spaces(text, reader.place);
+    if left < text.len() {
+        return Err((LEFT_OVER, left));
+    }
+    Ok(reader.rows)
 }
 
 struct Reader<'a> {
     text: &'a str,
     place: usize,
+    /// The first byte of the last token taken, broken or not; the text's length where there was none to take.
+    last: usize,
     rows: Vec<Row>,
     /// The rows whose types are begun and not ended, the root first.
     open: Vec<usize>,
@@ -344,6 +362,7 @@ struct Reader<'a> {
 
 impl Reader<'_> {
     fn take(&mut self) -> Result<Token, u32> {
+        self.last = behind_spaces(self.text, self.place);
         let (token, place) = token(self.text, self.place)?.ok_or(END)?;
         self.place = place;
         Ok(token)
@@ -435,10 +454,13 @@ impl Reader<'_> {
 
     /// A type at this level, its row begun by the caller; answers its row's number.
     fn data_type(&mut self, level: usize, row: Row) -> Result<usize, u32> {
+        // A type that may not begin is refused where it would have begun.
         if level > self.limits.levels {
+            self.last = behind_spaces(self.text, self.place);
             return Err(TOO_DEEP);
         }
         if self.rows.len() >= self.limits.rows {
+            self.last = behind_spaces(self.text, self.place);
             return Err(NO_ROW);
         }
         let at = self.rows.len();

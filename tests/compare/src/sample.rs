@@ -5,7 +5,9 @@ use crate::check::Check;
 use crate::generate::trees::{self, Letters, Tree};
 use crate::generate::{Random, Visit, bytes, damage, limits, places, sequences, texts};
 use crate::known;
-use crate::model::{self, KINDS, Limits, MOST_BYTES, MOST_ROWS, NAME_LIST, Row, WORDS, refusal};
+use crate::model::{
+    self, KINDS, Limits, MOST_BYTES, MOST_ROWS, NAME_LIST, Refused, Row, WORDS, refusal,
+};
 use crate::subject;
 use std::collections::BTreeMap;
 use std::process::ExitCode;
@@ -99,7 +101,7 @@ pub fn texts(file: &str, seed: u64) -> Result<ExitCode, String> {
     let mut kept = File::default();
     let mut accepted = 0;
     let mut keep = |text: &[u8], lent: usize| {
-        let answer = model::read(text, Limits::lent(lent / WORDS));
+        let answer = model::read_placed(text, Limits::lent(lent / WORDS));
         if kept.offer(text_record(text, lent, &answer)) {
             accepted += usize::from(answer.is_ok());
         }
@@ -134,22 +136,26 @@ fn lent(random: &mut Random, read: &Result<Vec<Row>, u32>) -> usize {
     }
 }
 
-fn text_record(text: &[u8], lent: usize, answer: &Result<Vec<Row>, u32>) -> Vec<u8> {
+fn text_record(text: &[u8], lent: usize, answer: &Result<Vec<Row>, Refused>) -> Vec<u8> {
     let mut record = Stored::default();
     record.number(lent).bytes(text);
     match answer {
         Ok(rows) => {
-            record.number(0).number(rows.len()).line();
+            record.number(0).number(rows.len()).number(0).line();
             record.words(&model::to_words(rows));
         }
-        Err(number) => record.number(*number as usize).number(0).line(),
+        Err((number, place)) => record
+            .number(*number as usize)
+            .number(0)
+            .number(*place)
+            .line(),
     }
     record.0
 }
 
 /// A text with the rows of another.
 fn wrong_text() -> Vec<u8> {
-    let answer = model::read(b"Int16", Limits::lent(MOST_ROWS));
+    let answer = model::read_placed(b"Int16", Limits::lent(MOST_ROWS));
     text_record(b"Int8", MOST_ROWS * WORDS, &answer)
 }
 

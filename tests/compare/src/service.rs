@@ -1,8 +1,10 @@
-//! The crate that services use, in bindings/rust, beside the Rust: reading, every field's view, printing and equality.
+//! The crate that services use, in bindings/rust, beside the Rust: reading, every field's view, printing and equality;
+//! of a refused text also number and place, beside the model.
 
 use crate::generate::{Random, Visit, damage, limits, places, texts};
+use crate::model::{self, Limits, MOST_ROWS};
 use crate::oracle::{self, Answer, ErrorKind, Row};
-use arrow_types::{DataType, Error, Field, MAX_TEXT};
+use arrow_types::{DataType, Error, Field, MAX_TEXT, ReadError};
 use std::collections::BTreeMap;
 use std::process::ExitCode;
 
@@ -41,6 +43,13 @@ fn generate(seed: u64, count: u64, visit: Visit) {
 /// Whether both accept a text, or how they differ. The Rust knows no limits and no bytes that are not UTF-8.
 fn compared(text: &[u8]) -> Result<bool, String> {
     let read = DataType::try_from(text);
+    let placed = |error: &ReadError| (error.number(), error.place());
+    let refused = read.as_ref().err().map(placed);
+    let model = model::read_placed(text, Limits::lent(MOST_ROWS)).err();
+    if refused != model {
+        return Err(format!("{refused:?}, and the model {model:?}"));
+    }
+    let read = read.map_err(Error::from);
     let rust = match std::str::from_utf8(text) {
         Ok(text) => oracle::read(text),
         Err(_) if matches!(read, Err(Error::NotUtf8 | Error::TextTooLong)) => return Ok(false),

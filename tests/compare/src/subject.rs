@@ -1,10 +1,12 @@
 //! The port: the static library of the crate `arrow_types`, linked with the feature `subject` (build.rs).
 //! Without that feature only model and Rust are compared.
 
+use crate::model::Refused;
+
 /// What is compared of the port.
 pub trait Subject {
-    /// Fills `rows` and answers the row count or the refusal's number.
-    fn read(&self, text: &[u8], rows: &mut [u32]) -> Result<usize, u32>;
+    /// Fills `rows` and answers the row count, or the refusal's number and place.
+    fn read(&self, text: &[u8], rows: &mut [u32]) -> Result<usize, Refused>;
 
     /// Fills `out` and answers the printed length or the refusal's number.
     fn print(&self, text: &[u8], list: &[u8], rows: &[u32], out: &mut [u8]) -> Result<usize, u32>;
@@ -35,6 +37,7 @@ unsafe extern "C" {
         rows: *mut u32,
         rows_length: usize,
         count: *mut usize,
+        place: *mut usize,
     ) -> u32;
 
     fn arrow_types_rows_to_lend(text_length: usize) -> usize;
@@ -64,8 +67,9 @@ impl Linked {
 
 #[cfg(feature = "subject")]
 impl Subject for Linked {
-    fn read(&self, text: &[u8], rows: &mut [u32]) -> Result<usize, u32> {
+    fn read(&self, text: &[u8], rows: &mut [u32]) -> Result<usize, Refused> {
         let mut count = usize::MAX;
+        let mut place = usize::MAX;
         // The pointers come from slices, which last until the call returns.
         let status = unsafe {
             arrow_types_read(
@@ -74,9 +78,15 @@ impl Subject for Linked {
                 rows.as_mut_ptr(),
                 rows.len(),
                 &mut count,
+                &mut place,
             )
         };
-        answer(status, count)
+        let read = answer(status, count).map_err(|number| (number, place));
+        assert!(
+            read.is_err() || place == 0,
+            "accepted with the place {place}"
+        );
+        read
     }
 
     fn print(&self, text: &[u8], list: &[u8], rows: &[u32], out: &mut [u8]) -> Result<usize, u32> {

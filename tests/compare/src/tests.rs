@@ -5,7 +5,7 @@ use crate::check::{self, Check};
 use crate::generate::trees::{self, Letters};
 use crate::generate::{Random, damage, texts};
 use crate::known;
-use crate::model::{self, Limits, MOST_BYTES, MOST_ROWS, NAME_LIST, WORDS};
+use crate::model::{self, Limits, MOST_BYTES, MOST_ROWS, NAME_LIST, Refused, WORDS};
 use crate::subject::{self, Subject};
 
 #[test]
@@ -60,9 +60,27 @@ fn words_lent() {
         let read = model::read(text.as_bytes(), Limits::lent(lent / WORDS));
         assert_eq!(read.map(|rows| rows.len()), expected);
         if let Some(port) = subject::linked() {
-            assert_eq!(port.read(text.as_bytes(), &mut vec![7; lent]), expected);
+            let read = port.read(text.as_bytes(), &mut vec![7; lent]);
+            assert_eq!(read.map_err(|(number, _)| number), expected);
         }
     }
+}
+
+#[test]
+fn places() {
+    let port = subject::linked();
+    let mut check = Check::new(port.as_deref(), 1);
+    for (text, rows, refused) in known::places() {
+        check.expect_place(&text, rows, refused);
+        assert_eq!(check.differences(), 0);
+    }
+    // A place that is not the model's, and one of the port that is not the known one.
+    let mut check = Check::new(None, 1);
+    check.expect_place(b"Int33", 1, (8, 1));
+    assert_eq!(check.differences(), 1);
+    let mut check = Check::new(Some(&Port(Fault::PlaceZero)), 1);
+    check.expect_place(b"Struct(,)", 1, (9, 7));
+    assert_eq!(check.differences(), 1);
 }
 
 #[test]
@@ -199,6 +217,13 @@ enum Fault {
     RestOfRowsZeroed,
     CountTooHigh,
     AnotherNumber,
+    PlaceZero,
+    PlaceBehindTheMark,
+    PlaceOfALook,
+    PlaceOfTheShortFormsNext,
+    PlaceWithoutTrailingSpaces,
+    PlaceOfTheTypesEnd,
+    PlaceBeforeTheTypesSpaces,
     PartOfARowCounted,
     NameElsewhere,
     ParentsUnset,
@@ -216,15 +241,48 @@ enum Fault {
 /// The model as a port, with a fault.
 struct Port(Fault);
 
+impl Port {
+    /// Where the port says that a text is refused.
+    fn place(&self, text: &[u8], (number, place): Refused) -> usize {
+        let (before, behind) = text.split_at(place.min(text.len()));
+        let spaces = before.iter().rev().take_while(|byte| **byte == b' ');
+        let without_spaces = place - spaces.count();
+        // Of 13 the short RunEndEncoded form alone stands at such a token.
+        let short_form = behind.starts_with(b"(") || behind.starts_with(b"nullable");
+        let string = matches!(behind.first(), Some(b'"' | b'\''));
+        match (self.0, number) {
+            (Fault::PlaceZero, _) => 0,
+            (Fault::PlaceBehindTheMark, 6 | 7 | 9) if string => place + 1,
+            (Fault::PlaceOfALook, 13 | 14) if !short_form => place + to_next(behind),
+            (Fault::PlaceOfTheShortFormsNext, 13) if short_form => place + to_next(behind),
+            (Fault::PlaceWithoutTrailingSpaces, 5) => without_spaces,
+            (Fault::PlaceOfTheTypesEnd, 16) => without_spaces,
+            (Fault::PlaceBeforeTheTypesSpaces, 3 | 4) => without_spaces,
+            _ => place,
+        }
+    }
+}
+
+/// How far behind a mark's or a word's first byte the next token stands, or the end.
+fn to_next(text: &[u8]) -> usize {
+    let is_mark = |byte: &u8| b"(),:".contains(byte);
+    let word = text
+        .iter()
+        .take_while(|byte| !is_mark(byte) && **byte != b' ');
+    let token = word.count().max(1);
+    let spaces = text[token..].iter().take_while(|byte| **byte == b' ');
+    token + spaces.count()
+}
+
 impl Subject for Port {
-    fn read(&self, text: &[u8], rows: &mut [u32]) -> Result<usize, u32> {
+    fn read(&self, text: &[u8], rows: &mut [u32]) -> Result<usize, Refused> {
         let mut lent = rows.len() / WORDS;
         match self.0 {
             Fault::PartOfARowCounted => lent = rows.len().div_ceil(WORDS),
             Fault::SmallRoomForRows => lent = lent.saturating_sub(1),
             _ => {}
         }
-        let read = model::read(text, Limits::lent(lent));
+        let read = model::read_placed(text, Limits::lent(lent));
         match &read {
             Ok(read) => {
                 let words = model::to_words(read);
@@ -249,8 +307,8 @@ impl Subject for Port {
         }
         match read {
             Ok(read) => Ok(read.len() + usize::from(self.0 == Fault::CountTooHigh)),
-            Err(9) if self.0 == Fault::AnotherNumber => Err(8),
-            Err(number) => Err(number),
+            Err((9, place)) if self.0 == Fault::AnotherNumber => Err((8, place)),
+            Err(refused) => Err((refused.0, self.place(text, refused))),
         }
     }
 
@@ -336,6 +394,13 @@ fn ports_with_faults_are_caught() {
         Fault::RestOfRowsZeroed,
         Fault::CountTooHigh,
         Fault::AnotherNumber,
+        Fault::PlaceZero,
+        Fault::PlaceBehindTheMark,
+        Fault::PlaceOfALook,
+        Fault::PlaceOfTheShortFormsNext,
+        Fault::PlaceWithoutTrailingSpaces,
+        Fault::PlaceOfTheTypesEnd,
+        Fault::PlaceBeforeTheTypesSpaces,
         Fault::PartOfARowCounted,
         Fault::NameElsewhere,
         Fault::ParentsUnset,

@@ -2,13 +2,15 @@
 -- code finds its way; what must be believed is in Parse.antt.
 use Rattle.std.specs.Prelude.{◌≡◌, Option, Some, None, Result, Ok, Bool, ◌||◌, List, [], ◌∷◌, ◌++◌, ℕ, ℤ, ◌+◌, ◌*◌, ◌/◌, ◌≤◌, ◌<◌, length, drop, eqb, if◌then◌else◌}
 use Rattle.std.proofs.lemmas.List.Edits.{sets}
-use Rattle.tokenizer.specs.Answer.{Out, refused, done, answer_of}
-use Rattle.tokenizer.specs.declared.refusal.Refusal as R
-use Rattle.tokenizer.specs.Token.{Standing, value_of, is_negative, signed, lparen, rparen, comma, colon}
+use Rattle.tokenizer.specs.Answer.{Refusal, Out, refused, done, refuse_at}
+use Rattle.tokenizer.specs.Token.{Standing, token_or_refusal, place_of, value_of, is_negative, signed, lparen, rparen, comma, colon}
+use Rattle.tokenizer.specs.declared.Token.{Token}
 use Rattle.datatype.specs.Limits.{max_rows}
 use Rattle.datatype.specs.Tree.{Forest, count, Row}
 use Rattle.datatype.specs.Table.{row_words, words_of, table_of}
-use Rattle.parser.specs.Parse.{Tree, Fields, Zone, bare_row, single, rows_in}
+use Rattle.parser.specs.Answer.{read_answer}
+use Rattle.parser.specs.declared.error.ReadError.{ReadError}
+use Rattle.parser.specs.Parse.{refusal_of, Tree, Fields, Zone, bare_row, single, rows_in}
 use Rattle.parser.specs.declared.ReadValue.{ReadValue}
 use Rattle.parser.specs.declared.Span.{Span}
 use Rattle.parser.specs.declared.Extent.{Extent}
@@ -22,6 +24,18 @@ mark_sort c = if eqb c 40 then lparen else if eqb c 41 then rparen else if eqb c
 
 abbrev pub is_mark : ℕ → Bool
 is_mark c = eqb c 40 || eqb c 41 || eqb c 44 || eqb c 58
+
+-- A token that is taken whatever its sort; what is none is refused at its place.
+abbrev pub placed : {A : Type 0} → ℕ → Out A → Out A
+placed at (refused r) = refuse_at r.number at
+placed at (done a) = done a
+
+unfoldable pub taken : Standing → Out Token
+taken s = placed (place_of s.kind s.start) (token_or_refusal s)
+
+-- The refusal at what stands there, where another sort of token is needed.
+abbrev pub refused_here : Standing → Refusal
+refused_here s = record { number = refusal_of s.kind; place = Some (place_of s.kind s.start) }
 
 -- What the code keeps of a token: the place behind it, if there is one; a word, a number and a string.
 unfoldable pub next_of : Out Standing → Out ℕ
@@ -74,13 +88,13 @@ abbrev pub extent : ℕ → ℕ → Extent
 extent next used = record { next = next; used = used }
 
 -- A type or a field. The rows are left open on a refusal: the public function clears them.
-unfoldable pub Meets : Out Tree → List ℕ → Result Extent R.Refusal → List ℕ → Type 0
-Meets (refused x) before r after = answer_of r ≡ refused x
+unfoldable pub Meets : Out Tree → List ℕ → Result Extent ReadError → List ℕ → Type 0
+Meets (refused x) before r after = read_answer r ≡ refused x
 Meets (done t) before r after = (r ≡ Ok (extent t.next (rows_in t))) × Stored (single t) before after
 
 -- Some fields.
-unfoldable pub MeetsFields : Out Fields → List ℕ → Result Extent R.Refusal → List ℕ → Type 0
-MeetsFields (refused x) before r after = answer_of r ≡ refused x
+unfoldable pub MeetsFields : Out Fields → List ℕ → Result Extent ReadError → List ℕ → Type 0
+MeetsFields (refused x) before r after = read_answer r ≡ refused x
 MeetsFields (done fs) before r after = (r ≡ Ok (extent fs.next (count fs.trees))) × Stored fs.trees before after
 
 -- The row that a head is written as.
@@ -92,8 +106,8 @@ abbrev pub Put : ℕ → ℕ → Row → Extent → List ℕ → Type 0
 Put next used r a row = (a ≡ extent next (used + 1)) × (row ≡ words_of r (used + 1))
 
 -- The same, behind the mark that closes the type.
-unfoldable pub Closed : Out Standing → ℕ → Row → Result Extent R.Refusal → List ℕ → Type 0
-Closed (refused x) used r a row = answer_of a ≡ refused x
+unfoldable pub Closed : Out Standing → ℕ → Row → Result Extent ReadError → List ℕ → Type 0
+Closed (refused x) used r a row = read_answer a ≡ refused x
 Closed (done t) used r a row = (a ≡ Ok (extent t.next (used + 1))) × (row ≡ words_of r (used + 1))
 
 -- The words that make the first row a field's, as they are written.
