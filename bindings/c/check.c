@@ -213,6 +213,87 @@ static void printing(void)
     CHECK(arrow_types_print(TREE(&a), out, sizeof out, &length) == ARROW_TYPES_NOT_ASCII);
 }
 
+/* What is lent to print a name stands in more bytes, which must stay as they were. */
+enum { AROUND = 64, LONGEST_NAME = 70, ROOM = 2 * AROUND + 32 + 6 * LONGEST_NAME };
+
+static uint8_t room[ROOM];
+
+static int untouched(const uint8_t *bytes, size_t count)
+{
+    for (size_t i = 0; i < count; i++)
+        if (bytes[i] != 'x')
+            return 0;
+    return 1;
+}
+
+/* A Struct of one Int8 field, whose name is the whole text. */
+static void name_field(struct tree *tree, const char *name, size_t length)
+{
+    static const uint32_t root[ARROW_TYPES_ROW_WORDS] = {32, 2};
+    const uint32_t field[ARROW_TYPES_ROW_WORDS] = {2, 1, 1, 0, 0, 0, 1, 0, (uint32_t)length, 0, 0, 0};
+    tree->text = (const uint8_t *)name;
+    tree->length = length;
+    tree->words = 2 * ARROW_TYPES_ROW_WORDS;
+    memcpy(tree->rows, root, sizeof root);
+    memcpy(tree->rows + ARROW_TYPES_ROW_WORDS, field, sizeof field);
+}
+
+/* Its printed text, and how long that is. */
+static size_t expect_name(char *text, const char *name, size_t length)
+{
+    size_t at = (size_t)sprintf(text, "Struct(\"");
+    for (size_t i = 0; i < length; i++)
+        if (name[i] == '\t')
+            at += (size_t)sprintf(text + at, "\\t");
+        else if (name[i] == '"')
+            at += (size_t)sprintf(text + at, "\\\"");
+        else if (name[i] == '\x1f')
+            at += (size_t)sprintf(text + at, "\\u{1f}");
+        else
+            text[at++] = name[i];
+    return at + (size_t)sprintf(text + at, "\": Int8)");
+}
+
+/* Whether a name prints into so many bytes more than it needs, and nothing behind it or around what is lent changes. */
+static int stays_inside(const char *name, size_t length, size_t more)
+{
+    static char expected[ROOM];
+    size_t printed = 99, size = expect_name(expected, name, length);
+    name_field(&a, name, length);
+    memset(room, 'x', sizeof room);
+    return arrow_types_print(TREE(&a), room + AROUND, size + more, &printed) == 0
+        && printed == size && memcmp(room + AROUND, expected, size) == 0
+        && untouched(room, AROUND) && untouched(room + AROUND + size, sizeof room - AROUND - size);
+}
+
+/* Whether a name is refused where a byte is missing, and nothing changes. */
+static int is_refused_whole(const char *name, size_t length)
+{
+    static char expected[ROOM];
+    size_t printed = 99, size = expect_name(expected, name, length);
+    name_field(&a, name, length);
+    memset(room, 'x', sizeof room);
+    return arrow_types_print(TREE(&a), room + AROUND, size - 1, &printed) == ARROW_TYPES_PRINT_TOO_LONG
+        && printed == 0 && untouched(room, sizeof room);
+}
+
+/* Names of each length, with an escape at each place. */
+static void printing_names(void)
+{
+    static const char escapes[] = {'\t', '"', '\x1f'};
+    char name[LONGEST_NAME];
+    for (size_t length = 1; length <= LONGEST_NAME; length++)
+        for (size_t place = 0; place < length; place++)
+            for (size_t i = 0; i < sizeof escapes; i++) {
+                memset(name, 'n', sizeof name);
+                CHECK(stays_inside(name, length, 0));
+                name[place] = escapes[i];
+                CHECK(stays_inside(name, length, 0));
+                CHECK(stays_inside(name, length, AROUND));
+                CHECK(is_refused_whole(name, length));
+            }
+}
+
 static void judging(void)
 {
     size_t depth = 99, row = 99;
@@ -348,6 +429,7 @@ int main(void)
     places();
     lending();
     printing();
+    printing_names();
     judging();
     comparing();
     naming();

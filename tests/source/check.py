@@ -1,7 +1,8 @@
 #!/usr/bin/env python3
 """Checks that need no proof: public functions state what they answer and ask nothing, by definitions that a reader must
-believe; functions are small; no import is idle; the documents name definitions that exist; no crate is left off the list;
-the table of the listed words is what its script writes; and the layout is that of `rt fmt`.
+believe; functions are small, and those that write output hold no long array; no import is idle; the documents name
+definitions that exist; no crate is left off the list; the table of the listed words is what its script writes; and the
+layout is that of `rt fmt`.
 
     python3 tests/source/check.py
     python3 tests/source/check.py --believe     # the definitions that each demand rests on, with their lines
@@ -16,6 +17,7 @@ import sys
 
 ROOT = pathlib.Path(__file__).resolve().parents[2]
 sys.path[:0] = [str(ROOT / folder) for folder in ("tests", "tests/source", "tools")]
+import arrays  # noqa: E402
 import functions  # noqa: E402
 import needs  # noqa: E402
 import unused_imports  # noqa: E402
@@ -77,6 +79,17 @@ def check_functions():
         for function in functions.functions(path.read_text(encoding="utf8")):
             for fault in function.faults():
                 faults.append(f"{path.relative_to(ROOT)}: fn {function.name} {fault}")
+
+
+def check_arrays():
+    libraries = [path.parent for path in sorted(ROOT.glob("crates/*/src/lib.rt"))]
+    texts = {path: path.read_text(encoding="utf8") for folder in libraries for path in sorted(folder.glob("**/*.rt"))}
+    numbers = arrays.numbers_of(texts.values())
+    named = arrays.named(texts.values(), numbers)
+    holding = arrays.holders(texts.values())
+    for path, text in texts.items():
+        for function, array in arrays.faults(text, numbers, named, holding):
+            faults.append(f"{path.relative_to(ROOT)}: fn {function} writes output and holds {array}, longer than {arrays.MOST_HELD}")
 
 
 def check_imports():
@@ -294,6 +307,7 @@ def main():
         check_contracts,
         check_internal,
         check_functions,
+        check_arrays,
         check_imports,
         check_listed_functions,
         check_documents,

@@ -7,14 +7,18 @@ MOST_LINES = 39
 MOST_NESTED = 3
 MOST_LOOPS = 1
 
+IMPL = re.compile(r"^impl\b(?:<[^>]*>)? (?:.* for )?(?P<owner>\w+)")
 HEAD = re.compile(r"^(?P<indent>\s*)(?:pub(?:\(crate\))? )?(?:extern \"C\" )?fn (?P<name>\w+)")
 QUOTED = re.compile(r"b?'(?:\\.|[^'\\])*'|b?\"(?:\\.|[^\"\\])*\"|//.*")
 LITERAL = re.compile(r"\b[A-Z]\w*(?:::[A-Z]\w*)? \{$")
 
 
 class Function:
-    def __init__(self, name, body):
+    def __init__(self, name, head, body, owner=None):
         self.name = name
+        self.owner = owner
+        self.head = head
+        self.raw = body
         self.body = [QUOTED.sub("", line).strip() for line in body]
 
     def nested(self):
@@ -43,20 +47,31 @@ class Function:
         return [f"has {found} {what}, more than {most}" for what, found, most in limits if found > most]
 
 
+def signature(lines):
+    """A function's parameters and result: what stands before its contract and its body."""
+    return " ".join(line.strip() for line in lines if not re.match(r"\s*(?:requires|ensures)\b", line))
+
+
 def functions(text):
-    """Each function of a text in the layout of `rt fmt`, by its body."""
+    """Each function of a text in the layout of `rt fmt`, by its body; of an `impl`, with the type that it is of."""
     lines = text.splitlines()
     at = 0
+    owner = None
     while at < len(lines):
         head = HEAD.match(lines[at])
+        impl = IMPL.match(lines[at])
+        if impl:
+            owner = impl["owner"]
+        if lines[at] == "}":
+            owner = None
         at += 1
         if not head:
             continue
-        ends = at - 1
+        first = ends = at - 1
         while not lines[ends].endswith("{") or re.match(r"\s*(?:requires|ensures)\b", lines[ends]):
             ends += 1
         start = ends + 1
         while lines[ends].rstrip() != head["indent"] + "}":
             ends += 1
-        yield Function(head["name"], lines[start:ends])
+        yield Function(head["name"], signature(lines[first:start]), lines[start:ends], owner)
         at = ends + 1

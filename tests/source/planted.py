@@ -1,7 +1,8 @@
 #!/usr/bin/env python3
 """Planted cases for the checks on sources. Imports: those that are used in some way must stay, others must go. Functions:
-those that are too long, nest too deep or have two loops are found, others not. The table of words: a file that is missing
-or has another number is found, and a walk through the numbers tells the words apart.
+those that are too long, nest too deep or have two loops are found, others not. Arrays: those longer than 32 in functions
+that write output are found, in whatever way they are written. The table of words: a file that is missing or has another
+number is found, and a walk through the numbers tells the words apart.
 
     python3 tests/source/planted.py
 """
@@ -12,6 +13,7 @@ import tempfile
 import unittest
 
 sys.path[:0] = [str(pathlib.Path(__file__).resolve().parents[2] / folder) for folder in ("tools", "tests/source")]
+import arrays  # noqa: E402
 import functions  # noqa: E402
 import unused_imports  # noqa: E402
 import word_table  # noqa: E402
@@ -151,6 +153,65 @@ class Functions(unittest.TestCase):
         value = ["                return A {", "                    b: 1,", "                };"]
         other = ["                put(out, b'{', b\"\\\\u{\"); // {"]
         self.assertEqual(self.faults(self.nest(["if a", "match b", "C::D(e) =>"], value + other)), [])
+
+
+class Arrays(unittest.TestCase):
+    def faults(self, line, head="fn f(out: &mut [u8], at: usize) -> usize {", others=""):
+        text = f"{others}{head}\n    {line}\n}}\n"
+        numbers = arrays.numbers_of([text])
+        return [array for _, array in arrays.faults(text, numbers, arrays.named([text], numbers))]
+
+    def test_lengths(self):
+        self.assertEqual(self.faults("let a = [0u8; 32];"), [])
+        self.assertEqual(self.faults("let a = [0u8; 33];"), ["an array in its body"])
+        self.assertEqual(self.faults("let a: [u8; 33] = given();"), ["an array in its body"])
+        self.assertEqual(self.faults("let a = [0; 1_000];"), ["an array in its body"])
+        self.assertEqual(self.faults("let a = [[0; 8]; 4];"), [])
+        self.assertEqual(self.faults("let a = [[0; 8]; 5];"), ["an array in its body"])
+        self.assertEqual(self.faults("let a: [[u8; 5]; 8] = given();"), ["an array in its body"])
+
+    def test_byte_strings(self):
+        self.assertEqual(self.faults(f'put(out, at, b"{"a" * 32}")'), [])
+        self.assertEqual(self.faults(f'put(out, at, b"{"a" * 33}")'), ["an array in its body"])
+        self.assertEqual(self.faults(f'put(out, at, b"{chr(92)}x41{"a" * 31}")'), [])
+        self.assertEqual(self.faults(f'put(out, at, b"{chr(92)}n{"a" * 32}")'), ["an array in its body"])
+
+    def test_elements(self):
+        self.assertEqual(self.faults(f"let a = [{', '.join('1' * 32)}];"), [])
+        self.assertEqual(self.faults(f"let a = [{', '.join('1' * 33)}];"), ["an array in its body"])
+
+    def test_names(self):
+        sizes = "const FEW: usize = 32;\n\nconst MANY: usize = 33;\n\n"
+        self.assertEqual(self.faults("let a = [0; FEW];", others=sizes), [])
+        self.assertEqual(self.faults("let a = [0; kinds::MANY];", others=sizes), ["an array in its body"])
+        self.assertEqual(self.faults("let a = [0; ELSEWHERE];", others=sizes), ["an array in its body"])
+        self.assertEqual(self.faults("put(out, at, &LONG)", others="const LONG: [u8; 33] = [0; 33];\n\n"), ["LONG"])
+        self.assertEqual(self.faults("put(out, at, &SHORT)", others="const SHORT: [u8; 32] = [0; 32];\n\n"), [])
+        self.assertEqual(self.faults("let a = made();", others="fn made() -> [u8; 33] {\n    [0; 33]\n}\n\n"), ["made"])
+        self.assertEqual(self.faults("let a = EDGES;", others="type Table = [u16; 470];\n\nconst EDGES: Table = [1, 2];\n\n"), ["EDGES"])
+
+    def test_other_functions(self):
+        # no output is written: rows are, or nothing is
+        self.assertEqual(self.faults("let a = [0u8; 33];", head="fn f(rows: &mut [u32]) {"), [])
+        self.assertEqual(self.faults("let a = [0u8; 33];", head="fn f(out: &[u8]) {"), [])
+        self.assertEqual(self.faults("let a = [0u8; 33];", head="fn f<'a>(out: &'a mut [u8]) {"), ["an array in its body"])
+
+    def test_text(self):
+        self.assertEqual(self.faults("// [0u8; 33] would be too long"), [])
+
+    def test_structs(self):
+        # output in a struct, as a method's own or handed over; a struct that holds none
+        printer = "struct Printer<'a> {\n    at: usize,\n    out: &'a mut [u8],\n}\n\nstruct Place {\n    at: usize,\n}\n\n"
+        method = "    fn f(&mut self) {\n        let a = [0u8; 33];\n    }\n"
+        handed = "fn f(printer: &mut Printer<'_>) {\n    let a = [0u8; 33];\n}\n"
+
+        def found(text):
+            return [array for _, array in arrays.faults(text, {}, {}, arrays.holders([text]))]
+
+        self.assertEqual(found(f"{printer}impl<'a> Printer<'a> {{\n{method}}}\n"), ["an array in its body"])
+        self.assertEqual(found(printer + handed), ["an array in its body"])
+        self.assertEqual(found(f"{printer}impl Place {{\n{method}}}\n"), [])
+        self.assertEqual(found(f"{printer}impl<'a> Printer<'a> {{\n{method.replace('33', '32')}}}\n"), [])
 
 
 class WordTable(unittest.TestCase):

@@ -1,5 +1,6 @@
 // Double-quoted strings, written as Rust's `{:?}` writes them.
-ghost use Rattle.std.specs.Prelude.{◌≡◌, ◌+◌, ◌≤◌, ◌<◌, length};
+ghost use Rattle.std.specs.Prelude.{◌≡◌, not, [], ◌∷◌, ◌++◌, ◌+◌, ◌≤◌, ◌<◌, length};
+ghost use Rattle.tokenizer.specs.Text.{all};
 ghost use Rattle.display_length.specs.Display.{hex_digit, hex, escape, escaped, quoted};
 ghost use Rattle.datatype_display.specs.Internal.Steps.{Fits, Wrote, Ran, unicode_text, is_itself};
 
@@ -31,6 +32,31 @@ fn is_itself(c: u8) -> bool
     b' ' <= c && c != b'"'
 }
 
+// How many bytes of a string are looked at and copied at once: as many as an instruction compares and moves.
+const PIECE: usize = 16;
+
+// Whether a byte is written as something else. A piece is asked by this: by `is_itself` its bytes are compared one by one,
+// and a name of 16,000 letters takes three times the instructions to print.
+#[tactic(auto, unfolding(crate::specs::Internal::Steps::is_itself))]
+fn is_escaped(c: u8) -> bool
+    ensures { result ≡ not (is_itself c) }
+{
+    c < b' ' || c == b'"' || c == b'\\' || c == 127
+}
+
+// Whether a byte of a piece is written as something else: each is looked at, with no early exit, so that all are compared
+// at once.
+#[tactic(auto, using(crate::proofs::Escapes::found_steps))]
+fn has_escaped(piece: &[u8; PIECE]) -> bool
+    ensures { result ≡ not (all is_itself piece.now) }
+{
+    let mut found = false;
+    for c in piece {
+        found |= is_escaped(*c);
+    }
+    found
+}
+
 // Writes the bytes up to the first that is escaped, and answers how many they are: of most names, all. One loop looks
 // at a byte and writes it, since most names are short. It is lent the output and not the printer, whose place and whose
 // slice would be read again at each byte: as a method that calls `put_mark`, 700 fields take 3 in 100 more, with names of
@@ -47,6 +73,19 @@ fn put_run(out: &mut [u8], at: usize, s: &[u8]) -> usize
         out[at + i] = *c;
     }
     s.len()
+}
+
+// The same of a string that is shorter than a piece; of a longer one it writes nothing. So a short name is written by one
+// loop in a function that calls no other: without that, 700 names of ten letters take 3 in 100 more.
+#[tactic(auto, using(crate::proofs::Escapes::ran_none))]
+fn put_short(out: &mut [u8], at: usize, s: &[u8]) -> usize
+    requires { at + length (escaped s.now) ≤ length out.old }
+    ensures { Ran out.old at s.now result out.new }
+{
+    if PIECE <= s.len() {
+        return 0;
+    }
+    put_run(out, at, s)
 }
 
 impl<'a> Printer<'a> {
@@ -102,7 +141,7 @@ impl<'a> Printer<'a> {
         }
     }
 
-    // Writes what stands between the marks.
+    // Writes a part of what stands between the marks: a run, then byte by byte.
     fn put_between(&mut self, s: &[u8])
         requires { Fits self.old (escaped s.now) }
         ensures { Wrote self.old (escaped s.now) self.new }
@@ -112,14 +151,54 @@ impl<'a> Printer<'a> {
         self.put_escaped(&s[n..]);
     }
 
-    // Writes a string in double quotes.
-    #[tactic(auto, using(crate::proofs::Writes::writes), unfolding(display_length::specs::Display::quoted))]
+    // Writes a piece: at once where nothing in it is escaped.
+    #[tactic(auto, using(crate::proofs::Escapes::itself_fits))]
+    fn put_piece(&mut self, piece: &[u8; PIECE])
+        requires { Fits self.old (escaped piece.now) }
+        ensures { Wrote self.old (escaped piece.now) self.new }
+    {
+        if has_escaped(piece) {
+            self.put_between(piece);
+        } else {
+            self.put(piece);
+        }
+    }
+
+    // Writes what is left of a string and the mark behind it: piece by piece, then what is shorter than one. It is no part of
+    // `put_quoted`, or 700 names of ten letters take 2 in 100 more.
+    #[inline(never)]
+    #[tactic(auto, using(crate::proofs::Writes::left_start))]
+    fn put_rest(&mut self, s: &[u8])
+        requires { Fits self.old (escaped s.now ++ (34 ∷ [])) }
+        ensures { Wrote self.old (escaped s.now ++ (34 ∷ [])) self.new }
+    {
+        let mut rest = s;
+        while let Some((piece, behind)) = rest.split_first_chunk::<PIECE>() {
+            self.put_piece(piece);
+            rest = behind;
+        }
+        self.put_between(rest);
+        self.put_mark(b'"');
+    }
+
+    // Writes a string in double quotes. It is no part of its callers, or 700 names of ten letters take 9 in 1,000 more; and it
+    // holds its place itself, which by `put_mark` would be stored and read again around a short string, for 4 in 1,000 more.
+    #[inline(never)]
+    #[tactic(auto, unfolding(display_length::specs::Display::quoted))]
     pub(crate) fn put_quoted(&mut self, s: &[u8])
         requires { Fits self.old (quoted s.now) }
         ensures { Wrote self.old (quoted s.now) self.new }
     {
-        self.put_mark(b'"');
-        self.put_between(s);
-        self.put_mark(b'"');
+        let start = self.at;
+        self.out[start] = b'"';
+        let n = put_short(self.out, start + 1, s);
+        let end = start + 1 + n;
+        if n < s.len() {
+            self.at = end;
+            self.put_rest(&s[n..]);
+        } else {
+            self.out[end] = b'"';
+            self.at = end + 1;
+        }
     }
 }

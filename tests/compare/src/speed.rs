@@ -86,7 +86,9 @@ fn print() {
 /// Time grows with rows and bytes: 1,023 fields whose name is the whole text, so that it is looked at once for each and
 /// refused with 19.
 fn refuse() {
-    println!("\nprinting 1,023 fields with one name of n bytes each, refused with 19: nanoseconds, and for a byte.");
+    println!(
+        "\nprinting 1,023 fields with one name of n bytes each, refused with 19: nanoseconds, and for a byte."
+    );
     println!("n                                      port  a byte");
     for (byte, shown) in [('a', "letters"), ('\u{1f}', "escapes")] {
         for bytes in [64, 1_024, 16_384] {
@@ -149,6 +151,10 @@ pub fn texts() -> Vec<(&'static str, String)> {
         .map(|field| [field / 676, field / 26, field].map(letter))
         .map(|[a, b, c]| format!("\"letters{a}{b}{c}\": Int8"))
         .collect();
+    let long: Vec<String> = (0..350)
+        .map(|field| [field / 676, field / 26, field].map(letter))
+        .map(|[a, b, c]| format!("\"flow_temperature_setpoint_{a}{b}{c}\": Int8"))
+        .collect();
     let refused = columns.replace("unsorted", "unsortedly");
     vec![
         ("zone", zone.into()),
@@ -157,6 +163,15 @@ pub fn texts() -> Vec<(&'static str, String)> {
         (
             "700 ten-letter names",
             format!("Struct({})", names.join(", ")),
+        ),
+        ("350 long names", format!("Struct({})", long.join(", "))),
+        (
+            "one longest name",
+            format!("Struct(\"{}\": Int8)", "n".repeat(16_000)),
+        ),
+        (
+            "one name of tabs",
+            format!("Struct(\"{}\": Int8)", "\t".repeat(8_000)),
         ),
         ("refused", refused),
     ]
