@@ -153,7 +153,7 @@ uint32_t arrow_types_read(const uint8_t *text, size_t text_length,
 size_t arrow_types_rows_to_lend(size_t text_length);
 
 /*
- * Prints a tree into a lent buffer.
+ * Prints a tree into a lent buffer, microseconds as us.
  *
  * 0: the first *length bytes are the text, with no zero behind it, and the bytes behind them are as they were.
  * 17 to 19: the tree is refused; *length is 0, and out is as it was.
@@ -164,6 +164,16 @@ uint32_t arrow_types_print(const uint8_t *text, size_t text_length,
                            const uint8_t *names, size_t names_length,
                            const uint32_t *rows, size_t rows_length,
                            uint8_t *out, size_t out_length, size_t *length);
+
+/*
+ * The same, but microseconds are printed as the Rust crate arrow-schema prints them, with the micro sign: the bytes C2 B5
+ * stand for the u. It is for what is compared with that. Each such unit makes the text a byte longer, and it is this text
+ * that is to fit. Both spellings are read.
+ */
+uint32_t arrow_types_print_micro(const uint8_t *text, size_t text_length,
+                                 const uint8_t *names, size_t names_length,
+                                 const uint32_t *rows, size_t rows_length,
+                                 uint8_t *out, size_t out_length, size_t *length);
 
 /* Whether a tree is sound: 1 or 0. Every tree that was read is. */
 uint32_t arrow_types_is_sound(const uint8_t *text, size_t text_length,

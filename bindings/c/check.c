@@ -294,6 +294,68 @@ static void printing_names(void)
             }
 }
 
+/* Whether a text is read and printed as two others, the second with the micro sign, the bytes C2 B5. */
+static int prints(const char *text, const char *plain, const char *micro)
+{
+    uint8_t out[40];
+    size_t length = 99;
+    if (read_text(&a, text) != 0)
+        return 0;
+    if (arrow_types_print(TREE(&a), out, sizeof out, &length) != 0)
+        return 0;
+    if (length != strlen(plain) || memcmp(out, plain, length) != 0)
+        return 0;
+    return arrow_types_print_micro(TREE(&a), out, sizeof out, &length) == 0
+        && length == strlen(micro) && memcmp(out, micro, length) == 0;
+}
+
+static void spelling(void)
+{
+    CHECK(prints("Timestamp(us)", "Timestamp(us)", "Timestamp(\xc2\xb5s)"));
+    CHECK(prints("Duration(Microsecond)", "Duration(us)", "Duration(\xc2\xb5s)"));
+    CHECK(prints("Time64(\xc2\xb5s)", "Time64(us)", "Time64(\xc2\xb5s)"));
+    CHECK(prints("Time64(ns)", "Time64(ns)", "Time64(ns)"));
+    CHECK(prints("List(Int8, field: '\xc2\xb5s')", "List(Int8, field: '\xc2\xb5s')", "List(Int8, field: '\xc2\xb5s')"));
+
+    /* With 13 bytes lent the default fits, and the other does not. */
+    uint8_t out[20];
+    size_t length = 99;
+    memset(out, 'x', sizeof out);
+    CHECK(read_text(&a, "Timestamp(us)") == 0);
+    CHECK(arrow_types_print_micro(TREE(&a), out, 13, &length) == ARROW_TYPES_PRINT_TOO_LONG);
+    CHECK(length == 0 && out[0] == 'x');
+    CHECK(arrow_types_print(TREE(&a), out, 13, &length) == 0);
+    CHECK(length == 13 && memcmp(out, "Timestamp(us)xxxxxxx", sizeof out) == 0);
+    memset(out, 'x', sizeof out);
+    CHECK(arrow_types_print_micro(TREE(&a), out, 14, &length) == 0);
+    CHECK(length == 14 && memcmp(out, "Timestamp(\xc2\xb5s)xxxxxx", sizeof out) == 0);
+
+    /* The other refusals are those of the default; a name is no unit. */
+    CHECK(read_text(&a, "Struct(\"\xc2\xb5s\": Int8)") == 0);
+    CHECK(arrow_types_print(TREE(&a), out, sizeof out, &length) == ARROW_TYPES_NOT_ASCII);
+    CHECK(arrow_types_print_micro(TREE(&a), out, sizeof out, &length) == ARROW_TYPES_NOT_ASCII);
+    a.rows[ARROW_TYPES_WORD_KIND] = 41;
+    CHECK(arrow_types_print_micro(TREE(&a), out, sizeof out, &length) == ARROW_TYPES_NOT_SOUND);
+    CHECK(length == 0);
+}
+
+/* A text of 16,384 bytes in the default is too long in the other spelling. */
+static void longest(void)
+{
+    static char text[ARROW_TYPES_MAX_TEXT + 1];
+    static uint8_t out[ARROW_TYPES_MAX_TEXT + 1];
+    const char *end = "\": Timestamp(us))";
+    size_t length = 99;
+    memset(text, 'a', ARROW_TYPES_MAX_TEXT);
+    memcpy(text, "Struct(\"", strlen("Struct(\""));
+    strcpy(text + ARROW_TYPES_MAX_TEXT - strlen(end), end);
+    CHECK(read_text(&a, text) == 0);
+    CHECK(arrow_types_print(TREE(&a), out, sizeof out, &length) == 0);
+    CHECK(length == ARROW_TYPES_MAX_TEXT && memcmp(out, text, length) == 0);
+    CHECK(arrow_types_print_micro(TREE(&a), out, sizeof out, &length) == ARROW_TYPES_PRINT_TOO_LONG);
+    CHECK(length == 0);
+}
+
 static void judging(void)
 {
     size_t depth = 99, row = 99;
@@ -430,6 +492,8 @@ int main(void)
     lending();
     printing();
     printing_names();
+    spelling();
+    longest();
     judging();
     comparing();
     naming();

@@ -16,6 +16,7 @@ import tty
 import unittest
 
 import mix
+import same
 
 ROOT = pathlib.Path(__file__).resolve().parents[2]
 sys.path.insert(0, str(ROOT / "tests"))
@@ -103,6 +104,45 @@ class Whole(unittest.TestCase):
         self.assertEqual(answers(deep), b"ok 64 64 " + deep + b"\n")
         wide = b"Struct(" + b", ".join([b'"a": Int8'] * 1023) + b")"
         self.assertEqual(answers(wide), b"ok 1024 2 " + wide + b"\n")
+
+
+class Units(unittest.TestCase):
+    """Microseconds are printed as `us`, however the line spells them; the Rust's answers are respelled to compare."""
+
+    def test_units(self):
+        for text, printed in [
+            ("Timestamp(us)", "Timestamp(us)"),
+            ("Duration(Microsecond)", "Duration(us)"),
+            ("Time64(µs)", "Time64(us)"),
+            ('Timestamp(µs, Some("CET"))', 'Timestamp(us, "CET")'),
+        ]:
+            with self.subTest(text=text):
+                self.assertEqual(answers(f"{text}\n".encode()), f"ok 1 1 {printed}\n".encode())
+
+    def test_names(self):
+        # a name is no unit
+        text = "List(Duration(us), field: 'µs')"
+        self.assertEqual(answers(text.encode()), f"ok 2 2 {text}\n".encode())
+        self.assertEqual(answers('Struct("µs": Timestamp(us))\n'.encode()), b"no 18\n")
+
+    def test_longest(self):
+        # as `µs` it would have a byte too many
+        text = b'Struct("": Timestamp(us))'
+        text = text.replace(b'""', b'"%s"' % (b"a" * (16384 - len(text))))
+        self.assertEqual(answers(text), b"ok 2 2 " + text + b"\n")
+
+    def test_respelled(self):
+        rust = """ok 3 2 Struct("(µs)": Timestamp(µs, "(µs)"), "a\\"(µs)": List(Time64(µs), field: '(µs)'))\n"""
+        port = rust.replace("Timestamp(µs", "Timestamp(us").replace("Time64(µs", "Time64(us")
+        self.assertEqual(same.respelled(rust.encode()).decode(), port)
+        for one, other, expected in [
+            (port, rust, same.RESPELLED),
+            (port, port, same.SAME),
+            (rust, rust, same.DIFFERENT),
+            (port.replace("(µs", "(us"), rust, same.DIFFERENT),
+            (port.replace("Struct", "struct"), rust, same.DIFFERENT),
+        ]:
+            self.assertEqual(same.verdict(one.encode(), other.encode()), expected)
 
 
 class Places(unittest.TestCase):

@@ -4,8 +4,10 @@
     python3 tests/lines/same.py PORT RUST [REFUSALS]
 
 REFUSALS has for each line the answer that it is to be refused with, or nothing (mix.py); without it a refused line must at
-least have a number of the reader and a place. Prints how many lines both accepted with the same bytes, how many both
-refused, and how many differ, with the first that does. The exit status is 1 if any does.
+least have a number of the reader and a place. The Rust prints microseconds as `µs` and the line program as `us`, so the
+Rust's units, and nothing else, are respelled before the bytes are compared. Prints how many lines both accepted with the
+same bytes, how many with `us` for `µs`, how many both refused, and how many differ, with the first that does. The exit
+status is 1 if any does.
 """
 
 import collections
@@ -22,29 +24,45 @@ import needs  # noqa: E402
 REFUSED = re.compile(rb"no (?:[1-9]|1[0-6]) (?:0|[1-9][0-9]{0,4})\n")
 
 
+SAME = "accepted by both, same bytes"
+RESPELLED = "accepted by both, us for µs"
+REFUSED_BY_BOTH = "refused by both"
+DIFFERENT = "different"
+
+# A string in quote marks, in which no unit stands, or the start of a unit of microseconds.
+STRING_OR_UNIT = re.compile(r"""("(?:[^"\\]|\\.)*"|'(?:[^'\\]|\\.)*')|\(µs(?=[,)])""".encode())
+
+
+def respelled(rust):
+    """The Rust's answer with its units as the line program spells them."""
+    return STRING_OR_UNIT.sub(lambda found: found[1] or b"(us", rust)
+
+
 def verdict(port, rust, refusal=None):
     """Of one line: the port's answer, the Rust's, and the refusal that is expected, if it is known."""
     if port is None or rust is None:
-        return "different"
+        return DIFFERENT
     if rust == b"no ?\n":
         refused = REFUSED.fullmatch(port) and refusal in (None, port)
-        return "refused by both" if refused else "different"
-    return "accepted by both, same bytes" if port == rust and port.startswith(b"ok ") else "different"
+        return REFUSED_BY_BOTH if refused else DIFFERENT
+    if not port.startswith(b"ok ") or port != respelled(rust):
+        return DIFFERENT
+    return SAME if port == rust else RESPELLED
 
 
 def compare(port_path, rust_path, refusals=None):
     """Prints the counts, and answers how many lines differ."""
-    counts = collections.Counter({"accepted by both, same bytes": 0, "refused by both": 0, "different": 0})
+    counts = collections.Counter({SAME: 0, RESPELLED: 0, REFUSED_BY_BOTH: 0, DIFFERENT: 0})
     known = [] if refusals is None else [refusals.encode().splitlines(keepends=True)]
     with open(port_path, "rb") as ports, open(rust_path, "rb") as rusts:
         for number, (port, rust, *refusal) in enumerate(itertools.zip_longest(ports, rusts, *known), 1):
             found = verdict(port, rust, *refusal)
-            if found == "different" and not counts[found]:
+            if found == DIFFERENT and not counts[found]:
                 print(f"line {number}: {port!r} and {rust!r}")
             counts[found] += 1
     for found, count in counts.items():
         print(f"{count:>9} {found}")
-    return counts["different"]
+    return counts[DIFFERENT]
 
 
 if __name__ == "__main__":

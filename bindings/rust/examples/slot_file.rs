@@ -1,5 +1,5 @@
-//! A service's loop: rewrites the head of a slot file, one type text to a line for each column, as the printer spells
-//! types, and sees to it that no time zone is lost.
+//! A service's loop: rewrites the head of a slot file, one type text to a line for each column, as arrow-schema prints
+//! types, with `µs`, and sees to it that no time zone is lost.
 //!
 //!     cargo run --release --offline --example slot_file -- INPUT OUTPUT
 //!
@@ -7,7 +7,7 @@
 //! does not read back as the same one or a zone is lost, it says so, writes nothing and ends with the status 1. Of a text
 //! that is refused it shows where.
 
-use arrow_types::{DataType, Field, ReadError};
+use arrow_types::{DataType, Field, ReadError, Spelling};
 use std::process::ExitCode;
 
 fn main() -> ExitCode {
@@ -44,10 +44,13 @@ fn rewrite_file(input: &str, output: &str) -> Result<usize, String> {
     Ok(columns)
 }
 
-/// Rewrites the type text of a column and reports its zones.
+/// Rewrites the type text of a column and reports its zones. The head is compared with the one that arrow-schema prints,
+/// so it names that spelling.
 fn rewrite(column: usize, text: &[u8]) -> Result<String, String> {
     let before = DataType::try_from(text).map_err(|error| shown_at(error, text))?;
-    let printed = before.print().map_err(|error| error.to_string())?;
+    let printed = before
+        .print_with(Spelling::Micro)
+        .map_err(|error| error.to_string())?;
     let after: DataType = printed.parse().map_err(|error| {
         let shown = shown_at(error, printed.as_bytes());
         format!("what is printed does not read back: {shown}")

@@ -1,7 +1,7 @@
 //! A type that owns its text and its rows.
 
 use crate::ffi::{self, Tree};
-use crate::{Children, Error, Field, MAX_ROWS, MAX_TEXT, ROW_WORDS, ReadError};
+use crate::{Children, Error, Field, MAX_ROWS, MAX_TEXT, ROW_WORDS, ReadError, Spelling};
 use std::cell::RefCell;
 use std::fmt;
 use std::str::FromStr;
@@ -144,7 +144,7 @@ impl DataType {
         }
     }
 
-    /// The printed text.
+    /// The printed text, in the default spelling: with `us` for microseconds.
     ///
     /// A type can be refused: with [`Error::NotAscii`] if a name or zone that prints in double quotes holds a byte above
     /// 127, with [`Error::PrintTooLong`] if the text would be longer than 16,384 bytes.
@@ -160,8 +160,14 @@ impl DataType {
     /// # Ok::<(), Error>(())
     /// ```
     pub fn print(&self) -> Result<String, Error> {
+        self.print_with(Spelling::default())
+    }
+
+    /// The printed text in a spelling, which is refused as [`print`](DataType::print) says. It is this text that may not
+    /// be longer than 16,384 bytes.
+    pub fn print_with(&self, spelling: Spelling) -> Result<String, Error> {
         OUT.with_borrow_mut(|out| {
-            let length = ffi::print(self.tree(), out)?;
+            let length = ffi::print(self.tree(), spelling, out)?;
             let printed = std::str::from_utf8(&out[..length]);
             Ok(printed.expect("a sound tree prints UTF-8").to_owned())
         })
@@ -255,7 +261,7 @@ fn read(text: &[u8]) -> Result<Vec<u32>, ReadError> {
     })
 }
 
-/// Writes the printed text. A type that [`DataType::print`] refuses gives `fmt::Error`, and `to_string` then panics, as
+/// Writes the printed text, in the default spelling. A type that [`DataType::print`] refuses gives `fmt::Error`, and `to_string` then panics, as
 /// it does for every such type: call `print` where names come from outside.
 impl fmt::Display for DataType {
     fn fmt(&self, formatter: &mut fmt::Formatter<'_>) -> fmt::Result {

@@ -2,7 +2,7 @@
 //! answers and what a caller owes. Slices are never null, and a borrow that is written is no part of one that is read;
 //! that is all of it.
 
-use crate::{Error, ReadError};
+use crate::{Error, ReadError, Spelling};
 
 /// The three names that stand in no text, end to end: document 01's name list.
 pub const NAME_LIST: &str = "itemrun_endsvalues";
@@ -20,6 +20,18 @@ unsafe extern "C" {
     fn arrow_types_rows_to_lend(text_length: usize) -> usize;
 
     fn arrow_types_print(
+        text: *const u8,
+        text_length: usize,
+        names: *const u8,
+        names_length: usize,
+        rows: *const u32,
+        rows_length: usize,
+        out: *mut u8,
+        out_length: usize,
+        length: *mut usize,
+    ) -> u32;
+
+    fn arrow_types_print_micro(
         text: *const u8,
         text_length: usize,
         names: *const u8,
@@ -147,12 +159,16 @@ pub fn rows_to_lend(bytes: usize) -> usize {
     unsafe { arrow_types_rows_to_lend(bytes) }
 }
 
-/// Prints a tree into a lent buffer: how many bytes are filled.
-pub fn print(tree: Tree, out: &mut [u8]) -> Result<usize, Error> {
+/// Prints a tree in a spelling into a lent buffer: how many bytes are filled.
+pub fn print(tree: Tree, spelling: Spelling, out: &mut [u8]) -> Result<usize, Error> {
+    let print = match spelling {
+        Spelling::Us => arrow_types_print,
+        Spelling::Micro => arrow_types_print_micro,
+    };
     let mut length = 0;
     // SAFETY: as in `read`; `out` and `length` are written, and are no part of the tree or the name list.
     let status = unsafe {
-        arrow_types_print(
+        print(
             tree.text.as_ptr(),
             tree.text.len(),
             NAME_LIST.as_ptr(),

@@ -74,7 +74,7 @@ pub enum TimeUnit {
     Second,
     /// `ms`
     Millisecond,
-    /// `µs`
+    /// `us`, or `µs`
     Microsecond,
     /// `ns`
     Nanosecond,

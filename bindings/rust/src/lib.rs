@@ -20,6 +20,8 @@
 //! # Ok::<(), Error>(())
 //! ```
 //!
+//! Microseconds are printed as `us`; [`DataType::print_with`] prints them as `µs`, as arrow-schema does.
+//!
 //! A text is read into rows that each thread keeps, 49,152 bytes, of which it is lent as many as its length asks for
 //! ([`rows_to_lend`]), and the rows filled are copied out of them; so a [`DataType`] has two allocations, its text and
 //! its rows. Printing works likewise with 16,384 bytes.
@@ -35,6 +37,7 @@ mod kind;
 mod picture;
 mod read_error;
 mod rows;
+mod spelling;
 
 pub use data_type::{DataType, Verdict};
 pub use error::Error;
@@ -43,6 +46,7 @@ pub use field::{Children, Field};
 pub use kind::{IntervalUnit, Kind, TimeUnit, UnionMode};
 pub use read_error::ReadError;
 pub use rows::{set_parents, widen_rows};
+pub use spelling::Spelling;
 
 /// Words to a row.
 pub const ROW_WORDS: usize = 12;

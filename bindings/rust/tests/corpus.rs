@@ -9,7 +9,7 @@
 use std::panic::{AssertUnwindSafe, catch_unwind};
 
 use arrow_types::{
-    DataType, Error, Field, MAX_ROWS, ROW_WORDS, ReadError, Verdict, read, rows_to_lend,
+    DataType, Error, Field, MAX_ROWS, ROW_WORDS, ReadError, Spelling, Verdict, read, rows_to_lend,
 };
 
 const NAME_LIST: &[u8] = b"itemrun_endsvalues";
@@ -195,7 +195,7 @@ fn another_place() {
 }
 
 /// The rows as parts, and the printed text, where names and zones have neither quote marks, backslashes nor bytes that
-/// print as escapes.
+/// print as escapes, in both spellings.
 fn reads_back(read: &DataType) {
     let again = DataType::from_parts(read.text(), read.rows());
     assert_eq!(again.as_ref(), Ok(read));
@@ -206,8 +206,11 @@ fn reads_back(read: &DataType) {
     };
     let parts = |field: Field<'_>| field.name().is_none_or(plain) && field.zone().is_none_or(plain);
     if read.root().subtree().all(parts) {
-        let printed: DataType = read.print().expect("plain").parse().expect("printed");
-        assert_eq!(&printed, read);
+        for spelling in [Spelling::Us, Spelling::Micro] {
+            let printed = read.print_with(spelling).expect("plain");
+            let again: DataType = printed.parse().expect("printed");
+            assert_eq!(&again, read);
+        }
     }
 }
 
@@ -326,7 +329,7 @@ impl Answers {
     }
 }
 
-/// A tree and what it is to print.
+/// A tree and what it is to print, in the spelling of its sample.
 struct Print {
     lent: usize,
     table: Table,
@@ -352,13 +355,13 @@ impl Print {
 
     /// What is counted: 0 for a text printed, the number of a refusal, 1 for a table with another name list, 2 for a
     /// text that has no room in what the case lends, and has it here.
-    fn check(&self) -> usize {
+    fn check(&self, spelling: Spelling) -> usize {
         let Some(tree) = self.table.data_type() else {
             assert_eq!(self.status, 17);
             return 1;
         };
-        let answer = tree.and_then(|tree| tree.print()).map_err(Error::number);
-        match answer {
+        let answer = tree.and_then(|tree| tree.print_with(spelling));
+        match answer.map_err(Error::number) {
             Ok(answer) if self.status == 19 => {
                 assert!(self.lent < answer.len());
                 2
@@ -375,16 +378,29 @@ impl Print {
     }
 }
 
-#[test]
-fn prints() {
-    let mut sample = Sample::open("prints");
+/// What is counted in a sample of the printer.
+fn counts_of_prints(name: &str, spelling: Spelling) -> [usize; 20] {
+    let mut sample = Sample::open(name);
     let mut counts = [0; 20];
     for _ in 1..sample.number() {
-        counts[Print::of(&mut sample).check()] += 1;
+        counts[Print::of(&mut sample).check(spelling)] += 1;
     }
     let wrong = Print::of(&mut sample);
-    fails(|| wrong.check());
+    fails(|| wrong.check(spelling));
     sample.end();
+    counts
+}
+
+#[test]
+fn prints_as_us() {
+    let counts = counts_of_prints("prints_us", Spelling::Us);
+    assert_eq!(counts[..3], [286, 0, 67]);
+    assert_eq!(counts[17..], [52, 98, 2]);
+}
+
+#[test]
+fn prints() {
+    let counts = counts_of_prints("prints", Spelling::Micro);
     assert_eq!(counts[..3], [1_625, 9, 314]);
     assert_eq!(counts[17..], [434, 201, 2]);
 }

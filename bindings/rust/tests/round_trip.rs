@@ -6,7 +6,7 @@ use arrow_types::{DataType, Kind, Verdict};
 #[rustfmt::skip]
 const TEXTS: [&str; 41] = [
     "Null", "Boolean", "Int8", "Int16", "Int32", "Int64", "UInt8", "UInt16", "UInt32", "UInt64",
-    "Float16", "Float32", "Float64", "Timestamp(ns, \"+01:00\")", "Date32", "Date64", "Time32(s)", "Time64(µs)",
+    "Float16", "Float32", "Float64", "Timestamp(ns, \"+01:00\")", "Date32", "Date64", "Time32(s)", "Time64(us)",
     "Duration(ms)", "Interval(DayTime)", "Binary", "FixedSizeBinary(16)", "LargeBinary", "BinaryView", "Utf8",
     "LargeUtf8", "Utf8View", "List(Int8)", "ListView(non-null Int8)", "FixedSizeList(3 x Int8, field: 'x')",
     "LargeList(Int8, field: 'größe')", "LargeListView(Int8)",
@@ -57,7 +57,7 @@ fn other_spellings_are_the_same_type() {
             " Struct ( \"a\":Timestamp(Second,Some(\"CET\")) , )",
             "Struct(\"a\": Timestamp(s, \"CET\"))",
         ),
-        ("Timestamp(us, None)", "Timestamp(µs)"),
+        ("Timestamp(µs, None)", "Timestamp(us)"),
         ("List(nullable Int8, field: 'item')", "List(Int8)"),
         ("FixedSizeList(04, Int32)", "FixedSizeList(4 x Int32)"),
         (

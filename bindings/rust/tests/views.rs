@@ -110,10 +110,11 @@ fn rows_and_parents() {
 
 #[test]
 fn units() {
-    let units = ["s", "ms", "µs", "ns"];
+    let units = ["s", "ms", "us", "µs", "ns"];
     let all = [
         TimeUnit::Second,
         TimeUnit::Millisecond,
+        TimeUnit::Microsecond,
         TimeUnit::Microsecond,
         TimeUnit::Nanosecond,
     ];

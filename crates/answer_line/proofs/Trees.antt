@@ -20,18 +20,18 @@ use Rattle.subtrees.proofs.LevelLaws.{levels_few}
 use Rattle.row_table.proofs.DepthLaws.{sound-levels}
 use Rattle.display_length.specs.Display.{display}
 use Rattle.display_length.specs.PrintedLength.{quoted_ascii}
-use Rattle.datatype_display.specs.Print.{print, length_of, print_answer, written, print_bytes}
+use Rattle.datatype_display.specs.Print.{default_spelling, print, length_of, print_answer, written, print_bytes}
 use Rattle.answer_line.specs.Line.{no_line, answer_bytes}
 use Rattle.answer_line.specs.Internal.Steps.{Answers, ok_head, HeadLength, Framed, tree_line, table_line}
 
 -- ---- the printer's answer
 
 -- Room for more than 16,384 bytes is as good as room for so many.
-print_room : (text names table : List ℕ) (room : ℕ) → 16384 ≤ room → print text names table room ≡ print text names table 16384
+print_room : (text names table : List ℕ) (room : ℕ) → 16384 ≤ room → print default_spelling text names table room ≡ print default_spelling text names table 16384
 unfolding print
 print_room text names table room h =
     let e : min room 16384 ≡ min 16384 16384 = omega arith in
-    ap (λ (m : ℕ). if is_sound text names table then (if quoted_ascii (tree_of text names table) then (if leb (length (display (tree_of text names table))) m then done (display (tree_of text names table)) else refuse 19) else refuse 18) else refuse 17) e
+    ap (λ (m : ℕ). if is_sound text names table then (if quoted_ascii (tree_of text names table) then (if leb (length (display default_spelling (tree_of text names table))) m then done (display default_spelling (tree_of text names table)) else refuse 19) else refuse 18) else refuse 17) e
 
 -- A printed text is no longer than that.
 short_of : (a b c : Bool) (s t : List ℕ) → (c ≡ true → length s ≤ 16384) → (if a then (if b then (if c then done s else refuse 19) else refuse 18) else refuse 17) ≡ done t → length t ≤ 16384
@@ -40,11 +40,11 @@ short_of true true false s t h e = absurd (let z : ◌≡◌ {A = ℕ} 0 1 = cc 
 short_of true false c s t h e = absurd (let z : ◌≡◌ {A = ℕ} 0 1 = cc in omega arith)
 short_of false b c s t h e = absurd (let z : ◌≡◌ {A = ℕ} 0 1 = cc in omega arith)
 
-print_short : (text names table : List ℕ) (s : List ℕ) → print text names table 16384 ≡ done s → length s ≤ 16384
+print_short : (text names table : List ℕ) (s : List ℕ) → print default_spelling text names table 16384 ≡ done s → length s ≤ 16384
 unfolding print
 print_short text names table s e =
-    short_of (is_sound text names table) (quoted_ascii (tree_of text names table)) (leb (length (display (tree_of text names table))) 16384) (display (tree_of text names table)) s
-    (λ q. leb→le (length (display (tree_of text names table))) 16384 (of_true _ q)) e
+    short_of (is_sound text names table) (quoted_ascii (tree_of text names table)) (leb (length (display default_spelling (tree_of text names table))) 16384) (display default_spelling (tree_of text names table)) s
+    (λ q. leb→le (length (display default_spelling (tree_of text names table))) 16384 (of_true _ q)) e
 
 -- the bytes of a text that is printed; 0 where it is refused
 abbrev pub text_size : Out (List ℕ) → ℕ
@@ -57,11 +57,11 @@ few (done s) h = h s refl
 
 -- What is answered and written, in a part of the output behind a head.
 module _ (text names table lent : List ℕ) (room : 16384 ≤ length lent) where
-  pub print_enough : (print_answer text names table lent ≡ length_of (print text names table 16384)) × (text_size (print text names table 16384) ≤ 16384)
+  pub print_enough : (print_answer default_spelling text names table lent ≡ length_of (print default_spelling text names table 16384)) × (text_size (print default_spelling text names table 16384) ≤ 16384)
   unfolding print_answer
-  print_enough = (ap length_of (print_room text names table (length lent) room), few (print text names table 16384) (print_short text names table))
+  print_enough = (ap length_of (print_room text names table (length lent) room), few (print default_spelling text names table 16384) (print_short text names table))
 
-  bytes_enough : print_bytes text names table lent ≡ written lent (print text names table 16384)
+  bytes_enough : print_bytes default_spelling text names table lent ≡ written lent (print default_spelling text names table 16384)
   unfolding print_bytes
   bytes_enough = ap (written lent) (print_room text names table (length lent) room)
 
@@ -138,18 +138,18 @@ module _ (text table out : List ℕ) (size rows levels h : ℕ) (head : HeadLeng
       let e : length lent ≡ size - h = ap (λ (l : List ℕ). length l) is_lent ∙ lent_length out size h sized (omega arith) in
       omega arith
 
-  module _ (p : Result ℕ Refusal) (e : answer_of p ≡ print_answer text name_list table lent) (o : part ≡ print_bytes text name_list table lent) where
-    answers : answer_of p ≡ length_of (print text name_list table 16384)
+  module _ (p : Result ℕ Refusal) (e : answer_of p ≡ print_answer default_spelling text name_list table lent) (o : part ≡ print_bytes default_spelling text name_list table lent) where
+    answers : answer_of p ≡ length_of (print default_spelling text name_list table 16384)
     answers = e ∙ (print_enough text name_list table lent lent_room).0
 
-    writes : part ≡ written lent (print text name_list table 16384)
+    writes : part ≡ written lent (print default_spelling text name_list table 16384)
     writes = o ∙ bytes_enough text name_list table lent lent_room
 
     -- a refused print has left the output as it was
     pub tree-refused : (d : Refusal) → p ≡ Err d → (r : ℕ) (after : List ℕ) → Answers (no_line (record { number = number_of d; place = None })) back r after
-        → Answers (tree_line rows levels (print text name_list table 16384)) out r after
+        → Answers (tree_line rows levels (print default_spelling text name_list table 16384)) out r after
     unfolding tree_line
-    tree-refused d q r after a = go (print text name_list table 16384) (sym (ap answer_of q) ∙ answers) writes
+    tree-refused d q r after a = go (print default_spelling text name_list table 16384) (sym (ap answer_of q) ∙ answers) writes
       where
         go : (t : Out (List ℕ)) → refuse (number_of d) ≡ length_of t → part ≡ written lent t → Answers (tree_line rows levels t) out r after
         go (refused x) i w =
@@ -160,9 +160,9 @@ module _ (text table out : List ℕ) (size rows levels h : ℕ) (head : HeadLeng
 
     -- a text that was printed stands behind its head
     pub tree-printed : (n : ℕ) → p ≡ Ok n → (r : ℕ) (after : List ℕ) → Framed (ok_head rows levels) n back r after
-        → Answers (tree_line rows levels (print text name_list table 16384)) out r after
+        → Answers (tree_line rows levels (print default_spelling text name_list table 16384)) out r after
     unfolding tree_line
-    tree-printed n q r after f = go (print text name_list table 16384) (sym (ap answer_of q) ∙ answers) writes (print_enough text name_list table lent lent_room).1
+    tree-printed n q r after f = go (print default_spelling text name_list table 16384) (sym (ap answer_of q) ∙ answers) writes (print_enough text name_list table lent lent_room).1
       where
         go : (t : Out (List ℕ)) → done n ≡ length_of t → part ≡ written lent t → text_size t ≤ 16384 → Answers (tree_line rows levels t) out r after
         go (refused x) i w few = absurd (let z : ◌≡◌ {A = ℕ} 0 1 = cc in omega arith)
@@ -178,13 +178,13 @@ module _ (text table out : List ℕ) (size rows levels h : ℕ) (head : HeadLeng
 -- ---- the levels
 
 -- the levels of rows that are printed are the tree's depth; where they are refused, no levels are written
-pub levels-line : (text table : List ℕ) → tree_line (length table / row_words) (levels_of table) (print text name_list table 16384) ≡ table_line text table
+pub levels-line : (text table : List ℕ) → tree_line (length table / row_words) (levels_of table) (print default_spelling text name_list table 16384) ≡ table_line text table
 unfolding table_line
 levels-line text table = go (is_sound text name_list table) refl
   where
     go : (sound : Bool) → is_sound text name_list table ≡ sound
-        → tree_line (length table / row_words) (levels_of table) (print text name_list table 16384) ≡ tree_line (length table / row_words) (depth (tree_of text name_list table)) (print text name_list table 16384)
-    go true s = ap (λ (k : ℕ). tree_line (length table / row_words) k (print text name_list table 16384)) (sound-levels text name_list table (of_true _ s))
+        → tree_line (length table / row_words) (levels_of table) (print default_spelling text name_list table 16384) ≡ tree_line (length table / row_words) (depth (tree_of text name_list table)) (print default_spelling text name_list table 16384)
+    go true s = ap (λ (k : ℕ). tree_line (length table / row_words) k (print default_spelling text name_list table 16384)) (sound-levels text name_list table (of_true _ s))
     go false s = unfold print tree_line in rw s
 
 -- what the answer to a table uses

@@ -21,7 +21,7 @@ use Rattle.parser.specs.Answer.{refusal_in}
 use Rattle.parser.specs.declared.error.ReadError.{ReadError}
 use Rattle.datatype_parse.specs.Parse.{parse, row_count, filled, parse_answer, parse_rows}
 use Rattle.output.specs.Digits.{digits}
-use Rattle.datatype_display.specs.Print.{print}
+use Rattle.datatype_display.specs.Print.{default_spelling, print}
 use Rattle.answer_line.specs.Line.{ok_line, line_words, line_answer, line_answered, line_rows, line_out, answer_bytes}
 use Rattle.answer_line.specs.Internal.Steps.{Answers, ok_head, tree_line, table_line}
 
@@ -37,12 +37,12 @@ line_of f levels (done s) e =
     ∙ ap (λ (l : List ℕ). bytes "ok " ++ l)
     (append_assoc d (bytes " " ++ (digits (depth f) ++ bytes " ")) t ∙ ap (λ (l : List ℕ). d ++ (bytes " " ++ l)) (append_assoc (digits (depth f)) (bytes " ") t))
 
-pub table_line_lem : (text : List ℕ) (f : Forest Row) → table_line text (table_of f) ≡ ok_line f (print text name_list (table_of f) 16384)
+pub table_line_lem : (text : List ℕ) (f : Forest Row) → table_line text (table_of f) ≡ ok_line f (print default_spelling text name_list (table_of f) 16384)
 unfolding table_line tree_of
 table_line_lem text f =
     let rows : length (table_of f) / row_words ≡ count f = let e = length_table f in omega arith in
-    ap (λ (n : ℕ). tree_line n (depth (tree_of text name_list (table_of f))) (print text name_list (table_of f) 16384)) rows
-    ∙ line_of f (depth (tree_of text name_list (table_of f))) (print text name_list (table_of f) 16384) (rw (view_table f) (depth_labels text name_list f))
+    ap (λ (n : ℕ). tree_line n (depth (tree_of text name_list (table_of f))) (print default_spelling text name_list (table_of f) 16384)) rows
+    ∙ line_of f (depth (tree_of text name_list (table_of f))) (print default_spelling text name_list (table_of f) 16384) (rw (view_table f) (depth_labels text name_list f))
 
 -- ---- an answer in the first bytes of a buffer
 

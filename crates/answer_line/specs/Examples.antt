@@ -1,4 +1,4 @@
--- The sample of document 01, 'The line program', by computation, and a buffer that is a word short.
+-- The sample of document 01, 'The line program', by computation, a buffer that is a word short, and units of time.
 use Rattle.std.specs.Prelude.{◌≡◌, refl, List, ℕ, length, None}
 use Rattle.tokenizer.specs.Text.{bytes}
 use Rattle.datatype_parse.specs.Internal.Computed as parser
@@ -14,3 +14,8 @@ sample = refl
 pub words_missing : (line rows out : List ℕ) → length rows ≡ 12287 → line_answered line rows out ≡ None
 unfolding line_answered
 words_missing line rows out e = rw e
+
+-- Microseconds are printed in the default spelling, however they were spelled.
+pub default_spelling_lem : output (bytes "Timestamp(us)\nTimestamp(µs)\nDuration(Microsecond)\n") ≡ bytes "ok 1 1 Timestamp(us)\nok 1 1 Timestamp(us)\nok 1 1 Duration(us)\n"
+unfolding parser.computed printer.computed line_answer lines_of output
+default_spelling_lem = refl

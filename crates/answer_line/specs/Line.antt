@@ -7,7 +7,7 @@ use Rattle.datatype.specs.Tree.{Forest, Row, count, depth, name_list}
 use Rattle.datatype.specs.Table.{row_words, table_of}
 use Rattle.datatype_parse.specs.Parse.{parse, parse_rows}
 use Rattle.output.specs.Digits.{digits}
-use Rattle.datatype_display.specs.Print.{print}
+use Rattle.datatype_display.specs.Print.{default_spelling, print}
 
 -- `no`, the number and, of a refusal of the reader, the place (document 02, [2]).
 abbrev pub place_text : Option ℕ → List ℕ
@@ -22,10 +22,10 @@ abbrev pub ok_line : Forest Row → Out (List ℕ) → List ℕ
 ok_line f (refused r) = no_line r
 ok_line f (done printed) = bytes "ok " ++ (digits (count f) ++ (bytes " " ++ (digits (depth f) ++ (bytes " " ++ (printed ++ bytes "\n")))))
 
--- The reader with 1,024 rows, then the printer with 16,384 output bytes.
+-- The reader with 1,024 rows, then the printer with 16,384 output bytes, in the default spelling.
 abbrev pub read_line : List ℕ → Out (Forest Row) → List ℕ
 read_line text (refused r) = no_line r
-read_line text (done f) = ok_line f (print text name_list (table_of f) max_text)
+read_line text (done f) = ok_line f (print default_spelling text name_list (table_of f) max_text)
 
 -- What is printed for one line, whose newline is cut off.
 unfoldable pub line_answer : List ℕ → List ℕ

@@ -3,7 +3,7 @@ ghost use Rattle.std.specs.Prelude.{◌≤◌, ◌/◌, length};
 ghost use Rattle.datatype.specs.Limits.{max_text, max_rows};
 ghost use Rattle.datatype.specs.Tree.{name_list};
 ghost use Rattle.datatype.specs.Table.{row_words};
-ghost use Rattle.datatype_display.specs.Print.{print};
+ghost use Rattle.datatype_display.specs.Print.{default_spelling, print};
 ghost use Rattle.answer_line.specs.Internal.Steps.{Answers, tree_line, table_line};
 
 use crate::write::Head;
@@ -15,7 +15,7 @@ use datatype::{Field, Tree};
 // refused print has written nothing.
 #[tactic(auto, using(crate::proofs::Trees::print_enough))]
 fn print_tree(text: &[u8], rows: &[u32], head: Head, out: &mut [u8; ANSWER_BYTES]) -> usize
-    ensures { Answers (tree_line head.rows head.levels (print text.now name_list rows.now max_text)) out.old result out.new }
+    ensures { Answers (tree_line head.rows head.levels (print default_spelling text.now name_list rows.now max_text)) out.old result out.new }
 {
     let at = head.length();
     let tree = Tree {

@@ -13,9 +13,11 @@ ghost use Rattle.subtrees.specs.Equal.{equal_trees};
 ghost use Rattle.layout.specs.Layout.{verdict_of};
 ghost use Rattle.datatype_parse.specs.Parse.{parse_answer, parse_rows};
 ghost use Rattle.datatype_parse.specs.RowsToLend.{rows_to_lend};
-ghost use Rattle.datatype_display.specs.Print.{print_answer, print_bytes};
+ghost use Rattle.datatype_display.specs.Print.{default_spelling, print_answer, print_bytes};
+ghost use Rattle.display_length.specs.declared.words.Spelling.TheVariants.{Micro};
 
 use datatype::{Field, Tree};
+use display_length::Spelling;
 use tokenizer::Refusal;
 
 // An answer as two numbers: the status, and the value, 0 where it was refused.
@@ -65,7 +67,7 @@ pub fn arrow_types_rows_to_lend(bytes: usize) -> usize
     datatype_parse::rows_to_lend(bytes)
 }
 
-// Prints a tree into a lent buffer.
+// Prints a tree into a lent buffer, in the default spelling.
 pub fn arrow_types_print<'a>(
     text: &'a [u8],
     names: &'a [u8],
@@ -73,12 +75,31 @@ pub fn arrow_types_print<'a>(
     out: &mut [u8],
     length: &mut usize,
 ) -> u32
-    ensures status { result ≡ status_of (print_answer text.now names.now rows.now out.old) }
-    ensures value { length.new ≡ value_of (print_answer text.now names.now rows.now out.old) }
-    ensures contents { out.new ≡ print_bytes text.now names.now rows.now out.old }
+    ensures status { result ≡ status_of (print_answer default_spelling text.now names.now rows.now out.old) }
+    ensures value { length.new ≡ value_of (print_answer default_spelling text.now names.now rows.now out.old) }
+    ensures contents { out.new ≡ print_bytes default_spelling text.now names.now rows.now out.old }
 {
     let tree = Tree { text, names, rows };
     status(datatype_display::print_data_type(tree, out), length)
+}
+
+// Prints a tree into a lent buffer, with microseconds as the Rust spells them.
+pub fn arrow_types_print_micro<'a>(
+    text: &'a [u8],
+    names: &'a [u8],
+    rows: &[u32],
+    out: &mut [u8],
+    length: &mut usize,
+) -> u32
+    ensures status { result ≡ status_of (print_answer Micro text.now names.now rows.now out.old) }
+    ensures value { length.new ≡ value_of (print_answer Micro text.now names.now rows.now out.old) }
+    ensures contents { out.new ≡ print_bytes Micro text.now names.now rows.now out.old }
+{
+    let tree = Tree { text, names, rows };
+    status(
+        datatype_display::print_data_type_with(Spelling::Micro, tree, out),
+        length,
+    )
 }
 
 // Sets the parent, word 11, of each row that a table holds, up to 1,024: for rows that were built or stored without it.

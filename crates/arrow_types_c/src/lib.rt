@@ -12,7 +12,8 @@ ghost use Rattle.subtrees.specs.Equal.{equal_trees};
 ghost use Rattle.layout.specs.Layout.{verdict_of};
 ghost use Rattle.datatype_parse.specs.Parse.{parse_answer, parse_rows};
 ghost use Rattle.datatype_parse.specs.RowsToLend.{rows_to_lend};
-ghost use Rattle.datatype_display.specs.Print.{print_answer, print_bytes};
+ghost use Rattle.datatype_display.specs.Print.{default_spelling, print_answer, print_bytes};
+ghost use Rattle.display_length.specs.declared.words.Spelling.TheVariants.{Micro};
 
 // Reads a type text into lent rows. The place is that of a refusal in the text, 0 where the text is accepted.
 #[unsafe(no_mangle)]
@@ -38,7 +39,7 @@ pub extern "C" fn arrow_types_rows_to_lend(bytes: usize) -> usize
     arrow_types::arrow_types_rows_to_lend(bytes)
 }
 
-// Prints a tree into a lent buffer.
+// Prints a tree into a lent buffer, in the default spelling.
 #[unsafe(no_mangle)]
 pub extern "C" fn arrow_types_print<'a>(
     text: &'a [u8],
@@ -47,11 +48,27 @@ pub extern "C" fn arrow_types_print<'a>(
     out: &mut [u8],
     length: &mut usize,
 ) -> u32
-    ensures status { result ≡ status_of (print_answer text.now names.now rows.now out.old) }
-    ensures value { length.new ≡ value_of (print_answer text.now names.now rows.now out.old) }
-    ensures contents { out.new ≡ print_bytes text.now names.now rows.now out.old }
+    ensures status { result ≡ status_of (print_answer default_spelling text.now names.now rows.now out.old) }
+    ensures value { length.new ≡ value_of (print_answer default_spelling text.now names.now rows.now out.old) }
+    ensures contents { out.new ≡ print_bytes default_spelling text.now names.now rows.now out.old }
 {
     arrow_types::arrow_types_print(text, names, rows, out, length)
+}
+
+// Prints a tree into a lent buffer, with microseconds as the Rust spells them.
+#[unsafe(no_mangle)]
+pub extern "C" fn arrow_types_print_micro<'a>(
+    text: &'a [u8],
+    names: &'a [u8],
+    rows: &[u32],
+    out: &mut [u8],
+    length: &mut usize,
+) -> u32
+    ensures status { result ≡ status_of (print_answer Micro text.now names.now rows.now out.old) }
+    ensures value { length.new ≡ value_of (print_answer Micro text.now names.now rows.now out.old) }
+    ensures contents { out.new ≡ print_bytes Micro text.now names.now rows.now out.old }
+{
+    arrow_types::arrow_types_print_micro(text, names, rows, out, length)
 }
 
 // Sets the parent, word 11, of each row that a table holds, up to 1,024: for rows that were built or stored without it.

@@ -17,26 +17,29 @@ use Rattle.display_length.specs.declared.nodes.Node.{Node}
 use Rattle.display_length.specs.declared.nodes.Nodes.{Nodes}
 use Rattle.display_length.specs.Nodes.{IsFirst, GivesNode}
 use Rattle.display_length.specs.Display.{Shown, shown, display}
-use Rattle.display_length.specs.Internal.Nodes.{levels_below, labels_in, rows_in}
+use Rattle.display_length.specs.Internal.Nodes.{levels_below, rows_in}
 use Rattle.display_length.proofs.NodeLaws.{none-left, first_labels, levels_left, levels_first, given, ended}
 use Rattle.display_length.proofs.TreeLaws.{root-tree}
-use Rattle.datatype_display.specs.Internal.Steps.{HasFirst, HasTwo, fields_in, text_in, shown_in}
+use Rattle.datatype_display.specs.Internal.Steps.{HasFirst, HasTwo, fields_in, text_in, shown_in, all_shown}
 
 module _ (ns : Nodes) where
-  pub shown-none : ns.start ≡ ns.end → shown (labels_in ns) ≡ []
+  pub shown-none : ns.start ≡ ns.end → all_shown ns ≡ []
   unfolding shown
   shown-none e = rw (none-left ns e)
 
-  pub shown-first : (n : Node) (left : Nodes) → IsFirst ns n left → shown (labels_in ns) ≡ shown_in n ∷ shown (labels_in left)
+  pub shown-first : (n : Node) (left : Nodes) → IsFirst ns n left → all_shown ns ≡ shown_in n ∷ all_shown left
   unfolding shown text_in
-  shown-first n left f = rw (first_labels ns n left f)
+  shown-first n left f =
+      let e : n.whole.now.spelling ≡ ns.whole.now.spelling = rw f.of refl in
+      let l : left.whole.now.spelling ≡ ns.whole.now.spelling = rw f.of_left refl in
+      rw (first_labels ns n left f, e, l)
 
 -- the nodes right below one
 module _ (n : Node) (kids : Nodes) (of : kids.whole ≡ n.whole) (start : kids.start ≡ n.at + 1) (end : kids.end ≡ n.at + rows_at n.whole.now.tree.rows.now n.at) where
   pub below-levels : depth (rows_in kids) ≡ levels_below n
   below-levels = rw (of, start, end) refl
 
-  pub below-shown : shown (labels_in kids) ≡ fields_in n
+  pub below-shown : all_shown kids ≡ fields_in n
   below-shown = rw (of, start, end) refl
 
   -- what the iterator gives first
@@ -52,7 +55,7 @@ module _ (n : Node) (kids : Nodes) (of : kids.whole ≡ n.whole) (start : kids.s
       first = given kids r left g child is
 
       has-first : HasFirst n child
-      has-first = record { levels = omega (arith, below-levels, levels_first kids child left first); others = shown (labels_in left); is = rw (← below-shown) (shown-first kids child left first) }
+      has-first = record { levels = omega (arith, below-levels, levels_first kids child left first); others = all_shown left; is = rw (← below-shown) (shown-first kids child left first) }
 
       -- and then
       module _ (q : Option Node) (more : Nodes) (h : GivesNode left q more) where
@@ -65,7 +68,7 @@ module _ (n : Node) (kids : Nodes) (of : kids.whole ≡ n.whole) (start : kids.s
             record {
               levels-first = omega (arith, below-levels, levels_first kids child left first);
               levels-second = omega (arith, below-levels, levels_left kids child left first, levels_first left second more next);
-              others = shown (labels_in more);
+              others = all_shown more;
               is = rw (← below-shown) (shown-first kids child left first ∙ ap (λ (ks : List Shown). shown_in child ∷ ks) (shown-first left second more next));
             }
 
@@ -76,6 +79,8 @@ module _ (n : Node) (kids : Nodes) (of : kids.whole ≡ n.whole) (start : kids.s
 pub ruleset two_steps = (too-few, one-child, has-two)
 
 -- the whole tree
-pub root-text : (n : Node) → n.at ≡ 0 → (w : SoundTree) → n.whole.now ≡ w → text_in n ≡ display (tree_of w.tree.text.now w.tree.names.now w.tree.rows.now)
+pub root-text : (n : Node) → n.at ≡ 0 → (w : SoundTree) → n.whole.now ≡ w → text_in n ≡ display w.spelling (tree_of w.tree.text.now w.tree.names.now w.tree.rows.now)
 unfolding text_in display shown
-root-text n first w of = rw (root-tree n first w of)
+root-text n first w of =
+    let e : n.whole.now.spelling ≡ w.spelling = rw of refl in
+    rw (root-tree n first w of, e)

@@ -28,7 +28,9 @@ use Rattle.row_table.specs.Sound.{Standing, bare, field, union_field, name_fits,
 use Rattle.datatype.proofs.Tests.{below_at}
 use Rattle.row_table.proofs.SoundTree.{RowFits, rules_at, rows_fit_lem, sound_tree, sound-labels}
 use Rattle.output.specs.Digits.{digits_with, digits}
-use Rattle.display_length.specs.Display.{Shown, kind_word, unit_text, interval_text, mode_text, sorted_text, scale_text, escape, escaped, quoted, nullity_text, field_text, list_name_text, list_field_text, struct_text, union_text, zone_text, default_names, run_end_text, shape_text, type_text, shown, display}
+use Rattle.display_length.specs.declared.words.Spelling.{Spelling}
+use Rattle.display_length.specs.declared.words.Spelling.TheVariants.{Us, Micro}
+use Rattle.display_length.specs.Display.{Shown, kind_word, microsecond_text, unit_text, interval_text, mode_text, sorted_text, scale_text, escape, escaped, quoted, nullity_text, field_text, list_name_text, list_field_text, struct_text, union_text, zone_text, default_names, run_end_text, shape_text, type_text, shown, display}
 use Rattle.display_length.specs.PrintedLength.{quotes_names, is_ascii, names_ascii, quoted_ascii}
 use Rattle.datatype_display.specs.Print.{print, length_of, print_answer, written, print_bytes}
 
@@ -71,12 +73,17 @@ clean_kind : (k : ℕ) → k < kinds → Clean (kind_word k)
 unfolding kind_word words is_utf8 utf8_state utf8_step
 clean_kind k h = literal (kind_word k) (below_at kinds (λ (n : ℕ). is_utf8 (kind_word n)) tt k h)
 
-clean_unit : (u : ℕ) → Clean (unit_text u)
+clean_microsecond : (spelling : Spelling) → Clean (microsecond_text spelling)
+unfolding microsecond_text is_utf8 utf8_state utf8_step
+clean_microsecond Us = literal (bytes "us") tt
+clean_microsecond Micro = literal (bytes "µs") tt
+
+clean_unit : (spelling : Spelling) (u : ℕ) → Clean (unit_text spelling u)
 unfolding unit_text is_utf8 utf8_state utf8_step
-clean_unit zero = literal (bytes "s") tt
-clean_unit (suc zero) = literal (bytes "ms") tt
-clean_unit (suc (suc zero)) = literal (bytes "µs") tt
-clean_unit (suc (suc (suc u))) = literal (bytes "ns") tt
+clean_unit spelling zero = literal (bytes "s") tt
+clean_unit spelling (suc zero) = literal (bytes "ms") tt
+clean_unit spelling (suc (suc zero)) = clean_microsecond spelling
+clean_unit spelling (suc (suc (suc u))) = literal (bytes "ns") tt
 
 clean_interval : (u : ℕ) → Clean (interval_text u)
 unfolding interval_text is_utf8 utf8_state utf8_step
@@ -128,11 +135,6 @@ clean_zone (c ∷ z) h = literal (bytes ", ") tt then clean_quoted (c ∷ z) h
 
 abbrev labels_of : List Shown → List Label
 labels_of ks = map (λ k. k.label) ks
-
-shown_labels : (f : Forest Label) → labels_of (shown f) ≡ roots f
-unfolding shown
-shown_labels ∅ = refl
-shown_labels (node l kids next) = ap (λ (ls : List Label). l ∷ ls) (shown_labels next)
 
 -- a printed type whose row has a name that is UTF-8, and a run of such
 record CleanShown (k : Shown) : Type 0 where
@@ -187,34 +189,11 @@ clean_run_ends r v ks h k a =
     (clean_nullity r.label then h.text then literal (bytes ", ") tt then clean_nullity v.label then k.text)
     (λ b. clean_field r h (first_ascii r (v ∷ ks) b) then literal (bytes ", ") tt then clean_field v k (first_ascii v ks (rest_ascii r (v ∷ ks) b)))
 
--- ---- types
+-- ---- what prints in double quotes
 
 -- what a shape prints in double quotes is ASCII
 abbrev QuotesAscii : Shape → List Label → Type 0
 QuotesAscii s ls = T (not (quotes_names s ls) || names_ascii ls)
-
-clean_shape : (s : Shape) (l : Label) (ks : List Shown) → T (is_ascii l.zone) → QuotesAscii s (labels_of ks) → AllClean ks → Clean (shape_text s l ks)
-unfolding shape_text quotes_names is_utf8 utf8_state utf8_step
-clean_shape leaf l ks z a h = literal [] tt
-clean_shape timestamp l ks z a h = literal (bytes "(") tt then clean_unit l.number then clean_zone l.zone z then literal (bytes ")") tt
-clean_shape time l ks z a h = literal (bytes "(") tt then clean_unit l.number then literal (bytes ")") tt
-clean_shape interval l ks z a h = literal (bytes "(") tt then clean_interval l.number then literal (bytes ")") tt
-clean_shape fixed l ks z a h = literal (bytes "(") tt then clean_number l.number then literal (bytes ")") tt
-clean_shape list l [] z a h = literal [] tt
-clean_shape list l (k ∷ ks) z a h = literal (bytes "(") tt then clean_list_field k h.0 then literal (bytes ")") tt
-clean_shape fixed_list l [] z a h = literal [] tt
-clean_shape fixed_list l (k ∷ ks) z a h = literal (bytes "(") tt then clean_number l.number then literal (bytes " x ") tt then clean_list_field k h.0 then literal (bytes ")") tt
-clean_shape struct l ks z a h = literal (bytes "(") tt then clean_struct ks h a then literal (bytes ")") tt
-clean_shape union l ks z a h = literal (bytes "(") tt then clean_mode l.number then clean_union ks h a then literal (bytes ")") tt
-clean_shape dictionary l [] z a h = literal [] tt
-clean_shape dictionary l (k ∷ []) z a h = literal [] tt
-clean_shape dictionary l (k ∷ v ∷ ks) z a h = literal (bytes "(") tt then h.0.text then literal (bytes ", ") tt then h.1.0.text then literal (bytes ")") tt
-clean_shape decimal l ks z a h = literal (bytes "(") tt then clean_number l.number then literal (bytes ", ") tt then clean_scale l.scale then literal (bytes ")") tt
-clean_shape mapping l [] z a h = literal [] tt
-clean_shape mapping l (k ∷ ks) z a h = literal (bytes "(") tt then clean_field k h.0 (first_ascii k ks a) then literal (bytes ", ") tt then clean_sorted l.number then literal (bytes ")") tt
-clean_shape run_end_encoded l [] z a h = literal [] tt
-clean_shape run_end_encoded l (r ∷ []) z a h = literal [] tt
-clean_shape run_end_encoded l (r ∷ v ∷ ks) z a h = literal (bytes "(") tt then clean_run_ends r v ks h.0 h.1.0 a then literal (bytes ")") tt
 
 clean_name : (place : Standing) (name : List ℕ) → T (name_fits place name) → Clean name
 unfolding name_fits
@@ -224,8 +203,6 @@ clean_name field [] h = absurd h
 clean_name field (c ∷ s) h = literal (c ∷ s) h
 clean_name union_field [] h = absurd h
 clean_name union_field (c ∷ s) h = literal (c ∷ s) h
-
--- ---- trees
 
 -- what `quoted_ascii` asks of a tree's root, of its children and of its later siblings
 record QuotedParts (l : Label) (kids next : Forest Label) : Type 0 where
@@ -247,59 +224,92 @@ quoted_parts l kids next t =
       beside = and_r (a && b && quoted_ascii kids) (quoted_ascii next) t;
     }
 
-clean_type : (place : Standing) (l : Label) (kids next : Forest Label) → RowFits place l kids → QuotedParts l kids next → AllClean (shown kids)
-    → Clean (type_text l (shown kids))
-unfolding type_text
-clean_type place l kids next r q h =
-    clean_kind l.kind r.kind
-    then clean_shape (shape_of l.kind) l (shown kids) q.zone (subst (QuotesAscii (shape_of l.kind)) (sym (shown_labels kids)) q.names) h
+-- ---- types, in a spelling
 
-all_clean : (place : Standing) (f : Forest Label) → T (rows_fit place f) → T (quoted_ascii f) → AllClean (shown f)
-unfolding shown
-all_clean place ∅ h a = tt
-all_clean place (node l kids next) h a =
-    let r = rows_fit_lem place l kids next h in
-    let q = quoted_parts l kids next a in (
-      record {
-        name = clean_name place l.name r.0.name;
-        text = clean_type place l kids next r.0 q (all_clean (rules_at l).below kids r.1 q.below);
-      },
-      all_clean place next r.2 q.beside,
-    )
+module _ (spelling : Spelling) where
+  clean_shape : (s : Shape) (l : Label) (ks : List Shown) → T (is_ascii l.zone) → QuotesAscii s (labels_of ks) → AllClean ks → Clean (shape_text spelling s l ks)
+  unfolding shape_text quotes_names is_utf8 utf8_state utf8_step
+  clean_shape leaf l ks z a h = literal [] tt
+  clean_shape timestamp l ks z a h = literal (bytes "(") tt then clean_unit spelling l.number then clean_zone l.zone z then literal (bytes ")") tt
+  clean_shape time l ks z a h = literal (bytes "(") tt then clean_unit spelling l.number then literal (bytes ")") tt
+  clean_shape interval l ks z a h = literal (bytes "(") tt then clean_interval l.number then literal (bytes ")") tt
+  clean_shape fixed l ks z a h = literal (bytes "(") tt then clean_number l.number then literal (bytes ")") tt
+  clean_shape list l [] z a h = literal [] tt
+  clean_shape list l (k ∷ ks) z a h = literal (bytes "(") tt then clean_list_field k h.0 then literal (bytes ")") tt
+  clean_shape fixed_list l [] z a h = literal [] tt
+  clean_shape fixed_list l (k ∷ ks) z a h = literal (bytes "(") tt then clean_number l.number then literal (bytes " x ") tt then clean_list_field k h.0 then literal (bytes ")") tt
+  clean_shape struct l ks z a h = literal (bytes "(") tt then clean_struct ks h a then literal (bytes ")") tt
+  clean_shape union l ks z a h = literal (bytes "(") tt then clean_mode l.number then clean_union ks h a then literal (bytes ")") tt
+  clean_shape dictionary l [] z a h = literal [] tt
+  clean_shape dictionary l (k ∷ []) z a h = literal [] tt
+  clean_shape dictionary l (k ∷ v ∷ ks) z a h = literal (bytes "(") tt then h.0.text then literal (bytes ", ") tt then h.1.0.text then literal (bytes ")") tt
+  clean_shape decimal l ks z a h = literal (bytes "(") tt then clean_number l.number then literal (bytes ", ") tt then clean_scale l.scale then literal (bytes ")") tt
+  clean_shape mapping l [] z a h = literal [] tt
+  clean_shape mapping l (k ∷ ks) z a h = literal (bytes "(") tt then clean_field k h.0 (first_ascii k ks a) then literal (bytes ", ") tt then clean_sorted l.number then literal (bytes ")") tt
+  clean_shape run_end_encoded l [] z a h = literal [] tt
+  clean_shape run_end_encoded l (r ∷ []) z a h = literal [] tt
+  clean_shape run_end_encoded l (r ∷ v ∷ ks) z a h = literal (bytes "(") tt then clean_run_ends r v ks h.0 h.1.0 a then literal (bytes ")") tt
 
-pub display_utf8 : (place : Standing) (f : Forest Label) → T (rows_fit place f) → T (quoted_ascii f) → T (is_utf8 (display f))
-unfolding display shown
-display_utf8 place ∅ h a = unfold is_utf8 utf8_state in tt
-display_utf8 place (node l kids next) h a = (all_clean place (node l kids next) h a).0.text.is
+  -- ---- trees
+
+  shown_labels : (f : Forest Label) → labels_of (shown spelling f) ≡ roots f
+  unfolding shown
+  shown_labels ∅ = refl
+  shown_labels (node l kids next) = ap (λ (ls : List Label). l ∷ ls) (shown_labels next)
+
+  clean_type : (place : Standing) (l : Label) (kids next : Forest Label) → RowFits place l kids → QuotedParts l kids next → AllClean (shown spelling kids)
+      → Clean (type_text spelling l (shown spelling kids))
+  unfolding type_text
+  clean_type place l kids next r q h =
+      clean_kind l.kind r.kind
+      then clean_shape (shape_of l.kind) l (shown spelling kids) q.zone (subst (QuotesAscii (shape_of l.kind)) (sym (shown_labels kids)) q.names) h
+
+  all_clean : (place : Standing) (f : Forest Label) → T (rows_fit place f) → T (quoted_ascii f) → AllClean (shown spelling f)
+  unfolding shown
+  all_clean place ∅ h a = tt
+  all_clean place (node l kids next) h a =
+      let r = rows_fit_lem place l kids next h in
+      let q = quoted_parts l kids next a in (
+        record {
+          name = clean_name place l.name r.0.name;
+          text = clean_type place l kids next r.0 q (all_clean (rules_at l).below kids r.1 q.below);
+        },
+        all_clean place next r.2 q.beside,
+      )
+
+  pub display_utf8 : (place : Standing) (f : Forest Label) → T (rows_fit place f) → T (quoted_ascii f) → T (is_utf8 (display spelling f))
+  unfolding display shown
+  display_utf8 place ∅ h a = unfold is_utf8 utf8_state in tt
+  display_utf8 place (node l kids next) h a = (all_clean place (node l kids next) h a).0.text.is
 
 -- ---- what is printed
 
-module _ (text names table : List ℕ) where
+module _ (spelling : Spelling) (text names table : List ℕ) where
   abbrev tree : Forest Label
   tree = tree_of text names table
 
-  sound-utf8 : T (is_sound text names table) → T (quoted_ascii tree) → T (is_utf8 (display tree))
+  sound-utf8 : T (is_sound text names table) → T (quoted_ascii tree) → T (is_utf8 (display spelling tree))
   sound-utf8 h a =
       let s = sound_tree text names table h in
-      display_utf8 bare tree (subst (λ (f : Forest Label). T (rows_fit bare f)) (sym (sound-labels text names table s)) s.fits) a
+      display_utf8 spelling bare tree (subst (λ (f : Forest Label). T (rows_fit bare f)) (sym (sound-labels text names table s)) s.fits) a
 
-  pub print-utf8 : (room : ℕ) (s : List ℕ) → print text names table room ≡ done s → T (is_utf8 s)
+  pub print-utf8 : (room : ℕ) (s : List ℕ) → print spelling text names table room ≡ done s → T (is_utf8 s)
   unfolding print
-  print-utf8 room s e = go (is_sound text names table) (quoted_ascii tree) (leb (length (display tree)) (min room 16384)) refl refl e
+  print-utf8 room s e = go (is_sound text names table) (quoted_ascii tree) (leb (length (display spelling tree)) (min room 16384)) refl refl e
     where
       go : (a b c : Bool) → is_sound text names table ≡ a → quoted_ascii tree ≡ b
-          → (if a then (if b then (if c then done (display tree) else refuse 19) else refuse 18) else refuse 17) ≡ done s → T (is_utf8 s)
+          → (if a then (if b then (if c then done (display spelling tree) else refuse 19) else refuse 18) else refuse 17) ≡ done s → T (is_utf8 s)
       go true true true p q e =
-          let d : display tree ≡ s = cc in
+          let d : display spelling tree ≡ s = cc in
           subst (λ (t : List ℕ). T (is_utf8 t)) d (sound-utf8 (of_true _ p) (of_true _ q))
       go true true false p q e = absurd (let z : ◌≡◌ {A = ℕ} 0 1 = cc in omega arith)
       go true false c p q e = absurd (let z : ◌≡◌ {A = ℕ} 0 1 = cc in omega arith)
       go false b c p q e = absurd (let z : ◌≡◌ {A = ℕ} 0 1 = cc in omega arith)
 
   -- the bytes at the start of the output, as many as the printer answers
-  pub output-utf8 : (before : List ℕ) (n : ℕ) → print_answer text names table before ≡ done n → T (is_utf8 (take n (print_bytes text names table before)))
+  pub output-utf8 : (before : List ℕ) (n : ℕ) → print_answer spelling text names table before ≡ done n → T (is_utf8 (take n (print_bytes spelling text names table before)))
   unfolding print_answer print_bytes
-  output-utf8 before n e = go (print text names table (length before)) (print-utf8 (length before)) e
+  output-utf8 before n e = go (print spelling text names table (length before)) (print-utf8 (length before)) e
     where
       go : (o : Out (List ℕ)) → ((s : List ℕ) → o ≡ done s → T (is_utf8 s)) → length_of o ≡ done n → T (is_utf8 (take n (written before o)))
       go (refused r) u e = absurd (let z : ◌≡◌ {A = ℕ} 0 1 = cc in omega arith)

@@ -13,6 +13,7 @@ use Rattle.tokenizer.proofs.Basics.{of_true}
 use Rattle.tokenizer.specs.Text.{all}
 use Rattle.datatype.specs.Table.{tree_of}
 use Rattle.row_table.specs.Sound.{is_sound}
+use Rattle.display_length.specs.declared.words.Spelling.{Spelling}
 use Rattle.display_length.specs.Display.{display}
 use Rattle.display_length.specs.PrintedLength.{quoted_ascii, printed_length}
 use Rattle.display_length.proofs.PrintedLaws.{Prints as Measured, prints, refuses}
@@ -30,32 +31,32 @@ use Rattle.display_length.specs.Internal.Steps.{is_clean}
 use Rattle.display_length.proofs.TreeLaws.{root_levels}
 use Rattle.datatype_display.proofs.Children.{root-text}
 
-module _ (text names table before : List ℕ) where
+module _ (spelling : Spelling) (text names table before : List ℕ) where
   abbrev printed : List ℕ
-  printed = display (tree_of text names table)
+  printed = display spelling (tree_of text names table)
 
   -- both equations of the printer
   abbrev Prints : Out ℕ → List ℕ → Type 0
-  Prints answer after = (answer ≡ print_answer text names table before) × (after ≡ print_bytes text names table before)
+  Prints answer after = (answer ≡ print_answer spelling text names table before) × (after ≡ print_bytes spelling text names table before)
 
   -- 17 and 18, as the printed length has them
-  prints-refused : (n : ℕ) → refuse n ≡ printed_length text names table → Prints (refuse n) before
+  prints-refused : (n : ℕ) → refuse n ≡ printed_length spelling text names table → Prints (refuse n) before
   unfolding print print_answer print_bytes
-  prints-refused n h = go (refuses text names table n h)
+  prints-refused n h = go (refuses spelling text names table n h)
     where
       go : ((n ≡ 17) × (is_sound text names table ≡ false)) ⊎ ((n ≡ 18) × (is_sound text names table ≡ true) × (quoted_ascii (tree_of text names table) ≡ false)) → Prints (refuse n) before
       go (inl e) = (rw (e.0, e.1), rw e.1)
       go (inr e) = (rw (e.0, e.1, e.2), rw (e.1, e.2))
 
-  pub refused-answer : (e : R.Refusal) → refuse (number_of e) ≡ printed_length text names table → (r : Result ℕ R.Refusal) → IsErrAnd r (λ y. y ≡ e) → answer_of r ≡ print_answer text names table before
+  pub refused-answer : (e : R.Refusal) → refuse (number_of e) ≡ printed_length spelling text names table → (r : Result ℕ R.Refusal) → IsErrAnd r (λ y. y ≡ e) → answer_of r ≡ print_answer spelling text names table before
   refused-answer e h r k = handed_on r e k ∙ (prints-refused (number_of e) h).0
 
-  pub refused-bytes : (n : ℕ) → refuse n ≡ printed_length text names table → before ≡ print_bytes text names table before
+  pub refused-bytes : (n : ℕ) → refuse n ≡ printed_length spelling text names table → before ≡ print_bytes spelling text names table before
   refused-bytes n h = (prints-refused n h).1
 
-  module _ (n : ℕ) (h : done n ≡ printed_length text names table) where
-    measured : Measured text names table n
-    measured = prints text names table n h
+  module _ (n : ℕ) (h : done n ≡ printed_length spelling text names table) where
+    measured : Measured spelling text names table n
+    measured = prints spelling text names table n h
 
     too_long : leb (length printed) (min (length before) 16384) ≡ false → Prints (refuse 19) before
     unfolding print print_answer print_bytes
@@ -66,34 +67,34 @@ module _ (text names table before : List ℕ) where
 
     module _ (room : ℕ) (is : room ≡ min (length before) 16384) where
       module _ (l : room < n) where
-        pub long-answer : refuse 19 ≡ print_answer text names table before
+        pub long-answer : refuse 19 ≡ print_answer spelling text names table before
         long-answer = (prints-19 (omega arith)).0
 
-        pub long-bytes : before ≡ print_bytes text names table before
+        pub long-bytes : before ≡ print_bytes spelling text names table before
         long-bytes = (prints-19 (omega arith)).1
 
       fits : n ≤ room → leb (length printed) (min (length before) 16384) ≡ true
       fits l = let k = measured.is in le-leb (length printed) (min (length before) 16384) (omega arith)
 
-      pub printed-answer : n ≤ room → done n ≡ print_answer text names table before
+      pub printed-answer : n ≤ room → done n ≡ print_answer spelling text names table before
       unfolding print print_answer
       printed-answer l = let k = measured.is in rw (measured.sound, measured.ascii, fits l, k)
 
 -- what the length's answer says of the tree
-pub printed-sound : (text names table : List ℕ) (n : ℕ) → done n ≡ printed_length text names table → T (is_sound text names table)
-printed-sound text names table n h = of_true _ (measured text names table [] n h).sound
+pub printed-sound : (spelling : Spelling) (text names table : List ℕ) (n : ℕ) → done n ≡ printed_length spelling text names table → T (is_sound text names table)
+printed-sound spelling text names table n h = of_true _ (measured spelling text names table [] n h).sound
 
 pub not_clean : (s : List ℕ) → false ≡ true → T (all is_clean s)
 not_clean s e = absurd (false≢true e)
 
 -- the text of a sound tree that is known to fit
-module _ (w : SoundTree) (root : Node) (of : root.whole.now ≡ w) (first : root.at ≡ 0) (before : List ℕ) (n : ℕ) (h : done n ≡ printed_length w.tree.text.now w.tree.names.now w.tree.rows.now)
+module _ (w : SoundTree) (root : Node) (of : root.whole.now ≡ w) (first : root.at ≡ 0) (before : List ℕ) (n : ℕ) (h : done n ≡ printed_length w.spelling w.tree.text.now w.tree.names.now w.tree.rows.now)
     (room : ℕ) (is : room ≡ min (length before) 16384) (l : n ≤ room) (p : Printer) (start : p.at ≡ 0) (lent : p.out.now ≡ before) where
-  abbrev m : Measured w.tree.text.now w.tree.names.now w.tree.rows.now n
-  m = measured w.tree.text.now w.tree.names.now w.tree.rows.now before n h
+  abbrev m : Measured w.spelling w.tree.text.now w.tree.names.now w.tree.rows.now n
+  m = measured w.spelling w.tree.text.now w.tree.names.now w.tree.rows.now before n h
 
   abbrev text : List ℕ
-  text = printed w.tree.text.now w.tree.names.now w.tree.rows.now before
+  text = printed w.spelling w.tree.text.now w.tree.names.now w.tree.rows.now before
 
   pub root-fits : Fits p (text_in root)
   root-fits =
@@ -102,13 +103,13 @@ module _ (w : SoundTree) (root : Node) (of : root.whole.now ≡ w) (first : root
       let o = ap (λ (s : List ℕ). length s) lent in
       record { room = omega arith }
 
-  pub printed-bytes : (q : Printer) → Wrote p (text_in root) q → (after : List ℕ) → after ≡ q.out.now → after ≡ print_bytes w.tree.text.now w.tree.names.now w.tree.rows.now before
+  pub printed-bytes : (q : Printer) → Wrote p (text_in root) q → (after : List ℕ) → after ≡ q.out.now → after ≡ print_bytes w.spelling w.tree.text.now w.tree.names.now w.tree.rows.now before
   unfolding print print_bytes written
   printed-bytes q c after ends =
       let k = m.is in
       let z : 0 + length text ≡ length text = omega arith in
       let stored : after ≡ sets before 0 (text_in root) = ends ∙ ap (λ (r : Printer). r.out.now) c.is ∙ rw (start, lent) in
-      rw (m.sound, m.ascii, fits w.tree.text.now w.tree.names.now w.tree.rows.now before n h room is l)
+      rw (m.sound, m.ascii, fits w.spelling w.tree.text.now w.tree.names.now w.tree.rows.now before n h room is l)
       (stored ∙ ap (λ (s : List ℕ). sets before 0 s) (root-text root first w of) ∙ sets-eq text before 0 (omega arith) ∙ ap (λ (i : ℕ). text ++ drop i before) z)
 
 -- what `print_data_type` uses

@@ -20,11 +20,11 @@ use Rattle.output.specs.Digits.{digits}
 use Rattle.display_length.specs.declared.nodes.Node.{Node}
 use Rattle.display_length.specs.declared.nodes.Nodes.{Nodes}
 use Rattle.display_length.specs.Nodes.{IsFirst}
-use Rattle.display_length.specs.Display.{kind_word, unit_text, interval_text, mode_text, sorted_text, scale_text, quoted, Shown, nullity_text, field_text, list_name_text, list_field_text, struct_text, union_text, zone_text, default_names, run_end_text, shape_text, type_text, shown}
-use Rattle.display_length.specs.Internal.Nodes.{label_in, levels_below, labels_in, rows_in}
+use Rattle.display_length.specs.Display.{kind_word, unit_text, interval_text, mode_text, sorted_text, scale_text, quoted, Shown, nullity_text, field_text, list_name_text, list_field_text, struct_text, union_text, zone_text, default_names, run_end_text, shape_text, type_text}
+use Rattle.display_length.specs.Internal.Nodes.{label_in, levels_below, rows_in}
 use Rattle.display_length.proofs.NodeLaws.{kind_said, node_kind, levels_left, levels_first}
 use Rattle.datatype_display.specs.declared.write.Printer.{Printer}
-use Rattle.datatype_display.specs.Internal.Steps.{Wrote, is_alone, comma, nullability, name_text, nullable_text, union_field_text, fields_in, text_in, shown_in, shape_in}
+use Rattle.datatype_display.specs.Internal.Steps.{Wrote, is_alone, comma, nullability, name_text, nullable_text, union_field_text, fields_in, text_in, shown_in, all_shown, shape_in}
 use Rattle.datatype_display.proofs.Writes.{written_then, written_none, Left, left_as, left_step}
 use Rattle.datatype_display.proofs.Children.{shown-none, shown-first, below-levels, below-shown}
 
@@ -81,11 +81,11 @@ module _ (n : Node) where
   unfolding shape_in shape_text
   leaf_part = refl
 
-  pub timestamp_parts : shape_in timestamp n ≡ bytes "(" ++ (unit_text (word 4) ++ (zone_text zone ++ bytes ")"))
+  pub timestamp_parts : shape_in timestamp n ≡ bytes "(" ++ (unit_text n.whole.now.spelling (word 4) ++ (zone_text zone ++ bytes ")"))
   unfolding shape_in shape_text label_of row_at
   timestamp_parts = refl
 
-  pub time_parts : shape_in time n ≡ bytes "(" ++ (unit_text (word 4) ++ bytes ")")
+  pub time_parts : shape_in time n ≡ bytes "(" ++ (unit_text n.whole.now.spelling (word 4) ++ bytes ")")
   unfolding shape_in shape_text label_of row_at
   time_parts = refl
 
@@ -137,7 +137,7 @@ module _ (n : Node) where
     unfolding shape_in shape_text label_of row_at
     map_parts = rw e
 
-  few : (s : Shape) (l : Label) (ks : List Shown) → length ks < 2 → (s ≡ dictionary) ⊎ (s ≡ run_end_encoded) → shape_text s l ks ≡ []
+  few : (s : Shape) (l : Label) (ks : List Shown) → length ks < 2 → (s ≡ dictionary) ⊎ (s ≡ run_end_encoded) → shape_text n.whole.now.spelling s l ks ≡ []
   unfolding shape_text
   few s l [] h (inl e) = rw e
   few s l (k ∷ []) h (inl e) = rw e
@@ -234,7 +234,7 @@ module _ (n : Node) (level : ℕ) (before : Printer) (whole : List ℕ) where
   pub record Fields (f : List Shown → List ℕ) (left : Nodes) (p : Printer) : Type 0 where
     pub behind : n.at + 1 ≤ left.start
     pub flat : depth (rows_in left) ≤ level
-    pub rest : Left before whole (f (shown (labels_in left)) ++ bytes ")") p
+    pub rest : Left before whole (f (all_shown left) ++ bytes ")") p
 
   -- before the first field
   fields_start : (f : List Shown → List ℕ) (kids : Nodes) (p : Printer) → kids.whole ≡ n.whole → kids.start ≡ n.at + 1 → kids.end ≡ n.at + rows_at n.whole.now.tree.rows.now n.at → levels_below n ≤ level → Left before whole (f (fields_in n) ++ bytes ")") p → Fields f kids p
@@ -268,13 +268,13 @@ module _ (n : Node) (level : ℕ) (before : Printer) (whole : List ℕ) where
       abbrev first : Bool
       first = eqb field.at (n.at + 1)
 
-      pub struct_here : Fields (struct_rest (eqb left.start (n.at + 1))) left p → Left before whole (comma (not first) ++ (field_text (shown_in field) ++ (struct_rest false (shown (labels_in next)) ++ bytes ")"))) p
+      pub struct_here : Fields (struct_rest (eqb left.start (n.at + 1))) left p → Left before whole (comma (not first) ++ (field_text (shown_in field) ++ (struct_rest false (all_shown next) ++ bytes ")"))) p
       struct_here v =
           left_as
           (
           ap (λ ks. struct_rest (eqb left.start (n.at + 1)) ks ++ bytes ")") (shown-first left field next g)
-          ∙ ap (λ s. (comma (not (eqb left.start (n.at + 1))) ++ s) ++ bytes ")") (struct_next (shown_in field) (shown (labels_in next)))
-          ∙ ap (λ (i : ℕ). (comma (not (eqb i (n.at + 1))) ++ (field_text (shown_in field) ++ struct_rest false (shown (labels_in next)))) ++ bytes ")") (sym g.at)
+          ∙ ap (λ s. (comma (not (eqb left.start (n.at + 1))) ++ s) ++ bytes ")") (struct_next (shown_in field) (all_shown next))
+          ∙ ap (λ (i : ℕ). (comma (not (eqb i (n.at + 1))) ++ (field_text (shown_in field) ++ struct_rest false (all_shown next))) ++ bytes ")") (sym g.at)
           ∙ simp append_assoc
           )
           v.rest
@@ -290,13 +290,13 @@ module _ (n : Node) (level : ℕ) (before : Printer) (whole : List ℕ) where
           rw (ne_eqb next.start (n.at + 1) (λ z. omega arith))
           (record { behind = omega arith; flat = omega (arith, levels_left left field next g); rest = left_step (left_step (struct_here v) c) w })
 
-      pub union_here : Fields union_text left p → Left before whole (union_field_text (shown_in field) ++ (union_text (shown (labels_in next)) ++ bytes ")")) p
+      pub union_here : Fields union_text left p → Left before whole (union_field_text (shown_in field) ++ (union_text (all_shown next) ++ bytes ")")) p
       unfolding union_text union_field_text
       union_here v =
           left_as
           (
           ap (λ ks. union_text ks ++ bytes ")") (shown-first left field next g)
-          ∙ one_union_field (digits (label_in field).union_id) (field_text (shown_in field)) (union_text (shown (labels_in next)))
+          ∙ one_union_field (digits (label_in field).union_id) (field_text (shown_in field)) (union_text (all_shown next))
           )
           v.rest
 

@@ -2,7 +2,7 @@
 ghost use Rattle.std.specs.Prelude.{◌≡◌, ◌++◌, true};
 ghost use Rattle.tokenizer.specs.Text.{bytes};
 ghost use Rattle.output.specs.Digits.{digits};
-ghost use Rattle.display_length.specs.Display.{unit_text, scale_text, zone_text, list_name_text};
+ghost use Rattle.display_length.specs.Display.{scale_text, zone_text, list_name_text};
 ghost use Rattle.display_length.specs.Internal.Nodes.{label_in};
 ghost use Rattle.datatype_display.specs.Internal.Steps.{Fits, Wrote, is_alone, nullability, name_text, comma, text_in};
 
@@ -46,12 +46,12 @@ impl<'a> Printer<'a> {
 
     // (unit[, "zone"]), as Timestamp has it
     #[tactic(auto, using(crate::proofs::Writes::writes))]
-    fn put_timestamp(&mut self, unit: u32, zone: &[u8])
-        requires { Fits self.old (bytes "(" ++ (unit_text unit ++ (zone_text zone.now ++ bytes ")"))) }
-        ensures { Wrote self.old (bytes "(" ++ (unit_text unit ++ (zone_text zone.now ++ bytes ")"))) self.new }
+    fn put_timestamp(&mut self, unit: &[u8], zone: &[u8])
+        requires { Fits self.old (bytes "(" ++ (unit.now ++ (zone_text zone.now ++ bytes ")"))) }
+        ensures { Wrote self.old (bytes "(" ++ (unit.now ++ (zone_text zone.now ++ bytes ")"))) self.new }
     {
         self.put_mark(b'(');
-        self.put(unit_word(unit));
+        self.put(unit);
         self.put_zone(zone);
         self.put_mark(b')');
     }
@@ -89,9 +89,12 @@ impl<'a> Printer<'a> {
         self.put_kind(kind);
         let row = node.row();
         let number = row.number();
+        let spelling = node.whole.spelling;
         match kind {
-            kind::TIMESTAMP => self.put_timestamp(number, node.zone()),
-            kind::TIME32 | kind::TIME64 | kind::DURATION => self.put_enclosed(unit_word(number)),
+            kind::TIMESTAMP => self.put_timestamp(unit_word(spelling, number), node.zone()),
+            kind::TIME32 | kind::TIME64 | kind::DURATION => self.put_enclosed(unit_word(
+                spelling, number,
+            )),
             kind::INTERVAL => self.put_enclosed(interval_word(number)),
             kind::FIXED_SIZE_BINARY => self.put_fixed_size_binary(number),
             kind::DECIMAL32 | kind::DECIMAL64 | kind::DECIMAL128 | kind::DECIMAL256 =>

@@ -4,11 +4,11 @@
 
 ghost use Rattle.std.specs.Prelude.{◌≡◌};
 ghost use Rattle.tokenizer.specs.Answer.{answer_of};
-ghost use Rattle.datatype_display.specs.Print.{print_answer, print_bytes};
+ghost use Rattle.datatype_display.specs.Print.{default_spelling, print_answer, print_bytes};
 
 use datatype::Tree;
 use datatype::rows::{MAX_LEVELS, MAX_TEXT};
-use display_length::{SoundTree, printed_length};
+use display_length::{SoundTree, Spelling, printed_length};
 use tokenizer::Refusal;
 use write::Printer;
 
@@ -18,18 +18,39 @@ mod leaves;
 mod words;
 mod write;
 
-// Prints a tree into a lent buffer: its text, and past it what the buffer held before. A refused tree changes nothing.
-#[tactic(auto, using(crate::proofs::Prints::print_steps))]
+// The spelling where none is named.
+pub const DEFAULT_SPELLING: Spelling = Spelling::Us;
+
+// Prints a tree into a lent buffer, in the default spelling.
+#[tactic(auto, unfolding(crate::specs::Print::default_spelling))]
 pub fn print_data_type(tree: Tree<'_>, out: &mut [u8]) -> Result<usize, Refusal>
-    ensures result_value { answer_of result ≡ print_answer tree.entry.text.now tree.entry.names.now tree.entry.rows.now out.old }
-    ensures out_after { out.new ≡ print_bytes tree.entry.text.now tree.entry.names.now tree.entry.rows.now out.old }
+    ensures result_value { answer_of result ≡ print_answer default_spelling tree.entry.text.now tree.entry.names.now tree.entry.rows.now out.old }
+    ensures out_after { out.new ≡ print_bytes default_spelling tree.entry.text.now tree.entry.names.now tree.entry.rows.now out.old }
 {
-    let length = printed_length(tree)?;
+    print_data_type_with(DEFAULT_SPELLING, tree, out)
+}
+
+// Prints a tree into a lent buffer: its text in the spelling chosen, and past it what the buffer held before. A refused
+// tree changes nothing.
+#[tactic(auto, using(crate::proofs::Prints::print_steps))]
+pub fn print_data_type_with(
+    spelling: Spelling,
+    tree: Tree<'_>,
+    out: &mut [u8],
+) -> Result<usize, Refusal>
+    ensures result_value { answer_of result ≡ print_answer spelling tree.entry.text.now tree.entry.names.now tree.entry.rows.now out.old }
+    ensures out_after { out.new ≡ print_bytes spelling tree.entry.text.now tree.entry.names.now tree.entry.rows.now out.old }
+{
+    let length = printed_length(spelling, tree)?;
     let room = out.len().min(MAX_TEXT);
     if room < length {
         return Err(Refusal::PrintTooLong);
     }
-    let whole = SoundTree { tree, clean: false };
+    let whole = SoundTree {
+        tree,
+        spelling,
+        clean: false,
+    };
     let mut printer = Printer { out, at: 0 };
     printer.put_type(MAX_LEVELS, &whole.root());
     Ok(length)

@@ -12,6 +12,7 @@ use Rattle.tokenizer.proofs.Basics.{and_l, and_r}
 use Rattle.datatype.specs.Kind.{Shape, leaf, timestamp, time, interval, fixed, list, fixed_list, struct, union, dictionary, decimal, mapping, run_end_encoded, shape_of}
 use Rattle.datatype.specs.Tree.{Forest, ∅, node, roots, Label}
 use Rattle.row_table.specs.Sound.{Standing, arity_fits, rules_of, row_fits, rows_fit}
+use Rattle.display_length.specs.declared.words.Spelling.{Spelling}
 use Rattle.display_length.specs.Display.{Shown, untyped, field_text, list_field_text, struct_text, union_text, default_names, run_end_text, shape_text, type_text, shown, display, own_length, display_length, nullity_text}
 
 ruleset split = (and_l, and_r)
@@ -54,75 +55,76 @@ run_end_length r v = go (default_names r.label v.label)
     go true = simp length-append (omega arith)
     go false = simp length-append (omega (arith, field_length_lem r, field_length_lem v))
 
--- what stands behind a kind's word, where the count of children is the shape's
-shape_length : (s : Shape) (l : Label) (ks : List Shown) → T (arity_fits (rules_of s).children (length ks))
-    → length (shape_text s l ks) ≡ length (shape_text s l (map blank ks)) + total ks
-unfolding arity_fits rules_of shape_text
-shape_length leaf l [] h = refl
-shape_length leaf l (k ∷ ks) h = absurd h
-shape_length timestamp l [] h = omega arith
-shape_length timestamp l (k ∷ ks) h = absurd h
-shape_length time l [] h = omega arith
-shape_length time l (k ∷ ks) h = absurd h
-shape_length interval l [] h = omega arith
-shape_length interval l (k ∷ ks) h = absurd h
-shape_length fixed l [] h = omega arith
-shape_length fixed l (k ∷ ks) h = absurd h
-shape_length decimal l [] h = omega arith
-shape_length decimal l (k ∷ ks) h = absurd h
-shape_length list l [] h = absurd h
-shape_length list l (k ∷ []) h = simp length-append (omega (arith, list_field_length k))
-shape_length list l (k ∷ j ∷ ks) h = absurd h
-shape_length fixed_list l [] h = absurd h
-shape_length fixed_list l (k ∷ []) h = simp length-append (omega (arith, list_field_length k))
-shape_length fixed_list l (k ∷ j ∷ ks) h = absurd h
-shape_length struct l ks h = simp length-append (omega (arith, struct_length ks))
-shape_length union l ks h = simp length-append (omega (arith, union_length ks))
-shape_length dictionary l [] h = absurd h
-shape_length dictionary l (k ∷ []) h = absurd h
-shape_length dictionary l (k ∷ v ∷ []) h = simp length-append (omega arith)
-shape_length dictionary l (k ∷ v ∷ j ∷ ks) h = absurd h
-shape_length mapping l [] h = absurd h
-shape_length mapping l (k ∷ []) h = simp length-append (omega (arith, field_length_lem k))
-shape_length mapping l (k ∷ j ∷ ks) h = absurd h
-shape_length run_end_encoded l [] h = absurd h
-shape_length run_end_encoded l (r ∷ []) h = absurd h
-shape_length run_end_encoded l (r ∷ v ∷ []) h = simp length-append (omega (arith, run_end_length r v))
-shape_length run_end_encoded l (r ∷ v ∷ j ∷ ks) h = absurd h
-
--- a row's own bytes, and its children's types
-type_length_lem : (l : Label) (ks : List Shown) → T (arity_fits (rules_of (shape_of l.kind)).children (length ks))
-    → length (type_text l ks) ≡ length (type_text l (map blank ks)) + total ks
-unfolding type_text
-type_length_lem l ks h = simp length-append (omega (arith, shape_length (shape_of l.kind) l ks h))
-
-blank_shown : (f : Forest Label) → map blank (shown f) ≡ map untyped (roots f)
-unfolding shown
-blank_shown ∅ = refl
-blank_shown (node l kids next) = ap (λ (ks : List Shown). untyped l ∷ ks) (blank_shown next)
-
-length_shown : (f : Forest Label) → length (shown f) ≡ length (roots f)
-unfolding shown
-length_shown ∅ = refl
-length_shown (node l kids next) = ap suc (length_shown next)
-
 -- the count of a row's children is its shape's
 arity : (place : Standing) (l : Label) (kids : Forest Label) → T (row_fits place l kids) → T (arity_fits (rules_of (shape_of l.kind)).children (length (roots kids)))
 unfolding row_fits
 arity place l kids h = search split depth 12
 
-total_shown : (place : Standing) (f : Forest Label) → T (rows_fit place f) → total (shown f) ≡ display_length f
-unfolding rows_fit shown display_length own_length
-total_shown place ∅ h = refl
-total_shown place (node l kids next) h =
-    let below : T (rows_fit (rules_of (shape_of l.kind)).below kids) = search split in
-    let beside : T (rows_fit place next) = search split in
-    let a : T (arity_fits (rules_of (shape_of l.kind)).children (length (shown kids))) = rw (length_shown kids) (arity place l kids (search split)) in
-    let own : length (type_text l (map blank (shown kids))) ≡ length (type_text l (map untyped (roots kids))) = ap (λ (ks : List Shown). length (type_text l ks)) (blank_shown kids) in
-    omega (arith, type_length_lem l (shown kids) a, own, total_shown (rules_of (shape_of l.kind)).below kids below, total_shown place next beside)
+module _ (spelling : Spelling) where
+  -- what stands behind a kind's word, where the count of children is the shape's
+  shape_length : (s : Shape) (l : Label) (ks : List Shown) → T (arity_fits (rules_of s).children (length ks))
+      → length (shape_text spelling s l ks) ≡ length (shape_text spelling s l (map blank ks)) + total ks
+  unfolding arity_fits rules_of shape_text
+  shape_length leaf l [] h = refl
+  shape_length leaf l (k ∷ ks) h = absurd h
+  shape_length timestamp l [] h = omega arith
+  shape_length timestamp l (k ∷ ks) h = absurd h
+  shape_length time l [] h = omega arith
+  shape_length time l (k ∷ ks) h = absurd h
+  shape_length interval l [] h = omega arith
+  shape_length interval l (k ∷ ks) h = absurd h
+  shape_length fixed l [] h = omega arith
+  shape_length fixed l (k ∷ ks) h = absurd h
+  shape_length decimal l [] h = omega arith
+  shape_length decimal l (k ∷ ks) h = absurd h
+  shape_length list l [] h = absurd h
+  shape_length list l (k ∷ []) h = simp length-append (omega (arith, list_field_length k))
+  shape_length list l (k ∷ j ∷ ks) h = absurd h
+  shape_length fixed_list l [] h = absurd h
+  shape_length fixed_list l (k ∷ []) h = simp length-append (omega (arith, list_field_length k))
+  shape_length fixed_list l (k ∷ j ∷ ks) h = absurd h
+  shape_length struct l ks h = simp length-append (omega (arith, struct_length ks))
+  shape_length union l ks h = simp length-append (omega (arith, union_length ks))
+  shape_length dictionary l [] h = absurd h
+  shape_length dictionary l (k ∷ []) h = absurd h
+  shape_length dictionary l (k ∷ v ∷ []) h = simp length-append (omega arith)
+  shape_length dictionary l (k ∷ v ∷ j ∷ ks) h = absurd h
+  shape_length mapping l [] h = absurd h
+  shape_length mapping l (k ∷ []) h = simp length-append (omega (arith, field_length_lem k))
+  shape_length mapping l (k ∷ j ∷ ks) h = absurd h
+  shape_length run_end_encoded l [] h = absurd h
+  shape_length run_end_encoded l (r ∷ []) h = absurd h
+  shape_length run_end_encoded l (r ∷ v ∷ []) h = simp length-append (omega (arith, run_end_length r v))
+  shape_length run_end_encoded l (r ∷ v ∷ j ∷ ks) h = absurd h
 
--- the printed length is the length of the printed text
-pub display_length_lem : (place : Standing) (l : Label) (kids : Forest Label) → T (rows_fit place (node l kids ∅))
-    → length (display (node l kids ∅)) ≡ display_length (node l kids ∅)
-unfolding display shown
-display_length_lem place l kids h = omega (arith, total_shown place (node l kids ∅) h)
+  -- a row's own bytes, and its children's types
+  type_length_lem : (l : Label) (ks : List Shown) → T (arity_fits (rules_of (shape_of l.kind)).children (length ks))
+      → length (type_text spelling l ks) ≡ length (type_text spelling l (map blank ks)) + total ks
+  unfolding type_text
+  type_length_lem l ks h = simp length-append (omega (arith, shape_length (shape_of l.kind) l ks h))
+
+  blank_shown : (f : Forest Label) → map blank (shown spelling f) ≡ map untyped (roots f)
+  unfolding shown
+  blank_shown ∅ = refl
+  blank_shown (node l kids next) = ap (λ (ks : List Shown). untyped l ∷ ks) (blank_shown next)
+
+  length_shown : (f : Forest Label) → length (shown spelling f) ≡ length (roots f)
+  unfolding shown
+  length_shown ∅ = refl
+  length_shown (node l kids next) = ap suc (length_shown next)
+
+  total_shown : (place : Standing) (f : Forest Label) → T (rows_fit place f) → total (shown spelling f) ≡ display_length spelling f
+  unfolding rows_fit shown display_length own_length
+  total_shown place ∅ h = refl
+  total_shown place (node l kids next) h =
+      let below : T (rows_fit (rules_of (shape_of l.kind)).below kids) = search split in
+      let beside : T (rows_fit place next) = search split in
+      let a : T (arity_fits (rules_of (shape_of l.kind)).children (length (shown spelling kids))) = rw (length_shown kids) (arity place l kids (search split)) in
+      let own : length (type_text spelling l (map blank (shown spelling kids))) ≡ length (type_text spelling l (map untyped (roots kids))) = ap (λ (ks : List Shown). length (type_text spelling l ks)) (blank_shown kids) in
+      omega (arith, type_length_lem l (shown spelling kids) a, own, total_shown (rules_of (shape_of l.kind)).below kids below, total_shown place next beside)
+
+  -- the printed length is the length of the printed text
+  pub display_length_lem : (place : Standing) (l : Label) (kids : Forest Label) → T (rows_fit place (node l kids ∅))
+      → length (display spelling (node l kids ∅)) ≡ display_length spelling (node l kids ∅)
+  unfolding display shown
+  display_length_lem place l kids h = omega (arith, total_shown place (node l kids ∅) h)

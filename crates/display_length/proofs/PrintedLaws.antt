@@ -14,55 +14,56 @@ use Rattle.datatype.specs.Tree.{label_of, labels}
 use Rattle.datatype.specs.Table.{tree_of}
 use Rattle.row_table.specs.Sound.{bare, is_sound}
 use Rattle.row_table.proofs.SoundTree.{SoundTree, sound_tree, sound-labels}
+use Rattle.display_length.specs.declared.words.Spelling.{Spelling}
 use Rattle.display_length.specs.Display.{display, display_length}
 use Rattle.display_length.specs.PrintedLength.{quoted_ascii, printed_length}
 use Rattle.display_length.proofs.Length.{display_length_lem}
 
-module _ (text names table : List ℕ) where
-  pub printed-17 : is_sound text names table ≡ false → refuse 17 ≡ printed_length text names table
+module _ (spelling : Spelling) (text names table : List ℕ) where
+  pub printed-17 : is_sound text names table ≡ false → refuse 17 ≡ printed_length spelling text names table
   unfolding printed_length
   printed-17 e = rw e
 
-  pub printed-18 : is_sound text names table ≡ true → (r : Bool) → r ≡ quoted_ascii (tree_of text names table) → r ≡ false → refuse 18 ≡ printed_length text names table
+  pub printed-18 : is_sound text names table ≡ true → (r : Bool) → r ≡ quoted_ascii (tree_of text names table) → r ≡ false → refuse 18 ≡ printed_length spelling text names table
   unfolding printed_length
   printed-18 e r is f = rw (e, sym is ∙ f)
 
-  pub printed-length : is_sound text names table ≡ true → (r : Bool) → r ≡ quoted_ascii (tree_of text names table) → r ≡ true → (n : ℕ) → n ≡ display_length (tree_of text names table)
-      → done n ≡ printed_length text names table
+  pub printed-length : is_sound text names table ≡ true → (r : Bool) → r ≡ quoted_ascii (tree_of text names table) → r ≡ true → (n : ℕ) → n ≡ display_length spelling (tree_of text names table)
+      → done n ≡ printed_length spelling text names table
   unfolding printed_length
   printed-length e r is f n so = rw (e, sym is ∙ f, so)
 
   -- ---- for the printer
 
   -- the printed length of a sound tree is the length of its printed text
-  pub sound-length : T (is_sound text names table) → display_length (tree_of text names table) ≡ length (display (tree_of text names table))
+  pub sound-length : T (is_sound text names table) → display_length spelling (tree_of text names table) ≡ length (display spelling (tree_of text names table))
   sound-length t = go (sound_tree text names table t)
     where
-      go : SoundTree text names table → display_length (tree_of text names table) ≡ length (display (tree_of text names table))
-      go s = rw (sound-labels text names table s) (unfold labels in sym (display_length_lem bare (label_of text names s.root) (labels text names s.kids) s.fits))
+      go : SoundTree text names table → display_length spelling (tree_of text names table) ≡ length (display spelling (tree_of text names table))
+      go s = rw (sound-labels text names table s) (unfold labels in sym (display_length_lem spelling bare (label_of text names s.root) (labels text names s.kids) s.fits))
 
   -- what holds where a length is answered
   pub record Prints (n : ℕ) : Type 0 where
     pub sound : is_sound text names table ≡ true
     pub ascii : quoted_ascii (tree_of text names table) ≡ true
-    pub is : n ≡ length (display (tree_of text names table))
+    pub is : n ≡ length (display spelling (tree_of text names table))
 
-module _ (text names table : List ℕ) where
+module _ (spelling : Spelling) (text names table : List ℕ) where
   -- both laws go by the two tests
   means : (sound ascii : Bool) → is_sound text names table ≡ sound → quoted_ascii (tree_of text names table) ≡ ascii
-      → printed_length text names table ≡ (if sound then (if ascii then done (display_length (tree_of text names table)) else refuse 18) else refuse 17)
+      → printed_length spelling text names table ≡ (if sound then (if ascii then done (display_length spelling (tree_of text names table)) else refuse 18) else refuse 17)
   unfolding printed_length
   means sound ascii e f = rw (e, f)
 
   -- where a length is answered
-  pub prints : (n : ℕ) → done n ≡ printed_length text names table → Prints text names table n
+  pub prints : (n : ℕ) → done n ≡ printed_length spelling text names table → Prints spelling text names table n
   prints n h = go (is_sound text names table) (quoted_ascii (tree_of text names table)) refl refl
     where
-      go : (sound ascii : Bool) → is_sound text names table ≡ sound → quoted_ascii (tree_of text names table) ≡ ascii → Prints text names table n
+      go : (sound ascii : Bool) → is_sound text names table ≡ sound → quoted_ascii (tree_of text names table) ≡ ascii → Prints spelling text names table n
       go true true e f =
-          let d : ◌≡◌ {A = Out ℕ} (done n) (done (display_length (tree_of text names table))) = h ∙ means true true e f in
-          let k : n ≡ display_length (tree_of text names table) = cc in
-          record { sound = e; ascii = f; is = k ∙ sound-length text names table (of_true _ e) }
+          let d : ◌≡◌ {A = Out ℕ} (done n) (done (display_length spelling (tree_of text names table))) = h ∙ means true true e f in
+          let k : n ≡ display_length spelling (tree_of text names table) = cc in
+          record { sound = e; ascii = f; is = k ∙ sound-length spelling text names table (of_true _ e) }
       go true false e f =
           let d : ◌≡◌ {A = Out ℕ} (done n) (refuse 18) = h ∙ means true false e f in
           let z : ◌≡◌ {A = ℕ} 0 1 = cc in absurd (omega arith)
@@ -76,14 +77,14 @@ module _ (text names table : List ℕ) where
   number (done n) = 0
 
   -- where a refusal is answered
-  pub refuses : (n : ℕ) → refuse n ≡ printed_length text names table
+  pub refuses : (n : ℕ) → refuse n ≡ printed_length spelling text names table
       → ((n ≡ 17) × (is_sound text names table ≡ false)) ⊎ ((n ≡ 18) × (is_sound text names table ≡ true) × (quoted_ascii (tree_of text names table) ≡ false))
   refuses n h = go (is_sound text names table) (quoted_ascii (tree_of text names table)) refl refl
     where
       go : (sound ascii : Bool) → is_sound text names table ≡ sound → quoted_ascii (tree_of text names table) ≡ ascii
           → ((n ≡ 17) × (is_sound text names table ≡ false)) ⊎ ((n ≡ 18) × (is_sound text names table ≡ true) × (quoted_ascii (tree_of text names table) ≡ false))
       go true true e f =
-          let d : ◌≡◌ {A = Out ℕ} (refuse n) (done (display_length (tree_of text names table))) = h ∙ means true true e f in
+          let d : ◌≡◌ {A = Out ℕ} (refuse n) (done (display_length spelling (tree_of text names table))) = h ∙ means true true e f in
           let z : ◌≡◌ {A = ℕ} 0 1 = cc in absurd (omega arith)
       go true false e f =
           let d : ◌≡◌ {A = Out ℕ} (refuse n) (refuse 18) = h ∙ means true false e f in

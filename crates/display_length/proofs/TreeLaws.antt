@@ -34,16 +34,17 @@ size n = rows_at n.whole.now.tree.rows.now n.at
 
 -- what the loop holds: the bytes counted and the rest are the whole
 pub record Counting (s : Shape) (q : Bool) (level : ℕ) (n : Node) (total : ℕ) (left : Nodes) : Type 0 where
+  pub of : left.whole ≡ n.whole
   pub upto : left.end ≡ n.at + size n
   pub few : left.end ≤ 1024
   pub behind : n.at + 1 ≤ left.start
   pub flat : depth (rows_in left) < level
   pub most : total + 100000 ≤ 200000 * (left.start - n.at)
-  pub so : total + children_length s q (eqb left.start (n.at + 1)) (labels_in left) ≡ length_in n
+  pub so : total + children_length n.whole.now.spelling s q (eqb left.start (n.at + 1)) (labels_in left) ≡ length_in n
 
 module _ (s : Shape) (q : Bool) (level : ℕ) (n : Node) (total : ℕ) where
   pub counting-start : (kids : Nodes) → kids.whole ≡ n.whole → kids.start ≡ n.at + 1 → kids.end ≡ n.at + size n
-      → levels_below n < level → s ≡ shape_of (label_in n).kind → q ≡ quotes_names s (roots (labels_in kids)) → total ≡ row_length (label_in n) → total ≤ 100000 → Counting s q level n total kids
+      → levels_below n < level → s ≡ shape_of (label_in n).kind → q ≡ quotes_names s (roots (labels_in kids)) → total ≡ row_length n.whole.now.spelling (label_in n) → total ≤ 100000 → Counting s q level n total kids
   counting-start kids of st en flat sh quotes own l =
       let ls : labels_in kids ≡ children_in n = rw (of, st, en) refl in
       let ds : depth (rows_in kids) ≡ levels_below n = rw (of, st, en) refl in
@@ -51,6 +52,7 @@ module _ (s : Shape) (q : Bool) (level : ℕ) (n : Node) (total : ℕ) where
       let r = n.nests.room in
       let o = n.some_rows in
       record {
+        of = of;
         upto = en;
         few = omega arith;
         behind = omega arith;
@@ -63,7 +65,7 @@ module _ (s : Shape) (q : Bool) (level : ℕ) (n : Node) (total : ℕ) where
     -- all children are counted
     pub counting-end : left.start ≡ left.end → total ≡ length_in n
     unfolding children_length
-    counting-end e = let z : total + children_length s q (eqb left.start (n.at + 1)) ∅ ≡ length_in n = rw (none-left left e) at v.so in omega arith
+    counting-end e = let z : total + children_length n.whole.now.spelling s q (eqb left.start (n.at + 1)) ∅ ≡ length_in n = rw (none-left left e) at v.so in omega arith
 
     -- a child and what stands around its type are counted
     module _ (child : Node) (next : Nodes) (f : IsFirst left child next) (a : ℕ) (l : a ≤ 100000) (b : ℕ) (m : b + 100000 ≤ 200000 * size child) where
@@ -81,6 +83,7 @@ module _ (s : Shape) (q : Bool) (level : ℕ) (n : Node) (total : ℕ) where
           let r = f.start in
           let e = f.end in
           record {
+            of = f.of_left ∙ v.of;
             upto = omega arith;
             few = omega arith;
             behind = omega arith;
@@ -89,15 +92,15 @@ module _ (s : Shape) (q : Bool) (level : ℕ) (n : Node) (total : ℕ) where
             so = rw (ne_eqb next.start (n.at + 1) (λ z. omega arith)) (omega (arith, whole));
           }
         where
-          here : children_length s q (eqb left.start (n.at + 1)) (labels_in left) ≡ a + b + children_length s q false (labels_in next)
-          here = rw (first_labels left child next f, x, y, is, f.at)
+          here : children_length n.whole.now.spelling s q (eqb left.start (n.at + 1)) (labels_in left) ≡ a + b + children_length n.whole.now.spelling s q false (labels_in next)
+          here = rw (first_labels left child next f, x, y, is, f.at, f.of, v.of)
 
-          whole : total + (a + b + children_length s q false (labels_in next)) ≡ length_in n
+          whole : total + (a + b + children_length n.whole.now.spelling s q false (labels_in next)) ≡ length_in n
           whole = rw here at v.so
 
 -- a node with nothing below it
 module _ (n : Node) (one : size n ≡ 1) (r : ℕ) where
-  pub single_length : r ≡ row_length (label_in n) → r ≡ length_in n
+  pub single_length : r ≡ row_length n.whole.now.spelling (label_in n) → r ≡ length_in n
   unfolding length_at type_length children_length labels
   single_length e =
       let z : n.at + size n - (n.at + 1) ≡ 0 = omega arith in
@@ -153,8 +156,8 @@ module _ (n : Node) (first : n.at ≡ 0) where
         rw (of, first, root_is text names table w.sound, kids-are text names table w.sound)
         (sound-labels text names table (tree text names table w.sound))
 
-    pub tree-length : length_in n ≡ display_length (tree_of text names table)
+    pub tree-length : length_in n ≡ display_length w.spelling (tree_of text names table)
     unfolding length_at labels
     tree-length =
-        rw root-tree
-        (type_length_lem bare (label_in n) (children_in n) (rw (← root-tree, sound-labels text names table (tree text names table w.sound)) (tree text names table w.sound).fits))
+        rw (root-tree, ← of)
+        (type_length_lem n.whole.now.spelling bare (label_in n) (children_in n) (rw (← root-tree, sound-labels text names table (tree text names table w.sound)) (tree text names table w.sound).fits))

@@ -15,7 +15,9 @@ use Rattle.datatype.specs.Kind.{kinds}
 use Rattle.datatype.proofs.Tests.{all_below, below_at}
 use Rattle.output.specs.Digits.{digits}
 use Rattle.output.proofs.DigitLaws.{digits_few}
-use Rattle.display_length.specs.Display.{kind_word, kind_text, unit_text, interval_text, mode_text, sorted_text, scale_text}
+use Rattle.display_length.specs.declared.words.Spelling.{Spelling}
+use Rattle.display_length.specs.declared.words.Spelling.TheVariants.{Us, Micro}
+use Rattle.display_length.specs.Display.{kind_word, kind_text, microsecond_text, unit_text, interval_text, mode_text, sorted_text, scale_text}
 use Rattle.display_length.specs.Internal.Steps.{word_length, comma_length, nullity_length}
 
 -- ---- kinds
@@ -47,12 +49,17 @@ kind_text_is k h = rw (lt-ltb k kinds h)
 
 -- ---- units, modes, sorted
 
-pub unit_few : (k : ℕ) → length (unit_text k) ≤ 3
+microsecond_few : (spelling : Spelling) → length (microsecond_text spelling) ≤ 3
+unfolding microsecond_text
+microsecond_few Us = omega arith
+microsecond_few Micro = omega arith
+
+pub unit_few : (spelling : Spelling) (k : ℕ) → length (unit_text spelling k) ≤ 3
 unfolding unit_text
-unit_few zero = omega arith
-unit_few (suc zero) = omega arith
-unit_few (suc (suc zero)) = omega arith
-unit_few (suc (suc (suc k))) = omega arith
+unit_few spelling zero = omega arith
+unit_few spelling (suc zero) = omega arith
+unit_few spelling (suc (suc zero)) = microsecond_few spelling
+unit_few spelling (suc (suc (suc k))) = omega arith
 
 pub interval_few : (k : ℕ) → length (interval_text k) ≤ 12
 unfolding interval_text

@@ -6,6 +6,8 @@ use Rattle.tokenizer.specs.declared.TokenKind.TheVariants.{X}
 use Rattle.output.specs.Digits.{digits}
 use Rattle.datatype.specs.Kind.{kinds, Shape, leaf, timestamp, time, interval, fixed, list, fixed_list, struct, union, dictionary, decimal, mapping, run_end_encoded, shape_of}
 use Rattle.datatype.specs.Tree.{Forest, ∅, node, roots, Label}
+use Rattle.display_length.specs.declared.words.Spelling.{Spelling}
+use Rattle.display_length.specs.declared.words.Spelling.TheVariants.{Us, Micro}
 
 -- ---- words and numbers
 
@@ -17,11 +19,16 @@ kind_word k = (get_or words k ("" is X)).word
 unfoldable pub kind_text : ℕ → List ℕ
 kind_text k = if ltb k kinds then kind_word k else []
 
-unfoldable pub unit_text : ℕ → List ℕ
-unit_text zero = bytes "s"
-unit_text (suc zero) = bytes "ms"
-unit_text (suc (suc zero)) = bytes "µs"
-unit_text (suc (suc (suc n))) = bytes "ns"
+-- Microseconds, in the spelling chosen; that of the Rust is `Micro`.
+unfoldable pub microsecond_text : Spelling → List ℕ
+microsecond_text Us = bytes "us"
+microsecond_text Micro = bytes "µs"
+
+unfoldable pub unit_text : Spelling → ℕ → List ℕ
+unit_text spelling zero = bytes "s"
+unit_text spelling (suc zero) = bytes "ms"
+unit_text spelling (suc (suc zero)) = microsecond_text spelling
+unit_text spelling (suc (suc (suc n))) = bytes "ns"
 
 unfoldable pub interval_text : ℕ → List ℕ
 interval_text zero = bytes "YearMonth"
@@ -112,58 +119,60 @@ run_end_text r v =
     then nullity_text r.label ++ (r.text ++ (bytes ", " ++ (nullity_text v.label ++ v.text)))
     else (field_text r ++ (bytes ", " ++ field_text v))
 
--- ---- types
+-- ---- types, in a spelling of microseconds
 
--- What stands behind the kind's word, by its shape.
-unfoldable pub shape_text : Shape → Label → List Shown → List ℕ
-shape_text leaf l ks = []
-shape_text timestamp l ks = bytes "(" ++ (unit_text l.number ++ (zone_text l.zone ++ bytes ")"))
-shape_text time l ks = bytes "(" ++ (unit_text l.number ++ bytes ")")
-shape_text interval l ks = bytes "(" ++ (interval_text l.number ++ bytes ")")
-shape_text fixed l ks = bytes "(" ++ (digits l.number ++ bytes ")")
-shape_text list l [] = []
-shape_text list l (k ∷ ks) = bytes "(" ++ (list_field_text k ++ bytes ")")
-shape_text fixed_list l [] = []
-shape_text fixed_list l (k ∷ ks) = bytes "(" ++ (digits l.number ++ (bytes " x " ++ (list_field_text k ++ bytes ")")))
-shape_text struct l ks = bytes "(" ++ (struct_text ks ++ bytes ")")
-shape_text union l ks = bytes "(" ++ (mode_text l.number ++ (union_text ks ++ bytes ")"))
-shape_text dictionary l [] = []
-shape_text dictionary l (k ∷ []) = []
-shape_text dictionary l (k ∷ v ∷ ks) = bytes "(" ++ (k.text ++ (bytes ", " ++ (v.text ++ bytes ")")))
-shape_text decimal l ks = bytes "(" ++ (digits l.number ++ (bytes ", " ++ (scale_text l.scale ++ bytes ")")))
-shape_text mapping l [] = []
-shape_text mapping l (k ∷ ks) = bytes "(" ++ (field_text k ++ (bytes ", " ++ (sorted_text l.number ++ bytes ")")))
-shape_text run_end_encoded l [] = []
-shape_text run_end_encoded l (r ∷ []) = []
-shape_text run_end_encoded l (r ∷ v ∷ ks) = bytes "(" ++ (run_end_text r v ++ bytes ")")
-
-unfoldable pub type_text : Label → List Shown → List ℕ
-type_text l ks = kind_word l.kind ++ shape_text (shape_of l.kind) l ks
-
--- The trees of a run, each with its printed type.
-unfoldable pub shown : Forest Label → List Shown
-shown ∅ = []
-shown (node l kids next) = record { label = l; text = type_text l (shown kids) } ∷ shown next
-
--- The printed text of a tree: that of the first tree of a run.
+-- The printed type of the first tree of a run.
 abbrev pub first_text : List Shown → List ℕ
 first_text [] = []
 first_text (k ∷ ks) = k.text
-
-unfoldable pub display : Forest Label → List ℕ
-display f = first_text (shown f)
-
--- ---- lengths
 
 -- A row with no type printed: what stays of its field's text are the parent's own bytes.
 abbrev pub untyped : Label → Shown
 untyped l = record { label = l; text = [] }
 
--- A row's own bytes: its text without its children's types.
-unfoldable pub own_length : Label → List Label → ℕ
-own_length l kids = length (type_text l (map untyped kids))
+module _ (spelling : Spelling) where
+  -- What stands behind the kind's word, by its shape.
+  unfoldable pub shape_text : Shape → Label → List Shown → List ℕ
+  shape_text leaf l ks = []
+  shape_text timestamp l ks = bytes "(" ++ (unit_text spelling l.number ++ (zone_text l.zone ++ bytes ")"))
+  shape_text time l ks = bytes "(" ++ (unit_text spelling l.number ++ bytes ")")
+  shape_text interval l ks = bytes "(" ++ (interval_text l.number ++ bytes ")")
+  shape_text fixed l ks = bytes "(" ++ (digits l.number ++ bytes ")")
+  shape_text list l [] = []
+  shape_text list l (k ∷ ks) = bytes "(" ++ (list_field_text k ++ bytes ")")
+  shape_text fixed_list l [] = []
+  shape_text fixed_list l (k ∷ ks) = bytes "(" ++ (digits l.number ++ (bytes " x " ++ (list_field_text k ++ bytes ")")))
+  shape_text struct l ks = bytes "(" ++ (struct_text ks ++ bytes ")")
+  shape_text union l ks = bytes "(" ++ (mode_text l.number ++ (union_text ks ++ bytes ")"))
+  shape_text dictionary l [] = []
+  shape_text dictionary l (k ∷ []) = []
+  shape_text dictionary l (k ∷ v ∷ ks) = bytes "(" ++ (k.text ++ (bytes ", " ++ (v.text ++ bytes ")")))
+  shape_text decimal l ks = bytes "(" ++ (digits l.number ++ (bytes ", " ++ (scale_text l.scale ++ bytes ")")))
+  shape_text mapping l [] = []
+  shape_text mapping l (k ∷ ks) = bytes "(" ++ (field_text k ++ (bytes ", " ++ (sorted_text l.number ++ bytes ")")))
+  shape_text run_end_encoded l [] = []
+  shape_text run_end_encoded l (r ∷ []) = []
+  shape_text run_end_encoded l (r ∷ v ∷ ks) = bytes "(" ++ (run_end_text r v ++ bytes ")")
 
--- The printed length of a row is its own bytes plus its children's.
-unfoldable pub display_length : Forest Label → ℕ
-display_length ∅ = 0
-display_length (node l kids next) = own_length l (roots kids) + display_length kids + display_length next
+  unfoldable pub type_text : Label → List Shown → List ℕ
+  type_text l ks = kind_word l.kind ++ shape_text (shape_of l.kind) l ks
+
+  -- The trees of a run, each with its printed type.
+  unfoldable pub shown : Forest Label → List Shown
+  shown ∅ = []
+  shown (node l kids next) = record { label = l; text = type_text l (shown kids) } ∷ shown next
+
+  -- The printed text of a tree.
+  unfoldable pub display : Forest Label → List ℕ
+  display f = first_text (shown f)
+
+  -- ---- lengths
+
+  -- A row's own bytes: its text without its children's types.
+  unfoldable pub own_length : Label → List Label → ℕ
+  own_length l kids = length (type_text l (map untyped kids))
+
+  -- The printed length of a row is its own bytes plus its children's.
+  unfoldable pub display_length : Forest Label → ℕ
+  display_length ∅ = 0
+  display_length (node l kids next) = own_length l (roots kids) + display_length kids + display_length next

@@ -8,6 +8,7 @@ use Rattle.datatype.specs.Tree.{Forest, ∅, node, roots, Label}
 use Rattle.datatype.specs.Table.{tree_of}
 use Rattle.row_table.specs.Sound.{is_sound}
 use Rattle.display_length.specs.Display.{default_names, display_length}
+use Rattle.display_length.specs.declared.words.Spelling.{Spelling}
 
 -- Whether a shape prints its children's names in double quotes.
 unfoldable pub quotes_names : Shape → List Label → Bool
@@ -41,9 +42,9 @@ quoted_ascii ∅ = true
 quoted_ascii (node l kids next) =
     is_ascii l.zone && (not (quotes_names (shape_of l.kind) (roots kids)) || names_ascii (roots kids)) && quoted_ascii kids && quoted_ascii next
 
--- How many bytes a tree prints, or the refusal.
-unfoldable pub printed_length : List ℕ → List ℕ → List ℕ → Out ℕ
-printed_length text names table =
+-- How many bytes a tree prints in a spelling, or the refusal.
+unfoldable pub printed_length : Spelling → List ℕ → List ℕ → List ℕ → Out ℕ
+printed_length spelling text names table =
     let tree = tree_of text names table in
-    let ascii = if quoted_ascii tree then done (display_length tree) else refuse 18 in
+    let ascii = if quoted_ascii tree then done (display_length spelling tree) else refuse 18 in
     if is_sound text names table then ascii else refuse 17

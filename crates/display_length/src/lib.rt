@@ -23,18 +23,19 @@ mod words;
 
 pub use names::are_default_names;
 pub use nodes::{Node, Nodes, SoundTree};
-pub use words::{interval_word, kind_word, mode_word, sorted_word, unit_word};
+pub use words::{Spelling, interval_word, kind_word, mode_word, sorted_word, unit_word};
 
-// How many bytes a tree prints.
+// How many bytes a tree prints in a spelling.
 #[tactic(auto, using(crate::proofs::Rules::printed_steps))]
-pub fn printed_length(tree: Tree<'_>) -> Result<usize, Refusal>
-    ensures { answer_of result ≡ printed_length tree.entry.text.now tree.entry.names.now tree.entry.rows.now }
+pub fn printed_length(spelling: Spelling, tree: Tree<'_>) -> Result<usize, Refusal>
+    ensures { answer_of result ≡ printed_length spelling tree.entry.text.now tree.entry.names.now tree.entry.rows.now }
 {
     if !is_sound(tree) {
         return Err(Refusal::NotSound);
     }
     let whole = SoundTree {
         tree,
+        spelling,
         clean: is_clean(tree.text),
     };
     if !whole.is_ascii() {

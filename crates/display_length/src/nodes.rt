@@ -7,12 +7,15 @@ ghost use Rattle.row_table.specs.Sound.{is_sound};
 ghost use Rattle.display_length.specs.Internal.Steps.{is_clean};
 
 use crate::strings::Part;
+use crate::words::Spelling;
 use datatype::{Row, Tree};
 
-// A sound tree, and whether its text is known to be clean. No `Option` of the text: its bytes count either way.
+// A sound tree, the spelling in which it is printed, and whether its text is known to be clean. No `Option` of the text: its
+// bytes count either way.
 #[derive(Clone, Copy)]
 pub struct SoundTree<'a> {
     pub tree: Tree<'a>,
+    pub spelling: Spelling,
     pub clean: bool,
     ghost sound: { T (is_sound tree.text.now tree.names.now tree.rows.now) },
     ghost clean_text: { clean ≡ true → T (all is_clean tree.text.now) },

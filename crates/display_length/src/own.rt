@@ -13,16 +13,18 @@ impl Node<'_> {
     // What stands behind a kind's word: the marks that every type of the kind has, and what its numbers and its zone say.
     #[tactic(auto, using(crate::proofs::Rules::behind_steps), unfolding(crate::specs::Internal::Steps::behind_length))]
     fn behind_length(&self, kind: u32) -> usize
-        ensures value { result ≡ behind_length (shape_of kind) (label_in self.now) }
+        ensures value { result ≡ behind_length self.now.whole.now.spelling (shape_of kind) (label_in self.now) }
         ensures few { result ≤ 98400 }
     {
         let row = self.row();
         let number = row.number();
+        let spelling = self.whole.spelling;
         match kind {
             kind::TIMESTAMP => b"()".len()
-                + unit_word(number).len()
+                + unit_word(spelling, number).len()
                 + self.zone_part().zone_length(),
-            kind::TIME32 | kind::TIME64 | kind::DURATION => b"()".len() + unit_word(number).len(),
+            kind::TIME32 | kind::TIME64 | kind::DURATION => b"()".len()
+                + unit_word(spelling, number).len(),
             kind::INTERVAL => b"()".len() + interval_word(number).len(),
             kind::FIXED_SIZE_BINARY => b"()".len() + digits_length(number),
             kind::FIXED_SIZE_LIST => b"( x )".len() + digits_length(number),
@@ -45,7 +47,7 @@ impl Node<'_> {
     // The word of the row's kind and what stands behind it.
     #[tactic(auto, using(crate::proofs::WordLaws::word_few), unfolding(crate::specs::Internal::Steps::row_length))]
     pub(crate) fn own_length(&self) -> usize
-        ensures value { result ≡ row_length (label_in self.now) }
+        ensures value { result ≡ row_length self.now.whole.now.spelling (label_in self.now) }
         ensures few { result ≤ 100000 }
     {
         let kind = self.kind();

@@ -1,7 +1,7 @@
 // The words that numbers stand for, of kinds, units and modes, and how long a scale is. They are numbers, since C lends
 // the rows that they stand in.
 ghost use Rattle.std.specs.Prelude.{◌≡◌, length};
-ghost use Rattle.display_length.specs.Display.{kind_text, unit_text, interval_text, mode_text, sorted_text, scale_text};
+ghost use Rattle.display_length.specs.Display.{kind_text, microsecond_text, unit_text, interval_text, mode_text, sorted_text, scale_text};
 ghost use Rattle.display_length.specs.Internal.Steps.{word_length};
 
 use datatype::kind;
@@ -66,15 +66,33 @@ pub(crate) fn word_length(kind: u32) -> usize
     kind_word(kind).len()
 }
 
-// A time unit's word; a number above 2 is ns.
+// How microseconds are spelled: `us`, or with the micro sign `µs`, as the Rust has it.
+#[derive(Clone, Copy)]
+pub enum Spelling {
+    Us,
+    Micro,
+}
+
+// Microseconds.
+#[tactic(auto, unfolding(crate::specs::Display::microsecond_text))]
+fn microsecond_word(spelling: Spelling) -> &'static [u8]
+    ensures { result.now ≡ microsecond_text spelling }
+{
+    match spelling {
+        Spelling::Us => b"us",
+        Spelling::Micro => b"\xC2\xB5s",
+    }
+}
+
+// A time unit's word in a spelling; a number above 2 is ns.
 #[tactic(auto, unfolding(crate::specs::Display::unit_text))]
-pub fn unit_word(unit: u32) -> &'static [u8]
-    ensures { result.now ≡ unit_text unit }
+pub fn unit_word(spelling: Spelling, unit: u32) -> &'static [u8]
+    ensures { result.now ≡ unit_text spelling unit }
 {
     match unit {
         0 => b"s",
         1 => b"ms",
-        2 => b"\xC2\xB5s",
+        2 => microsecond_word(spelling),
         _ => b"ns",
     }
 }

@@ -1,10 +1,11 @@
--- The stored sample of the printer: how many cases, then the cases. A case is the bytes lent, the text, the name list, the
+-- A stored sample of the printer, in a spelling: how many cases, then the cases. A case is the bytes lent, the text, the name list, the
 -- status, the printed bytes, the number of the rows' words, and the words. The bytes lent hold `unprinted` before; those
 -- behind the printed ones are to hold it still. A refusal prints none.
 use Rattle.std.specs.Prelude.{Bool, ◌&&◌, List, ℕ, min, drop, replicate, eqb}
 use Rattle.tokenizer.specs.Text.{same, all}
 use Rattle.tokenizer.specs.Answer.{Out}
 use Rattle.datatype.specs.Tree.{part}
+use Rattle.display_length.specs.declared.words.Spelling.{Spelling}
 use Rattle.datatype_display.specs.Print.{print_answer, print_bytes}
 use Rattle.arrow_types.specs.Status.{status_of, value_of}
 use Rattle.replay.specs.Sample.{number_at, numbers_at, after_numbers, after_part, counted, replayed}
@@ -38,24 +39,24 @@ is_answer answer status value = eqb (status_of answer) status && eqb (value_of a
 unfoldable pub leaves_bytes : List ℕ → ℕ → List ℕ → Bool
 leaves_bytes out size printed = same (part out 0 size) printed && all (eqb unprinted) (drop size out)
 
--- The printer gives a tree the status and the printed bytes of a case, and leaves the rest of so many bytes lent.
-unfoldable pub gives_print : List ℕ → List ℕ → List ℕ → ℕ → PrintCase → List ℕ → Bool
-gives_print text names words lent case printed =
+-- The printer gives a tree the status and the printed bytes of a case, in a spelling, and leaves the rest of so many bytes lent.
+unfoldable pub gives_print : Spelling → List ℕ → List ℕ → List ℕ → ℕ → PrintCase → List ℕ → Bool
+gives_print spelling text names words lent case printed =
     let before = replicate lent unprinted in
-    is_answer (print_answer text names words before) case.status case.printed.value
-    && leaves_bytes (print_bytes text names words before) case.printed.value printed
+    is_answer (print_answer spelling text names words before) case.status case.printed.value
+    && leaves_bytes (print_bytes spelling text names words before) case.printed.value printed
 
 -- The tally with one case more, of so many words, which is lent so many bytes.
-unfoldable pub one_print : List ℕ → Tally → PrintCase → ℕ → ℕ → Tally
-one_print sample t case count lent =
-    counted t (gives_print (bytes_of sample case.text) (bytes_of sample case.names) (numbers_at sample count case.next) lent case (bytes_of sample case.printed)) (after_numbers sample count case.next)
+unfoldable pub one_print : Spelling → List ℕ → Tally → PrintCase → ℕ → ℕ → Tally
+one_print spelling sample t case count lent =
+    counted t (gives_print spelling (bytes_of sample case.text) (bytes_of sample case.names) (numbers_at sample count case.next) lent case (bytes_of sample case.printed)) (after_numbers sample count case.next)
 
 -- The tally with the case that stands behind it, with no more than so many words, and lent no more than so many bytes.
-unfoldable pub print_one : List ℕ → ℕ → ℕ → Tally → Tally
-print_one sample words most t =
+unfoldable pub print_one : Spelling → List ℕ → ℕ → ℕ → Tally → Tally
+print_one spelling sample words most t =
     let case = print_case_at sample t.next in
-    one_print sample t case (min case.count words) (min case.lent most)
+    one_print spelling sample t case (min case.count words) (min case.lent most)
 
 -- The tally of a whole sample.
-unfoldable pub print_all : List ℕ → ℕ → ℕ → Tally
-print_all sample words most = replayed (print_one sample words most) sample
+unfoldable pub print_all : Spelling → List ℕ → ℕ → ℕ → Tally
+print_all spelling sample words most = replayed (print_one spelling sample words most) sample

@@ -5,7 +5,7 @@
 
 ghost use Rattle.std.specs.Prelude.{◌≡◌, ◌≤◌, length, take};
 
-use prints::Prints;
+use prints::{AsMicro, AsUs, Prints};
 use samples::{Sample, replay};
 use std::fs::File;
 use std::io::Cursor;
@@ -159,5 +159,8 @@ fn main(rt: HostRuntime) -> io::Result<()> {
     let m = load(&rt, "tables", &mut sample);
     replay_and_print(&rt, " tables, ", &mut Tables::new(), &sample[..m])?;
     let k = load(&rt, "prints", &mut sample);
-    replay_and_print(&rt, " prints, ", &mut Prints::new(), &sample[..k])
+    replay_and_print(&rt, " prints, ", &mut Prints::new(AsMicro), &sample[..k])?;
+    let j = load(&rt, "prints_us", &mut sample);
+    let plain = " prints with plain us, ";
+    replay_and_print(&rt, plain, &mut Prints::new(AsUs), &sample[..j])
 }

@@ -1,4 +1,4 @@
-// Replaying the sample of the printer.
+// Replaying the samples of the printer.
 ghost use Rattle.std.specs.Prelude.{◌≡◌, length, eqb};
 ghost use Rattle.tokenizer.specs.Text.{all};
 ghost use Rattle.tokenizer.specs.Answer.{answer_of};
@@ -10,6 +10,7 @@ use crate::samples::Sample;
 use crate::stored::{after_part, bytes_of, number_at, part_at, rest_at, words_at};
 use crate::{MOST_BYTES, MOST_WORDS, PrintCase, Tally, UNTOUCHED};
 use datatype::Tree;
+use display_length::Spelling;
 use tokenizer::Refusal;
 
 // What stands before the rows' words of a case.
@@ -61,20 +62,28 @@ fn leaves(out: &[u8], size: u32, printed: &[u8]) -> bool
         && all_are(rest_at(out, size as usize), UNTOUCHED as u8)
 }
 
-// Whether the printer gives a tree the status and the printed bytes of a case, and leaves the rest of the buffer.
+// Whether the printer gives a tree the status and the printed bytes of a case, in a spelling, and leaves the rest of the
+// buffer.
 #[tactic(auto, unfolding(crate::specs::PrintCase::gives_print))]
-fn gives(tree: Tree, case: PrintCase, printed: &[u8], out: &mut [u8]) -> bool
-    ensures { result ≡ gives_print tree.entry.text.now tree.entry.names.now tree.entry.rows.now (length out.old) case printed.now }
+fn gives(spelling: Spelling, tree: Tree, case: PrintCase, printed: &[u8], out: &mut [u8]) -> bool
+    ensures { result ≡ gives_print spelling tree.entry.text.now tree.entry.names.now tree.entry.rows.now (length out.old) case printed.now }
 {
     out.fill(UNTOUCHED as u8);
-    let answer = datatype_display::print_data_type(tree, out);
+    let answer = datatype_display::print_data_type_with(spelling, tree, out);
     is_answer(answer, case.status, case.printed.value) && leaves(out, case.printed.value, printed)
 }
 
 // The tally with one case more.
 #[tactic(auto, unfolding(crate::specs::PrintCase::one_print))]
-fn one_case(sample: &[u8], t: Tally, case: PrintCase, words: &mut [u32], out: &mut [u8]) -> Tally
-    ensures { result ≡ one_print sample.now t case (length words.old) (length out.old) }
+fn one_case(
+    spelling: Spelling,
+    sample: &[u8],
+    t: Tally,
+    case: PrintCase,
+    words: &mut [u32],
+    out: &mut [u8],
+) -> Tally
+    ensures { result ≡ one_print spelling sample.now t case (length words.old) (length out.old) }
 {
     let next = words_at(sample, case.next, words);
     let tree = Tree {
@@ -83,41 +92,95 @@ fn one_case(sample: &[u8], t: Tally, case: PrintCase, words: &mut [u32], out: &m
         rows: words,
     };
     let printed = bytes_of(sample, case.printed);
-    let alike = gives(tree, case, printed, out);
+    let alike = gives(spelling, tree, case, printed, out);
     counted(t, alike, next)
 }
 
 // The tally with the case that stands behind it.
 #[tactic(auto, unfolding(crate::specs::PrintCase::print_one))]
-fn print_one(sample: &[u8], t: Tally, words: &mut [u32], out: &mut [u8]) -> Tally
-    ensures { result ≡ print_one sample.now (length words.old) (length out.old) t }
+fn print_one(
+    spelling: Spelling,
+    sample: &[u8],
+    t: Tally,
+    words: &mut [u32],
+    out: &mut [u8],
+) -> Tally
+    ensures { result ≡ print_one spelling sample.now (length words.old) (length out.old) t }
 {
     let case = case_at(sample, t.next);
     let count = (case.count as usize).min(words.len());
     let lent = (case.lent as usize).min(out.len());
-    one_case(sample, t, case, &mut words[..count], &mut out[..lent])
+    one_case(
+        spelling,
+        sample,
+        t,
+        case,
+        &mut words[..count],
+        &mut out[..lent],
+    )
 }
 
-// The prints, with the words of a tree and the bytes that the printer is lent.
+// The spelling of a sample.
+pub(crate) trait Spelled: Drop {
+    ghost use Rattle.display_length.specs.declared.words.Spelling.{Spelling};
+
+    ghost spelled: { Spelling };
+
+    fn spelling(&self) -> Spelling
+        ensures { result ≡ spelled };
+}
+
+// That of the Rust.
 #[derive(Drop)]
-pub(crate) struct Prints {
+pub(crate) struct AsMicro;
+
+impl Spelled for AsMicro {
+    ghost use Rattle.display_length.specs.declared.words.Spelling.TheVariants.{Micro};
+
+    ghost spelled = { Micro };
+
+    fn spelling(&self) -> Spelling {
+        Spelling::Micro
+    }
+}
+
+// The default.
+#[derive(Drop)]
+pub(crate) struct AsUs;
+
+impl Spelled for AsUs {
+    ghost use Rattle.display_length.specs.declared.words.Spelling.TheVariants.{Us};
+
+    ghost spelled = { Us };
+
+    fn spelling(&self) -> Spelling {
+        Spelling::Us
+    }
+}
+
+// The prints in a spelling, with the words of a tree and the bytes that the printer is lent.
+#[derive(Drop)]
+pub(crate) struct Prints<S> {
+    spelled: S,
     words: [u32; MOST_WORDS],
     out: [u8; MOST_BYTES],
 }
 
-impl Prints {
-    pub(crate) fn new() -> Prints {
+impl<S> Prints<S> {
+    pub(crate) fn new(spelled: S) -> Prints<S> {
         Prints {
+            spelled,
             words: [0; MOST_WORDS],
             out: [0; MOST_BYTES],
         }
     }
 }
 
-impl Sample for Prints {
-    ghost one_of = { λ sample. print_one sample most_words most_bytes };
+impl<S: Spelled> Sample for Prints<S> {
+    ghost one_of = { λ sample. print_one S.spelled sample most_words most_bytes };
 
     fn one(&mut self, sample: &[u8], t: Tally) -> Tally {
-        print_one(sample, t, &mut self.words, &mut self.out)
+        let spelling = self.spelled.spelling();
+        print_one(spelling, sample, t, &mut self.words, &mut self.out)
     }
 }

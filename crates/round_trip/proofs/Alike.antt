@@ -29,6 +29,7 @@ use Rattle.parser.proofs.FirstType.{first-type}
 use Rattle.datatype_parse.specs.Parse.{text_over, parse}
 use Rattle.output.specs.Digits.{digits_with, digits}
 use Rattle.display_length.specs.Display.{Shown, kind_word, scale_text, list_field_text, shape_text, type_text, shown, display}
+use Rattle.display_length.specs.declared.words.Spelling.{Spelling}
 use Rattle.round_trip.proofs.Tokens.{kind_word_lem}
 use Rattle.round_trip.proofs.Pieces.{look-here, Found, found_word, need-found}
 use Rattle.round_trip.proofs.Leaves.{DecimalRead, decimal-any}
@@ -57,9 +58,9 @@ unfolding shape_at
 decimals_read text type k at rows e = rw e
 
 -- what it prints
-pub decimal_text_lem : (w : ℕ) (l : Label) → w < 4 → l.kind ≡ decimal32_kind + w → display (node l ∅ ∅) ≡ decimal_text w l.number l.scale
+pub decimal_text_lem : (spelling : Spelling) (w : ℕ) (l : Label) → w < 4 → l.kind ≡ decimal32_kind + w → display spelling (node l ∅ ∅) ≡ decimal_text w l.number l.scale
 unfolding display shown type_text shape_text
-decimal_text_lem w l h e = rw (e, decimal_shape_lem w h)
+decimal_text_lem spelling w l h e = rw (e, decimal_shape_lem w h)
 
 -- such a text is short, and UTF-8
 record Short (s : List ℕ) : Type 0 where
@@ -150,9 +151,9 @@ module _ (w p s : ℕ) (h : w < 4) (i : p < 256) (j : s < 256) where
 -- ---- the four plain lists, over the kind
 
 -- what it prints
-pub list_text : (l : Label) (c : Shown) → shape_of l.kind ≡ list → type_text l (c ∷ []) ≡ kind_word l.kind ++ (bytes "(" ++ (list_field_text c ++ bytes ")"))
+pub list_text : (spelling : Spelling) (l : Label) (c : Shown) → shape_of l.kind ≡ list → type_text spelling l (c ∷ []) ≡ kind_word l.kind ++ (bytes "(" ++ (list_field_text c ++ bytes ")"))
 unfolding type_text shape_text
-list_text l c e = rw e
+list_text spelling l c e = rw e
 
 -- the answer with another kind in its row, whose other words are all unused
 abbrev pub as_kind : ℕ → Out Tree → Out Tree

@@ -16,6 +16,7 @@ use Rattle.datatype.specs.Tree.{Forest, count, Label, name_list, name_of, part}
 use Rattle.row_table.specs.Sound.{is_name}
 use Rattle.parser.specs.Parse.{Name, Tree, item, text_name, field_row, role_at, after_role, list_name_at, field_at, default_field, list_field}
 use Rattle.display_length.specs.Display.{Shown, quoted, nullity_text, field_text, list_name_text, list_field_text, type_text, shown}
+use Rattle.display_length.specs.declared.words.Spelling.{Spelling}
 use Rattle.round_trip.specs.Plain.{is_plain}
 use Rattle.round_trip.proofs.Tokens.{Stop, is_listed_word, is_word_of, word_is}
 use Rattle.round_trip.proofs.PlainRows.{FieldRow, bare_label}
@@ -23,8 +24,8 @@ use Rattle.round_trip.proofs.Pieces.{Look, look-space, need-comma, need-colon, r
 use Rattle.round_trip.proofs.Types.{TreeRead, ReadsTree, RoleRead, role-read, as_field}
 
 -- a tree with its printed type
-abbrev pub shown_tree : Label → Forest Label → Shown
-shown_tree l kids = record { label = l; text = type_text l (shown kids) }
+abbrev pub shown_tree : Spelling → Label → Forest Label → Shown
+shown_tree spelling l kids = record { label = l; text = type_text spelling l (shown spelling kids) }
 
 module _ (text : List ℕ) (type : ℕ → ℕ → Out Tree) where
   -- ---- "name": [non-null ]type
@@ -33,9 +34,17 @@ module _ (text : List ℕ) (type : ℕ → ℕ → Out Tree) where
     pub first : sort_of (token_at text at).kind ≡ double_quoted
     pub tree : TreeRead text (field_at text type id at rows) l kids rest
 
+  -- the role is what the label says, and the field is read
+  pub record DefaultRead (n : Name) (l : Label) (kids : Forest Label) (at rows : ℕ) (rest : List ℕ) : Type 0 where
+    pub role : role_at text at ≡ l.role
+    pub tree : TreeRead text (default_field text type n at rows) l kids rest
+
+module _ (spelling : Spelling) (text : List ℕ) (type : ℕ → ℕ → Out Tree) where
+  -- ---- "name": [non-null ]type
+
   field_step : (id : ℕ) (l : Label) (kids : Forest Label) (at rows : ℕ) (t rest : List ℕ) → id ≡ l.union_id → (q : Quoted text double_quoted at l.name (58 ∷ t))
-      → RoleRead text l kids (q.token.next + 1) rest → TreeRead text (type (after_role text (q.token.next + 1)) rows) (bare_label l) kids rest
-      → FieldRead id l kids at rows rest
+      → RoleRead spelling text l kids (q.token.next + 1) rest → TreeRead text (type (after_role text (q.token.next + 1)) rows) (bare_label l) kids rest
+      → FieldRead text type id l kids at rows rest
   unfolding field_at name_of
   field_step id l kids at rows t rest i q r g =
       record {
@@ -49,31 +58,31 @@ module _ (text : List ℕ) (type : ℕ → ℕ → Out Tree) where
         };
       }
 
-  pub field-read : (id : ℕ) (l : Label) (kids : Forest Label) (at p rows : ℕ) (rest : List ℕ) → ReadsTree text type l kids → FieldRow l → id ≡ l.union_id → Stop rest
-      → suc (count kids) ≤ rows → Look text at p (field_text (shown_tree l kids) ++ rest) → FieldRead id l kids at rows rest
+  pub field-read : (id : ℕ) (l : Label) (kids : Forest Label) (at p rows : ℕ) (rest : List ℕ) → ReadsTree spelling text type l kids → FieldRow l → id ≡ l.union_id → Stop rest
+      → suc (count kids) ≤ rows → Look text at p (field_text (shown_tree spelling l kids) ++ rest) → FieldRead text type id l kids at rows rest
   unfolding field_text
   field-read id l kids at p rows rest rd f i st enough k = named (double-read text at p l.name (58 ∷ 32 ∷ tail) f.name f.plain (rw e at k))
     where
       tail : List ℕ
-      tail = nullity_text l ++ (type_text l (shown kids) ++ rest)
+      tail = nullity_text l ++ (type_text spelling l (shown spelling kids) ++ rest)
 
-      e : field_text (shown_tree l kids) ++ rest ≡ quoted l.name ++ (58 ∷ 32 ∷ tail)
+      e : field_text (shown_tree spelling l kids) ++ rest ≡ quoted l.name ++ (58 ∷ 32 ∷ tail)
       e =
           append_assoc (quoted l.name) _ rest
-          ∙ ap (λ (r : List ℕ). quoted l.name ++ (58 ∷ 32 ∷ r)) (append_assoc (nullity_text l) (type_text l (shown kids)) rest)
+          ∙ ap (λ (r : List ℕ). quoted l.name ++ (58 ∷ 32 ∷ r)) (append_assoc (nullity_text l) (type_text spelling l (shown spelling kids)) rest)
 
-      typed : (q : Quoted text double_quoted at l.name (58 ∷ 32 ∷ tail)) → RoleRead text l kids (q.token.next + 1) rest → FieldRead id l kids at rows rest
+      typed : (q : Quoted text double_quoted at l.name (58 ∷ 32 ∷ tail)) → RoleRead spelling text l kids (q.token.next + 1) rest → FieldRead text type id l kids at rows rest
       typed q r = field_step id l kids at rows (32 ∷ tail) rest i q r (rd (after_role text (q.token.next + 1)) rows rest r.type enough)
 
-      named : Quoted text double_quoted at l.name (58 ∷ 32 ∷ tail) → FieldRead id l kids at rows rest
+      named : Quoted text double_quoted at l.name (58 ∷ 32 ∷ tail) → FieldRead text type id l kids at rows rest
       named q =
-          typed q (role-read text l kids (q.token.next + 1) (q.token.next + 1 + 1) rest f.kind st f.role
+          typed q (role-read spelling text l kids (q.token.next + 1) (q.token.next + 1 + 1) rest f.kind st f.role
           (look-space text (q.token.next + 1) tail (skip 1 q.token.next text (58 ∷ 32 ∷ tail) q.after)))
 
   -- ---- [non-null ]type, as a field of a default name
 
   default-step : (n : Name) (l : Label) (kids : Forest Label) (at rows : ℕ) (rest : List ℕ) → 0 ≡ l.union_id
-      → name_of text name_list n.home n.start n.size ≡ l.name → RoleRead text l kids at rest
+      → name_of text name_list n.home n.start n.size ≡ l.name → RoleRead spelling text l kids at rest
       → TreeRead text (type (after_role text at) rows) (bare_label l) kids rest → TreeRead text (default_field text type n at rows) l kids rest
   unfolding default_field
   default-step n l kids at rows rest i b r t =
@@ -85,17 +94,12 @@ module _ (text : List ℕ) (type : ℕ → ℕ → Out Tree) where
         below = t.below;
       }
 
-  -- the role is what the label says, and the field is read
-  pub record DefaultRead (n : Name) (l : Label) (kids : Forest Label) (at rows : ℕ) (rest : List ℕ) : Type 0 where
-    pub role : role_at text at ≡ l.role
-    pub tree : TreeRead text (default_field text type n at rows) l kids rest
-
-  pub default-read : (n : Name) (l : Label) (kids : Forest Label) (at p rows : ℕ) (rest : List ℕ) → ReadsTree text type l kids → FieldRow l → l.union_id ≡ 0 → Stop rest
+  pub default-read : (n : Name) (l : Label) (kids : Forest Label) (at p rows : ℕ) (rest : List ℕ) → ReadsTree spelling text type l kids → FieldRow l → l.union_id ≡ 0 → Stop rest
       → name_of text name_list n.home n.start n.size ≡ l.name → suc (count kids) ≤ rows
-      → Look text at p (nullity_text l ++ (type_text l (shown kids) ++ rest)) → DefaultRead n l kids at rows rest
-  default-read n l kids at p rows rest rd f i st b enough k = typed (role-read text l kids at p rest f.kind st f.role k)
+      → Look text at p (nullity_text l ++ (type_text spelling l (shown spelling kids) ++ rest)) → DefaultRead text type n l kids at rows rest
+  default-read n l kids at p rows rest rd f i st b enough k = typed (role-read spelling text l kids at p rest f.kind st f.role k)
     where
-      typed : RoleRead text l kids at rest → DefaultRead n l kids at rows rest
+      typed : RoleRead spelling text l kids at rest → DefaultRead text type n l kids at rows rest
       typed r = record { role = r.role; tree = default-step n l kids at rows rest (sym i) b r (rd (after_role text at) rows rest r.type enough) }
 
   -- ---- a list's field: [non-null ]type[, field: 'name']
@@ -135,7 +139,7 @@ module _ (text : List ℕ) (type : ℕ → ℕ → Out Tree) where
 
   module _ (l : Label) (kids : Forest Label) (at rows : ℕ) (i : l.union_id ≡ 0) where
     -- the name is left out: it is `item`
-    name_out : (s : List ℕ) → T (same l.name (bytes "item")) → RoleRead text l kids at (41 ∷ s)
+    name_out : (s : List ℕ) → T (same l.name (bytes "item")) → RoleRead spelling text l kids at (41 ∷ s)
         → TreeRead text (type (after_role text at) rows) (bare_label l) kids (41 ∷ s) → TreeRead text (list_field text type at rows) l kids (41 ∷ s)
     unfolding list_field name_of
     name_out s h r t = whole (default-step item l kids at rows (41 ∷ s) (sym i) (sym (same_path l.name (bytes "item") h)) r t)
@@ -150,7 +154,7 @@ module _ (text : List ℕ) (type : ℕ → ℕ → Out Tree) where
               below = g.below;
             }
 
-    name-given : (t rest : List ℕ) → RoleRead text l kids at (44 ∷ t) → (g : TreeRead text (type (after_role text at) rows) (bare_label l) kids (44 ∷ t))
+    name-given : (t rest : List ℕ) → RoleRead spelling text l kids at (44 ∷ t) → (g : TreeRead text (type (after_role text at) rows) (bare_label l) kids (44 ∷ t))
         → NameRead l.name (g.got.next + 1) rest → TreeRead text (list_field text type at rows) l kids rest
     unfolding list_field default_field name_of
     name-given t rest r g n =
@@ -168,7 +172,7 @@ module _ (text : List ℕ) (type : ℕ → ℕ → Out Tree) where
   name-stop false name s = tt
 
   list-named : (l : Label) (kids : Forest Label) (at rows : ℕ) (s : List ℕ) → l.union_id ≡ 0 → FieldRow l → (b : Bool) → same l.name (bytes "item") ≡ b
-      → RoleRead text l kids at (name_text b l.name ++ (41 ∷ s)) → TreeRead text (type (after_role text at) rows) (bare_label l) kids (name_text b l.name ++ (41 ∷ s))
+      → RoleRead spelling text l kids at (name_text b l.name ++ (41 ∷ s)) → TreeRead text (type (after_role text at) rows) (bare_label l) kids (name_text b l.name ++ (41 ∷ s))
       → TreeRead text (list_field text type at rows) l kids (41 ∷ s)
   list-named l kids at rows s i f true q r t = name_out l kids at rows i s (of_true _ q) r t
   list-named l kids at rows s i f false q r t =
@@ -176,17 +180,17 @@ module _ (text : List ℕ) (type : ℕ → ℕ → Out Tree) where
       (name-read l.name (t.got.next + 1) (41 ∷ s) f.name f.plain
       (skip 1 t.got.next text _ t.after ∙ ap (λ (x : List ℕ). 32 ∷ (bytes "field: '" ++ x)) (append_assoc l.name (39 ∷ []) (41 ∷ s))))
 
-  pub list-field-read : (l : Label) (kids : Forest Label) (at p rows : ℕ) (s : List ℕ) → ReadsTree text type l kids → FieldRow l → l.union_id ≡ 0
-      → suc (count kids) ≤ rows → Look text at p (list_field_text (shown_tree l kids) ++ (41 ∷ s)) → TreeRead text (list_field text type at rows) l kids (41 ∷ s)
+  pub list-field-read : (l : Label) (kids : Forest Label) (at p rows : ℕ) (s : List ℕ) → ReadsTree spelling text type l kids → FieldRow l → l.union_id ≡ 0
+      → suc (count kids) ≤ rows → Look text at p (list_field_text (shown_tree spelling l kids) ++ (41 ∷ s)) → TreeRead text (list_field text type at rows) l kids (41 ∷ s)
   unfolding list_field_text list_name_text
   list-field-read l kids at p rows s rd f i enough k =
-      typed (role-read text l kids at p mid f.kind (name-stop (same l.name (bytes "item")) l.name s) f.role (rw e at k))
+      typed (role-read spelling text l kids at p mid f.kind (name-stop (same l.name (bytes "item")) l.name s) f.role (rw e at k))
     where
       mid : List ℕ
       mid = name_text (same l.name (bytes "item")) l.name ++ (41 ∷ s)
 
-      e : list_field_text (shown_tree l kids) ++ (41 ∷ s) ≡ nullity_text l ++ (type_text l (shown kids) ++ mid)
-      e = append_assoc (nullity_text l) _ (41 ∷ s) ∙ ap (λ (r : List ℕ). nullity_text l ++ r) (append_assoc (type_text l (shown kids)) _ (41 ∷ s))
+      e : list_field_text (shown_tree spelling l kids) ++ (41 ∷ s) ≡ nullity_text l ++ (type_text spelling l (shown spelling kids) ++ mid)
+      e = append_assoc (nullity_text l) _ (41 ∷ s) ∙ ap (λ (r : List ℕ). nullity_text l ++ r) (append_assoc (type_text spelling l (shown spelling kids)) _ (41 ∷ s))
 
-      typed : RoleRead text l kids at mid → TreeRead text (list_field text type at rows) l kids (41 ∷ s)
+      typed : RoleRead spelling text l kids at mid → TreeRead text (list_field text type at rows) l kids (41 ∷ s)
       typed r = list-named l kids at rows s i f (same l.name (bytes "item")) refl r (rd (after_role text at) rows mid r.type enough)

@@ -18,13 +18,14 @@ use Rattle.parser.specs.Parse.{Tree, Item, end, last, more, single, id_of, stand
 use Rattle.parser.proofs.TokenLaws.{here}
 use Rattle.output.specs.Digits.{digits}
 use Rattle.display_length.specs.Display.{field_text, struct_text, union_text, shown}
+use Rattle.display_length.specs.declared.words.Spelling.{Spelling}
 use Rattle.round_trip.proofs.Tokens.{mark_stop, comma_stop}
 use Rattle.round_trip.proofs.PlainRows.{PlainRows, FieldRow, field_row_lem, union_row, field_id, union_id_lem}
 use Rattle.round_trip.proofs.Pieces.{Look, look-here, look-space, stands-is, rparen-token, need-lparen-behind, need-rparen, need-comma, need-colon, rparen-stands, comma-stands, closes, NumberRead, number_read}
 use Rattle.round_trip.proofs.Types.{TreeRead, FieldsRead, count-read, ReadsTree, ReadsAll}
 use Rattle.round_trip.proofs.Fields.{shown_tree, FieldRead, field-read}
 
-module _ (text : List ℕ) where
+module _ (spelling : Spelling) (text : List ℕ) where
   -- ---- one turn, of a Struct's fields or of a Union's
 
   module _ (item : ℕ → ℕ → Out Item) (most at rows : ℕ) (rest : List ℕ) where
@@ -96,8 +97,8 @@ module _ (text : List ℕ) where
         items-last (struct_item text type) most at rows rest l kids (field_at text type 0 at rows) (41 ∷ rest) f.tree (n + 1) (struct-last l kids at rows rest f)
         (skip 1 n text (41 ∷ rest) f.tree.after)
 
-    pub struct_fields : (kids : Forest Label) → ReadsAll text type kids → PlainRows field kids → (most at p rows : ℕ) (rest : List ℕ)
-        → length (roots kids) < most → count kids ≤ rows → Look text at p (struct_text (shown kids) ++ (41 ∷ rest)) → StructRead most at rows kids rest
+    pub struct_fields : (kids : Forest Label) → ReadsAll spelling text type kids → PlainRows field kids → (most at p rows : ℕ) (rest : List ℕ)
+        → length (roots kids) < most → count kids ≤ rows → Look text at p (struct_text (shown spelling kids) ++ (41 ∷ rest)) → StructRead most at rows kids rest
     unfolding struct_text shown
     struct_fields ∅ rd pl zero at p rows rest lt enough k = absurd (omega arith)
     struct_fields ∅ rd pl (suc most) at p rows rest lt enough k =
@@ -105,13 +106,13 @@ module _ (text : List ℕ) where
     struct_fields (node l kids ∅) rd pl zero at p rows rest lt enough k = absurd (omega arith)
     struct_fields (node l kids ∅) rd pl (suc most) at p rows rest lt enough k =
         struct-one l kids most at rows rest
-        (field-read text type 0 l kids at p rows (41 ∷ rest) rd.0 (field_row_lem l kids pl.0) (sym (field_id l kids pl.0)) (mark_stop rest) (omega arith) k)
+        (field-read spelling text type 0 l kids at p rows (41 ∷ rest) rd.0 (field_row_lem l kids pl.0) (sym (field_id l kids pl.0)) (mark_stop rest) (omega arith) k)
     struct_fields (node l kids (node m ks os)) rd pl zero at p rows rest lt enough k = absurd (omega arith)
     struct_fields (node l kids (node m ks os)) rd pl (suc most) at p rows rest lt enough k =
-        let t : List ℕ = struct_text (shown (node m ks os)) ++ (41 ∷ rest) in
-        let e = append_assoc (field_text (shown_tree l kids)) (bytes ", " ++ struct_text (shown (node m ks os))) (41 ∷ rest) in
+        let t : List ℕ = struct_text (shown spelling (node m ks os)) ++ (41 ∷ rest) in
+        let e = append_assoc (field_text (shown_tree spelling l kids)) (bytes ", " ++ struct_text (shown spelling (node m ks os))) (41 ∷ rest) in
         struct-on l kids (node m ks os) most at rows t rest
-        (field-read text type 0 l kids at p rows (44 ∷ 32 ∷ t) rd.0 (field_row_lem l kids pl.0) (sym (field_id l kids pl.0)) (comma_stop (32 ∷ t)) (omega arith) (rw e at k))
+        (field-read spelling text type 0 l kids at p rows (44 ∷ 32 ∷ t) rd.0 (field_row_lem l kids pl.0) (sym (field_id l kids pl.0)) (comma_stop (32 ∷ t)) (omega arith) (rw e at k))
         (λ a q k'. struct_fields (node m ks os) rd.1 pl.2 most a q (rows - suc (count kids)) rest (omega arith) (omega arith) k')
 
     -- ---- a Union's fields
@@ -160,41 +161,41 @@ module _ (text : List ℕ) where
         (h u.got.next u.after)
 
     abbrev member_text : Label → Forest Label → List ℕ → List ℕ
-    member_text l kids s = digits l.union_id ++ (58 ∷ 32 ∷ 40 ∷ (field_text (shown_tree l kids) ++ (41 ∷ s)))
+    member_text l kids s = digits l.union_id ++ (58 ∷ 32 ∷ 40 ∷ (field_text (shown_tree spelling l kids) ++ (41 ∷ s)))
 
     member-text : (l : Label) (kids : Forest Label) (u s : List ℕ)
-        → (digits l.union_id ++ (bytes ": (" ++ (field_text (shown_tree l kids) ++ (bytes ")" ++ u)))) ++ s ≡ member_text l kids (u ++ s)
+        → (digits l.union_id ++ (bytes ": (" ++ (field_text (shown_tree spelling l kids) ++ (bytes ")" ++ u)))) ++ s ≡ member_text l kids (u ++ s)
     member-text l kids u s =
         append_assoc (digits l.union_id) _ s
-        ∙ ap (λ (x : List ℕ). digits l.union_id ++ (58 ∷ 32 ∷ 40 ∷ x)) (append_assoc (field_text (shown_tree l kids)) (41 ∷ u) s)
+        ∙ ap (λ (x : List ℕ). digits l.union_id ++ (58 ∷ 32 ∷ 40 ∷ x)) (append_assoc (field_text (shown_tree spelling l kids)) (41 ∷ u) s)
 
-    member-read : (l : Label) (kids : Forest Label) (at p rows : ℕ) (s : List ℕ) → ReadsTree text type l kids → FieldRow l → l.union_id < 128
+    member-read : (l : Label) (kids : Forest Label) (at p rows : ℕ) (s : List ℕ) → ReadsTree spelling text type l kids → FieldRow l → l.union_id < 128
         → suc (count kids) ≤ rows → Look text at p (member_text l kids s) → TreeRead text (P.union_field text type at rows) l kids s
     member-read l kids at p rows s rd f small enough k =
         numbered (number_read text 128 127 id_of l.union_id at p l.union_id (58 ∷ 32 ∷ 40 ∷ t) (omega arith) (omega arith) refl (unfold is_separator in tt) k)
       where
         t : List ℕ
-        t = field_text (shown_tree l kids) ++ (41 ∷ s)
+        t = field_text (shown_tree spelling l kids) ++ (41 ∷ s)
 
         numbered : NumberRead text 128 127 at id_of l.union_id (58 ∷ 32 ∷ 40 ∷ t) → TreeRead text (P.union_field text type at rows) l kids s
         numbered i =
             let a : ℕ = i.token.next + 1 + 1 + 1 in
             union-field l kids at rows t s i
-            (field-read text type (id_of i.token.kind) l kids a a rows (41 ∷ s) rd f i.value (mark_stop s) enough
+            (field-read spelling text type (id_of i.token.kind) l kids a a rows (41 ∷ s) rd f i.value (mark_stop s) enough
             (look-here text a t
             (skip 1 (i.token.next + 1 + 1) text (40 ∷ t) (skip 1 (i.token.next + 1) text (32 ∷ 40 ∷ t) (skip 1 i.token.next text (58 ∷ 32 ∷ 40 ∷ t) i.after)))))
 
-    pub union-fields : (kids : Forest Label) → ReadsAll text type kids → PlainRows union_field kids → (most at rows : ℕ) (rest : List ℕ)
-        → length (roots kids) < most → count kids ≤ rows → drop at text ≡ union_text (shown kids) ++ (41 ∷ rest) → UnionRead most at rows kids rest
+    pub union-fields : (kids : Forest Label) → ReadsAll spelling text type kids → PlainRows union_field kids → (most at rows : ℕ) (rest : List ℕ)
+        → length (roots kids) < most → count kids ≤ rows → drop at text ≡ union_text (shown spelling kids) ++ (41 ∷ rest) → UnionRead most at rows kids rest
     unfolding union_text shown
     union-fields ∅ rd pl zero at rows rest lt enough e = absurd (omega arith)
     union-fields ∅ rd pl (suc most) at rows rest lt enough e =
         items-end (union_item text type) most at rows rest (at + 1) (union-end at rows rest e) (skip 1 at text (41 ∷ rest) e)
     union-fields (node l kids others) rd pl zero at rows rest lt enough e = absurd (omega arith)
     union-fields (node l kids others) rd pl (suc most) at rows rest lt enough e =
-        let s : List ℕ = union_text (shown others) ++ (41 ∷ rest) in
+        let s : List ℕ = union_text (shown spelling others) ++ (41 ∷ rest) in
         let t : List ℕ = member_text l kids s in
-        let e₁ : drop at text ≡ 44 ∷ 32 ∷ t = e ∙ ap (λ (x : List ℕ). 44 ∷ 32 ∷ x) (member-text l kids (union_text (shown others)) (41 ∷ rest)) in
+        let e₁ : drop at text ≡ 44 ∷ 32 ∷ t = e ∙ ap (λ (x : List ℕ). 44 ∷ 32 ∷ x) (member-text l kids (union_text (shown spelling others)) (41 ∷ rest)) in
         union-on l kids others most at rows (32 ∷ t) s rest e₁
         (member-read l kids (at + 1) (at + 1 + 1) rows s rd.0 (union_row l kids pl.0) (union_id_lem l kids pl.0) (omega arith)
         (look-space text (at + 1) t (skip 1 at text (44 ∷ 32 ∷ t) e₁)))

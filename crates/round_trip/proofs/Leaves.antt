@@ -18,7 +18,9 @@ use Rattle.datatype.specs.Tree.{Forest, ∅, node, roots, Label, name_list, zone
 use Rattle.row_table.specs.Sound.{arity_fits, no_child, rules_of, zone_fits, shape_fits}
 use Rattle.parser.specs.Parse.{Zone, Tree, bare_row, scale_of, unit_at, zone_string, zone_at, timestamp_at, time_at, interval_at, fixed_size_binary_at, scale_at, decimal_at}
 use Rattle.output.specs.Digits.{digits}
-use Rattle.display_length.specs.Display.{unit_text, interval_text, scale_text, zone_text, quoted, shape_text, shown}
+use Rattle.display_length.specs.Display.{microsecond_text, unit_text, interval_text, scale_text, zone_text, quoted, shape_text, shown}
+use Rattle.display_length.specs.declared.words.Spelling.{Spelling}
+use Rattle.display_length.specs.declared.words.Spelling.TheVariants.{Us, Micro}
 use Rattle.round_trip.specs.Plain.{is_plain}
 use Rattle.tokenizer.proofs.Numbers.{abs_signed, below_signed}
 use Rattle.round_trip.proofs.Tokens.{Stop, mark_stop, comma_stop, is_listed_word, is_word_of, WordOf, word_is}
@@ -28,13 +30,19 @@ use Rattle.round_trip.proofs.Types.{TreeRead, zone-none, bare-row, bare-tree}
 
 -- ---- the words of units
 
-unit_word : (u : ℕ) → u < 4 → WordOf time_unit u (unit_text u)
+-- both spellings are listed
+microsecond_word : (spelling : Spelling) → WordOf time_unit 2 (microsecond_text spelling)
+unfolding microsecond_text is_word_of is_listed_word words is_separator is_digit
+microsecond_word Us = word_is time_unit 2 (bytes "us") tt
+microsecond_word Micro = word_is time_unit 2 (bytes "µs") tt
+
+unit_word : (spelling : Spelling) (u : ℕ) → u < 4 → WordOf time_unit u (unit_text spelling u)
 unfolding unit_text is_word_of is_listed_word words is_separator is_digit
-unit_word zero h = word_is time_unit 0 (bytes "s") tt
-unit_word (suc zero) h = word_is time_unit 1 (bytes "ms") tt
-unit_word (suc (suc zero)) h = word_is time_unit 2 (bytes "µs") tt
-unit_word (suc (suc (suc zero))) h = word_is time_unit 3 (bytes "ns") tt
-unit_word (suc (suc (suc (suc u)))) h = absurd (omega arith)
+unit_word spelling zero h = word_is time_unit 0 (bytes "s") tt
+unit_word spelling (suc zero) h = word_is time_unit 1 (bytes "ms") tt
+unit_word spelling (suc (suc zero)) h = microsecond_word spelling
+unit_word spelling (suc (suc (suc zero))) h = word_is time_unit 3 (bytes "ns") tt
+unit_word spelling (suc (suc (suc (suc u)))) h = absurd (omega arith)
 
 interval_word : (u : ℕ) → u < 3 → WordOf interval_unit u (interval_text u)
 unfolding interval_text is_word_of is_listed_word words is_separator is_digit
@@ -87,12 +95,12 @@ module _ (text : List ℕ) where
         (rw (need-lparen text at t e, unit-fits h.shape (at + 1) (41 ∷ rest) u, closes text _ ∅ u.token.next rest u.after))
         (skip 1 u.token.next text (41 ∷ rest) u.after)
 
-    pub time-read : ShapeRow time l kids → drop at text ≡ shape_text time l (shown kids) ++ rest → TreeRead text (time_at text l.kind at) (bare_label l) kids rest
+    pub time-read : (spelling : Spelling) → ShapeRow time l kids → drop at text ≡ shape_text spelling time l (shown spelling kids) ++ rest → TreeRead text (time_at text l.kind at) (bare_label l) kids rest
     unfolding rules_of shape_text
-    time-read h e =
+    time-read spelling h e =
         time-step _ h e
-        (found_word text time_unit l.number (at + 1) (at + 1) (unit_text l.number) (41 ∷ rest) (unit_word l.number h.number) (mark_stop rest)
-        (look-here text (at + 1) _ (skip 1 at text _ e ∙ append_assoc (unit_text l.number) (41 ∷ []) rest)))
+        (found_word text time_unit l.number (at + 1) (at + 1) (unit_text spelling l.number) (41 ∷ rest) (unit_word spelling l.number h.number) (mark_stop rest)
+        (look-here text (at + 1) _ (skip 1 at text _ e ∙ append_assoc (unit_text spelling l.number) (41 ∷ []) rest)))
 
     interval-step : (t : List ℕ) → ShapeRow interval l kids → drop at text ≡ 40 ∷ t → Found text interval_unit l.number (at + 1) (41 ∷ rest)
         → TreeRead text (interval_at text l.kind at) (bare_label l) kids rest
@@ -103,10 +111,10 @@ module _ (text : List ℕ) where
         (rw (need-lparen text at t e, need-found text interval_unit l.number (at + 1) (41 ∷ rest) u, closes text _ ∅ u.token.next rest u.after))
         (skip 1 u.token.next text (41 ∷ rest) u.after)
 
-    pub interval-read : ShapeRow interval l kids → drop at text ≡ shape_text interval l (shown kids) ++ rest
+    pub interval-read : (spelling : Spelling) → ShapeRow interval l kids → drop at text ≡ shape_text spelling interval l (shown spelling kids) ++ rest
         → TreeRead text (interval_at text l.kind at) (bare_label l) kids rest
     unfolding rules_of shape_text
-    interval-read h e =
+    interval-read spelling h e =
         interval-step _ h e
         (found_word text interval_unit l.number (at + 1) (at + 1) (interval_text l.number) (41 ∷ rest) (interval_word l.number h.number) (mark_stop rest)
         (look-here text (at + 1) _ (skip 1 at text _ e ∙ append_assoc (interval_text l.number) (41 ∷ []) rest)))
@@ -122,10 +130,10 @@ module _ (text : List ℕ) where
         (rw (need-lparen text at t e, n.reads, closes text _ ∅ n.token.next rest n.after))
         (skip 1 n.token.next text (41 ∷ rest) n.after)
 
-    pub fixed-read : ShapeRow fixed l kids → drop at text ≡ shape_text fixed l (shown kids) ++ rest
+    pub fixed-read : (spelling : Spelling) → ShapeRow fixed l kids → drop at text ≡ shape_text spelling fixed l (shown spelling kids) ++ rest
         → TreeRead text (fixed_size_binary_at text l.kind at) (bare_label l) kids rest
     unfolding rules_of shape_text
-    fixed-read h e =
+    fixed-read spelling h e =
         let p : l.number < 2 ^ 31 = h.number in
         fixed-step _ h e
         (number_read text 0 (2 ^ 31 - 1) value_of l.number (at + 1) (at + 1) l.number (41 ∷ rest) (omega arith) (omega arith) refl (mark_stop rest)
@@ -188,10 +196,10 @@ module _ (text : List ℕ) where
             decimal_step _ (32 ∷ tail) e n
             (scale-read s (n.token.next + 1) (n.token.next + 1 + 1) rest j (look-space text (n.token.next + 1) tail (skip 1 n.token.next text (44 ∷ 32 ∷ tail) n.after)))
 
-  pub decimal-read : (l : Label) (kids : Forest Label) (at : ℕ) (rest : List ℕ) → ShapeRow decimal l kids → drop at text ≡ shape_text decimal l (shown kids) ++ rest
+  pub decimal-read : (spelling : Spelling) (l : Label) (kids : Forest Label) (at : ℕ) (rest : List ℕ) → ShapeRow decimal l kids → drop at text ≡ shape_text spelling decimal l (shown spelling kids) ++ rest
       → TreeRead text (decimal_at text l.kind at) (bare_label l) kids rest
   unfolding rules_of shape_fits shape_text
-  decimal-read l kids at rest h e = fits (decimal-any l.kind l.number l.scale at rest h.number h.scale e)
+  decimal-read spelling l kids at rest h e = fits (decimal-any l.kind l.number l.scale at rest h.number h.scale e)
     where
       fits : DecimalRead l.kind l.number l.scale at rest → TreeRead text (decimal_at text l.kind at) (bare_label l) kids rest
       fits d =
@@ -264,13 +272,13 @@ module _ (text : List ℕ) where
           below = below_none kids h.arity;
         }
 
-    pub timestamp-read : ShapeRow timestamp l kids → drop at text ≡ shape_text timestamp l (shown kids) ++ rest
+    pub timestamp-read : (spelling : Spelling) → ShapeRow timestamp l kids → drop at text ≡ shape_text spelling timestamp l (shown spelling kids) ++ rest
         → TreeRead text (timestamp_at text l.kind at) (bare_label l) kids rest
     unfolding rules_of shape_text
-    timestamp-read h e =
-        zoned (found_word text time_unit l.number (at + 1) (at + 1) (unit_text l.number) tail (unit_word l.number h.number) (zone-stop l.zone rest)
+    timestamp-read spelling h e =
+        zoned (found_word text time_unit l.number (at + 1) (at + 1) (unit_text spelling l.number) tail (unit_word spelling l.number h.number) (zone-stop l.zone rest)
         (look-here text (at + 1) _
-        (skip 1 at text _ e ∙ append_assoc (unit_text l.number) _ rest ∙ ap (λ (r : List ℕ). unit_text l.number ++ r) (append_assoc (zone_text l.zone) (41 ∷ []) rest))))
+        (skip 1 at text _ e ∙ append_assoc (unit_text spelling l.number) _ rest ∙ ap (λ (r : List ℕ). unit_text spelling l.number ++ r) (append_assoc (zone_text l.zone) (41 ∷ []) rest))))
       where
         tail : List ℕ
         tail = zone_text l.zone ++ (41 ∷ rest)

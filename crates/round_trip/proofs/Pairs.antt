@@ -16,6 +16,7 @@ use Rattle.tokenizer.proofs.Listed.{same_path}
 use Rattle.datatype.specs.Tree.{Forest, ∅, node, count, Label, name_of, labels}
 use Rattle.parser.specs.Parse.{Tree, run_ends, values, pair, stands, named_run_ends, default_run_ends, run_end_fields}
 use Rattle.display_length.specs.Display.{nullity_text, field_text, default_names, run_end_text, type_text, shown}
+use Rattle.display_length.specs.declared.words.Spelling.{Spelling}
 use Rattle.round_trip.proofs.Tokens.{mark_stop, comma_stop, is_listed_word, is_word_of, word_is}
 use Rattle.round_trip.proofs.PlainRows.{FieldRow}
 use Rattle.round_trip.proofs.Pieces.{look-here, look-space, stands-is, need-comma, Found, found_word}
@@ -30,7 +31,7 @@ pub record PairRows (m n : Label) : Type 0 where
   pub second_id : n.union_id ≡ 0
   pub non_null : m.role ≡ 2
 
-module _ (text : List ℕ) (type : ℕ → ℕ → Out Tree) (m n : Label) (kids ks : Forest Label) (at rows : ℕ) where
+module _ (spelling : Spelling) (text : List ℕ) (type : ℕ → ℕ → Out Tree) (m n : Label) (kids ks : Forest Label) (at rows : ℕ) where
   named_step : (t rest : List ℕ) → m.role ≡ 2 → (f : FieldRead text type 0 m kids at rows (44 ∷ t))
       → FieldRead text type 0 n ks (f.tree.got.next + 1) (rows - suc (count kids)) rest
       → FieldsRead text (run_end_fields text type at rows) (node m kids (node n ks ∅)) rest
@@ -81,15 +82,15 @@ module _ (text : List ℕ) (type : ℕ → ℕ → Out Tree) (m n : Label) (kids
       worded : Found text nullability 2 at (32 ∷ t) → stands text double_quoted at ≡ false
       worded f = stands-is text double_quoted at f.token f.found ∙ ap (λ (k : ℕ). eqb k double_quoted) f.sort
 
-  module _ (rest : List ℕ) (rm : ReadsTree text type m kids) (rn : ReadsTree text type n ks) (h : PairRows m n) (enough : suc (count kids) + suc (count ks) ≤ rows) where
+  module _ (rest : List ℕ) (rm : ReadsTree spelling text type m kids) (rn : ReadsTree spelling text type n ks) (h : PairRows m n) (enough : suc (count kids) + suc (count ks) ≤ rows) where
     abbrev PairRead : Type 0
     PairRead = FieldsRead text (run_end_fields text type at rows) (node m kids (node n ks ∅)) (41 ∷ rest)
 
     abbrev tm : List ℕ
-    tm = type_text m (shown kids)
+    tm = type_text spelling m (shown spelling kids)
 
     abbrev tn : List ℕ
-    tn = type_text n (shown ks)
+    tn = type_text spelling n (shown spelling ks)
 
     -- non-null type, [non-null ]type
     short-pair : m.name ≡ bytes "run_ends" → n.name ≡ bytes "values"
@@ -109,37 +110,37 @@ module _ (text : List ℕ) (type : ℕ → ℕ → Out Tree) (m n : Label) (kids
         second nd f =
             let c = f.tree.got.next in
             default-step (32 ∷ t) (41 ∷ rest) h.non_null nd f
-            (default-read text type values n ks (c + 1) (c + 1 + 1) (rows - suc (count kids)) (41 ∷ rest) rn h.second h.second_id (mark_stop rest) (sym b) (omega arith)
+            (default-read spelling text type values n ks (c + 1) (c + 1 + 1) (rows - suc (count kids)) (41 ∷ rest) rn h.second h.second_id (mark_stop rest) (sym b) (omega arith)
             (look-space text (c + 1) t (skip 1 c text (44 ∷ 32 ∷ t) f.tree.after)))
 
         first : drop at text ≡ nullity_text m ++ (tm ++ (44 ∷ 32 ∷ t)) → PairRead
         first e' =
             second (no-string (tm ++ (44 ∷ 32 ∷ t)) h.non_null e')
-            (default-read text type run_ends m kids at at rows (44 ∷ 32 ∷ t) rm h.first h.first_id (comma_stop (32 ∷ t)) (sym a) (omega arith)
+            (default-read spelling text type run_ends m kids at at rows (44 ∷ 32 ∷ t) rm h.first h.first_id (comma_stop (32 ∷ t)) (sym a) (omega arith)
             (look-here text at (nullity_text m ++ (tm ++ (44 ∷ 32 ∷ t))) e'))
 
     -- "name": non-null type, "name": [non-null ]type
-    long-pair : drop at text ≡ (field_text (shown_tree m kids) ++ (bytes ", " ++ field_text (shown_tree n ks))) ++ (41 ∷ rest) → PairRead
+    long-pair : drop at text ≡ (field_text (shown_tree spelling m kids) ++ (bytes ", " ++ field_text (shown_tree spelling n ks))) ++ (41 ∷ rest) → PairRead
     long-pair e =
-        second (field-read text type 0 m kids at at rows (44 ∷ 32 ∷ t) rm h.first (sym h.first_id) (comma_stop (32 ∷ t)) (omega arith)
-        (look-here text at _ (e ∙ append_assoc (field_text (shown_tree m kids)) _ (41 ∷ rest))))
+        second (field-read spelling text type 0 m kids at at rows (44 ∷ 32 ∷ t) rm h.first (sym h.first_id) (comma_stop (32 ∷ t)) (omega arith)
+        (look-here text at _ (e ∙ append_assoc (field_text (shown_tree spelling m kids)) _ (41 ∷ rest))))
       where
         t : List ℕ
-        t = field_text (shown_tree n ks) ++ (41 ∷ rest)
+        t = field_text (shown_tree spelling n ks) ++ (41 ∷ rest)
 
         second : FieldRead text type 0 m kids at rows (44 ∷ 32 ∷ t) → PairRead
         second f =
             let c = f.tree.got.next in
             named_step (32 ∷ t) (41 ∷ rest) h.non_null f
-            (field-read text type 0 n ks (c + 1) (c + 1 + 1) (rows - suc (count kids)) (41 ∷ rest) rn h.second (sym h.second_id) (mark_stop rest) (omega arith)
+            (field-read spelling text type 0 n ks (c + 1) (c + 1 + 1) (rows - suc (count kids)) (41 ∷ rest) rn h.second (sym h.second_id) (mark_stop rest) (omega arith)
             (look-space text (c + 1) t (skip 1 c text (44 ∷ 32 ∷ t) f.tree.after)))
 
-    pub pair_read : drop at text ≡ run_end_text (shown_tree m kids) (shown_tree n ks) ++ (41 ∷ rest) → PairRead
+    pub pair_read : drop at text ≡ run_end_text (shown_tree spelling m kids) (shown_tree spelling n ks) ++ (41 ∷ rest) → PairRead
     unfolding run_end_text default_names
     pair_read = go (same m.name (bytes "run_ends") && same n.name (bytes "values")) refl
       where
         go : (b : Bool) → (same m.name (bytes "run_ends") && same n.name (bytes "values")) ≡ b
-            → drop at text ≡ (if b then nullity_text m ++ (tm ++ (bytes ", " ++ (nullity_text n ++ tn))) else (field_text (shown_tree m kids) ++ (bytes ", " ++ field_text (shown_tree n ks)))) ++ (41 ∷ rest)
+            → drop at text ≡ (if b then nullity_text m ++ (tm ++ (bytes ", " ++ (nullity_text n ++ tn))) else (field_text (shown_tree spelling m kids) ++ (bytes ", " ++ field_text (shown_tree spelling n ks)))) ++ (41 ∷ rest)
             → PairRead
         go true q e =
             let t : T (same m.name (bytes "run_ends") && same n.name (bytes "values")) = of_true _ q in

@@ -16,6 +16,7 @@ use Rattle.row_table.specs.Sound.{arity_fits, rules_of, shape_fits, roles_of, id
 use Rattle.parser.specs.Parse.{Tree, single, pair, items_by, list_field, struct_item, union_item, run_end_fields, entries_at, fixed_list_field, list_at, fixed_size_list_at, struct_at, union_at, dictionary_at, map_at, run_end_encoded_at}
 use Rattle.output.specs.Digits.{digits}
 use Rattle.display_length.specs.Display.{mode_text, sorted_text, field_text, list_field_text, struct_text, union_text, run_end_text, shape_text, type_text, shown}
+use Rattle.display_length.specs.declared.words.Spelling.{Spelling}
 use Rattle.round_trip.proofs.Tokens.{Stop, mark_stop, comma_stop, is_listed_word, is_word_of, WordOf, word_is}
 use Rattle.round_trip.proofs.PlainRows.{ShapeRow, field_row_lem, field_id, bare_label, bare_is, no_zone}
 use Rattle.round_trip.proofs.Pieces.{look-here, look-space, need-lparen, need-comma, stands-is, closes, Found, found_word, need-found, NumberRead, number_read}
@@ -50,7 +51,7 @@ module _ (text : List ℕ) where
   unfolding labels
   two-below o p l m kids ks r s t u = λ j. node (t.row j) (t.below j) (node (u.row j) (u.below j) ∅)
 
-module _ (text : List ℕ) (type : ℕ → ℕ → Out Tree) (l : Label) (at rows : ℕ) (rest : List ℕ) where
+module _ (spelling : Spelling) (text : List ℕ) (type : ℕ → ℕ → Out Tree) (l : Label) (at rows : ℕ) (rest : List ℕ) where
   -- ---- the four plain lists, by the kind
 
   list-step : (m : Label) (kids : Forest Label) (t : List ℕ) → ShapeRow list l (node m kids ∅) → drop at text ≡ 40 ∷ t
@@ -64,20 +65,20 @@ module _ (text : List ℕ) (type : ℕ → ℕ → Out Tree) (l : Label) (at row
       (rw (need-lparen text at t e, f.reads, closes text _ (single f.got) f.got.next rest f.after))
       (skip 1 f.got.next text (41 ∷ rest) f.after)
 
-  pub list_read : (kids : Forest Label) → ReadsAll text type kids → ShapeRow list l kids → count kids ≤ rows
-      → drop at text ≡ shape_text list l (shown kids) ++ rest → TreeRead text (list_at text type l.kind at rows) (bare_label l) kids rest
+  pub list_read : (kids : Forest Label) → ReadsAll spelling text type kids → ShapeRow list l kids → count kids ≤ rows
+      → drop at text ≡ shape_text spelling list l (shown spelling kids) ++ rest → TreeRead text (list_at text type l.kind at rows) (bare_label l) kids rest
   unfolding rules_of arity_fits shape_text shown
   list_read ∅ rd h enough e = absurd h.arity
   list_read (node m kids (node n ks os)) rd h enough e = absurd h.arity
   list_read (node m kids ∅) rd h enough e =
       list-step m kids _ h e
-      (list-field-read text type m kids (at + 1) (at + 1) rows rest rd.0 (field_row_lem m kids h.below.0) (field_id m kids h.below.0) (omega arith)
-      (look-here text (at + 1) _ (skip 1 at text _ e ∙ append_assoc (list_field_text (shown_tree m kids)) (41 ∷ []) rest)))
+      (list-field-read spelling text type m kids (at + 1) (at + 1) rows rest rd.0 (field_row_lem m kids h.below.0) (field_id m kids h.below.0) (omega arith)
+      (look-here text (at + 1) _ (skip 1 at text _ e ∙ append_assoc (list_field_text (shown_tree spelling m kids)) (41 ∷ []) rest)))
 
   -- ---- FixedSizeList(n x ..)
 
   fixed-list-step : (m : Label) (kids : Forest Label) (t t₂ : List ℕ) → ShapeRow fixed_list l (node m kids ∅) → drop at text ≡ 40 ∷ t
-      → (n : NumberRead text 0 (2 ^ 31 - 1) (at + 1) value_of l.number t₂) (x : Found text x_word 0 n.token.next (32 ∷ (list_field_text (shown_tree m kids) ++ (41 ∷ rest))))
+      → (n : NumberRead text 0 (2 ^ 31 - 1) (at + 1) value_of l.number t₂) (x : Found text x_word 0 n.token.next (32 ∷ (list_field_text (shown_tree spelling m kids) ++ (41 ∷ rest))))
       → TreeRead text (list_field text type x.token.next rows) m kids (41 ∷ rest)
       → TreeRead text (fixed_size_list_at text type l.kind at rows) (bare_label l) (node m kids ∅) rest
   unfolding rules_of fixed_size_list_at fixed_list_field
@@ -96,8 +97,8 @@ module _ (text : List ℕ) (type : ℕ → ℕ → Out Tree) (l : Label) (at row
       ))
       (skip 1 f.got.next text (41 ∷ rest) f.after)
 
-  pub fixed-list-read : (kids : Forest Label) → ReadsAll text type kids → ShapeRow fixed_list l kids → count kids ≤ rows
-      → drop at text ≡ shape_text fixed_list l (shown kids) ++ rest → TreeRead text (fixed_size_list_at text type l.kind at rows) (bare_label l) kids rest
+  pub fixed-list-read : (kids : Forest Label) → ReadsAll spelling text type kids → ShapeRow fixed_list l kids → count kids ≤ rows
+      → drop at text ≡ shape_text spelling fixed_list l (shown spelling kids) ++ rest → TreeRead text (fixed_size_list_at text type l.kind at rows) (bare_label l) kids rest
   unfolding rules_of arity_fits shape_text shown is_word_of is_listed_word words is_separator is_digit
   fixed-list-read ∅ rd h enough e = absurd h.arity
   fixed-list-read (node m kids (node n ks os)) rd h enough e = absurd h.arity
@@ -105,16 +106,16 @@ module _ (text : List ℕ) (type : ℕ → ℕ → Out Tree) (l : Label) (at row
       let p : l.number < 2 ^ 31 = h.number in
       sized (number_read text 0 (2 ^ 31 - 1) value_of l.number (at + 1) (at + 1) l.number (32 ∷ 120 ∷ 32 ∷ t) (omega arith) (omega arith) refl tt
       (look-here text (at + 1) _ (skip 1 at text _ e ∙ append_assoc (digits l.number) _ rest
-      ∙ ap (λ (r : List ℕ). digits l.number ++ (32 ∷ 120 ∷ 32 ∷ r)) (append_assoc (list_field_text (shown_tree m kids)) (41 ∷ []) rest))))
+      ∙ ap (λ (r : List ℕ). digits l.number ++ (32 ∷ 120 ∷ 32 ∷ r)) (append_assoc (list_field_text (shown_tree spelling m kids)) (41 ∷ []) rest))))
     where
       t : List ℕ
-      t = list_field_text (shown_tree m kids) ++ (41 ∷ rest)
+      t = list_field_text (shown_tree spelling m kids) ++ (41 ∷ rest)
 
       crossed : (n : NumberRead text 0 (2 ^ 31 - 1) (at + 1) value_of l.number (32 ∷ 120 ∷ 32 ∷ t)) → Found text x_word 0 n.token.next (32 ∷ t)
           → TreeRead text (fixed_size_list_at text type l.kind at rows) (bare_label l) (node m kids ∅) rest
       crossed n x =
           fixed-list-step m kids _ (32 ∷ 120 ∷ 32 ∷ t) h e n x
-          (list-field-read text type m kids x.token.next (x.token.next + 1) rows rest rd.0 (field_row_lem m kids h.below.0) (field_id m kids h.below.0) (omega arith)
+          (list-field-read spelling text type m kids x.token.next (x.token.next + 1) rows rest rd.0 (field_row_lem m kids h.below.0) (field_id m kids h.below.0) (omega arith)
           (look-space text x.token.next t x.after))
 
       sized : NumberRead text 0 (2 ^ 31 - 1) (at + 1) value_of l.number (32 ∷ 120 ∷ 32 ∷ t)
@@ -134,13 +135,13 @@ module _ (text : List ℕ) (type : ℕ → ℕ → Out Tree) (l : Label) (at row
       bare-tree text l kids _ 0 0 f.got.trees f.got.next rest (no_zone l h.zone) (omega arith) (omega arith) f.trees
       (rw (need-lparen text at t e, f.reads)) f.after
 
-  pub struct-read : (kids : Forest Label) → ReadsAll text type kids → ShapeRow struct l kids → count kids ≤ rows
-      → drop at text ≡ shape_text struct l (shown kids) ++ rest → TreeRead text (struct_at text type l.kind at rows) (bare_label l) kids rest
+  pub struct-read : (kids : Forest Label) → ReadsAll spelling text type kids → ShapeRow struct l kids → count kids ≤ rows
+      → drop at text ≡ shape_text spelling struct l (shown spelling kids) ++ rest → TreeRead text (struct_at text type l.kind at rows) (bare_label l) kids rest
   unfolding rules_of shape_text
   struct-read kids rd h enough e =
       struct-step kids _ h e
-      (struct_fields text type kids rd h.below (suc rows) (at + 1) (at + 1) rows rest (omega (arith, roots_count kids)) enough
-      (look-here text (at + 1) _ (skip 1 at text _ e ∙ append_assoc (struct_text (shown kids)) (41 ∷ []) rest)))
+      (struct_fields spelling text type kids rd h.below (suc rows) (at + 1) (at + 1) rows rest (omega (arith, roots_count kids)) enough
+      (look-here text (at + 1) _ (skip 1 at text _ e ∙ append_assoc (struct_text (shown spelling kids)) (41 ∷ []) rest)))
 
   -- ---- Union
 
@@ -158,25 +159,25 @@ module _ (text : List ℕ) (type : ℕ → ℕ → Out Tree) (l : Label) (at row
         is_true (ids_fit (ids_of (roots kids))) h.shape,
       )) f.after
 
-  union-stop : (kids : Forest Label) → Stop (union_text (shown kids) ++ (41 ∷ rest))
+  union-stop : (kids : Forest Label) → Stop (union_text (shown spelling kids) ++ (41 ∷ rest))
   unfolding union_text shown is_separator
   union-stop ∅ = tt
   union-stop (node m k n) = tt
 
-  pub union-read : (kids : Forest Label) → ReadsAll text type kids → ShapeRow union l kids → count kids ≤ rows
-      → drop at text ≡ shape_text union l (shown kids) ++ rest → TreeRead text (union_at text type l.kind at rows) (bare_label l) kids rest
+  pub union-read : (kids : Forest Label) → ReadsAll spelling text type kids → ShapeRow union l kids → count kids ≤ rows
+      → drop at text ≡ shape_text spelling union l (shown spelling kids) ++ rest → TreeRead text (union_at text type l.kind at rows) (bare_label l) kids rest
   unfolding rules_of shape_text
   union-read kids rd h enough e =
       moded (found_word text union_mode l.number (at + 1) (at + 1) (mode_text l.number) t (mode_word l.number h.number) (union-stop kids)
-      (look-here text (at + 1) _ (skip 1 at text _ e ∙ append_assoc (mode_text l.number) _ rest ∙ ap (λ (r : List ℕ). mode_text l.number ++ r) (append_assoc (union_text (shown kids)) (41 ∷ []) rest))))
+      (look-here text (at + 1) _ (skip 1 at text _ e ∙ append_assoc (mode_text l.number) _ rest ∙ ap (λ (r : List ℕ). mode_text l.number ++ r) (append_assoc (union_text (shown spelling kids)) (41 ∷ []) rest))))
     where
       t : List ℕ
-      t = union_text (shown kids) ++ (41 ∷ rest)
+      t = union_text (shown spelling kids) ++ (41 ∷ rest)
 
       moded : Found text union_mode l.number (at + 1) t → TreeRead text (union_at text type l.kind at rows) (bare_label l) kids rest
       moded m =
           union-step kids _ t h e m
-          (union-fields text type kids rd h.below (suc rows) m.token.next rows rest (omega (arith, roots_count kids)) enough m.after)
+          (union-fields spelling text type kids rd h.below (suc rows) m.token.next rows rest (omega (arith, roots_count kids)) enough m.after)
 
   -- ---- Dictionary(key, value)
 
@@ -203,20 +204,20 @@ module _ (text : List ℕ) (type : ℕ → ℕ → Out Tree) (l : Label) (at row
   as-bare : (m : Label) (kids : Forest Label) (o : Out Tree) (s : List ℕ) → bare_label m ≡ m → TreeRead text o (bare_label m) kids s → TreeRead text o m kids s
   as-bare m kids o s b t = record { got = t.got; reads = t.reads; after = t.after; row = t.row ∙ b; below = t.below }
 
-  pub dictionary-read : (kids : Forest Label) → ReadsAll text type kids → ShapeRow dictionary l kids → count kids ≤ rows
-      → drop at text ≡ shape_text dictionary l (shown kids) ++ rest → TreeRead text (dictionary_at text type l.kind at rows) (bare_label l) kids rest
+  pub dictionary-read : (kids : Forest Label) → ReadsAll spelling text type kids → ShapeRow dictionary l kids → count kids ≤ rows
+      → drop at text ≡ shape_text spelling dictionary l (shown spelling kids) ++ rest → TreeRead text (dictionary_at text type l.kind at rows) (bare_label l) kids rest
   unfolding rules_of arity_fits shape_text shown
   dictionary-read ∅ rd h enough e = absurd h.arity
   dictionary-read (node m kids ∅) rd h enough e = absurd h.arity
   dictionary-read (node m kids (node n ks (node o k₃ k₄))) rd h enough e = absurd h.arity
   dictionary-read (node m kids (node n ks ∅)) rd h enough e =
       keyed (as-bare m kids _ (44 ∷ 32 ∷ t) (bare_is m kids h.below.0) (rd.0 (at + 1) rows (44 ∷ 32 ∷ t)
-      (begins text m kids (at + 1) (at + 1) (44 ∷ 32 ∷ t) h.below.0.fits.kind (comma_stop (32 ∷ t))
-      (look-here text (at + 1) _ (skip 1 at text _ e ∙ append_assoc (type_text m (shown kids)) _ rest
-      ∙ ap (λ (r : List ℕ). type_text m (shown kids) ++ (44 ∷ 32 ∷ r)) (append_assoc (type_text n (shown ks)) (41 ∷ []) rest)))) (omega arith)))
+      (begins spelling text m kids (at + 1) (at + 1) (44 ∷ 32 ∷ t) h.below.0.fits.kind (comma_stop (32 ∷ t))
+      (look-here text (at + 1) _ (skip 1 at text _ e ∙ append_assoc (type_text spelling m (shown spelling kids)) _ rest
+      ∙ ap (λ (r : List ℕ). type_text spelling m (shown spelling kids) ++ (44 ∷ 32 ∷ r)) (append_assoc (type_text spelling n (shown spelling ks)) (41 ∷ []) rest)))) (omega arith)))
     where
       t : List ℕ
-      t = type_text n (shown ks) ++ (41 ∷ rest)
+      t = type_text spelling n (shown spelling ks) ++ (41 ∷ rest)
 
       keyed : TreeRead text (type (at + 1) rows) m kids (44 ∷ 32 ∷ t)
           → TreeRead text (dictionary_at text type l.kind at rows) (bare_label l) (node m kids (node n ks ∅)) rest
@@ -224,7 +225,7 @@ module _ (text : List ℕ) (type : ℕ → ℕ → Out Tree) (l : Label) (at row
           let c = g.got.next in
           dictionary-step m n kids ks _ (32 ∷ t) h e g
           (as-bare n ks _ (41 ∷ rest) (bare_is n ks h.below.2.0) (rd.1.0 (c + 1) (rows - suc (count kids)) (41 ∷ rest)
-          (begins text n ks (c + 1) (c + 1 + 1) (41 ∷ rest) h.below.2.0.fits.kind (mark_stop rest)
+          (begins spelling text n ks (c + 1) (c + 1 + 1) (41 ∷ rest) h.below.2.0.fits.kind (mark_stop rest)
           (look-space text (c + 1) t (skip 1 c text (44 ∷ 32 ∷ t) g.after))) (omega arith)))
 
   -- ---- Map("entries": non-null Struct(..), sorted)
@@ -255,16 +256,16 @@ module _ (text : List ℕ) (type : ℕ → ℕ → Out Tree) (l : Label) (at row
       ))
       (skip 1 w.token.next text (41 ∷ rest) w.after)
 
-  pub map_read : (kids : Forest Label) → ReadsAll text type kids → ShapeRow mapping l kids → count kids ≤ rows
-      → drop at text ≡ shape_text mapping l (shown kids) ++ rest → TreeRead text (map_at text type l.kind at rows) (bare_label l) kids rest
+  pub map_read : (kids : Forest Label) → ReadsAll spelling text type kids → ShapeRow mapping l kids → count kids ≤ rows
+      → drop at text ≡ shape_text spelling mapping l (shown spelling kids) ++ rest → TreeRead text (map_at text type l.kind at rows) (bare_label l) kids rest
   unfolding rules_of arity_fits shape_fits shape_text shown
   map_read ∅ rd h enough e = absurd h.arity
   map_read (node m kids (node n ks os)) rd h enough e = absurd h.arity
   map_read (node m kids ∅) rd h enough e =
       entered (entries-read m kids (at + 1) (44 ∷ 32 ∷ t) (eqb→eq (entries_refusal m.role m.kind (roles_of (roots kids))) 0 h.shape)
-      (field-read text type 0 m kids (at + 1) (at + 1) rows (44 ∷ 32 ∷ t) rd.0 (field_row_lem m kids h.below.0) (sym (field_id m kids h.below.0)) (comma_stop (32 ∷ t)) (omega arith)
-      (look-here text (at + 1) _ (skip 1 at text _ e ∙ append_assoc (field_text (shown_tree m kids)) _ rest
-      ∙ ap (λ (r : List ℕ). field_text (shown_tree m kids) ++ (44 ∷ 32 ∷ r)) (append_assoc (sorted_text l.number) (41 ∷ []) rest)))))
+      (field-read spelling text type 0 m kids (at + 1) (at + 1) rows (44 ∷ 32 ∷ t) rd.0 (field_row_lem m kids h.below.0) (sym (field_id m kids h.below.0)) (comma_stop (32 ∷ t)) (omega arith)
+      (look-here text (at + 1) _ (skip 1 at text _ e ∙ append_assoc (field_text (shown_tree spelling m kids)) _ rest
+      ∙ ap (λ (r : List ℕ). field_text (shown_tree spelling m kids) ++ (44 ∷ 32 ∷ r)) (append_assoc (sorted_text l.number) (41 ∷ []) rest)))))
     where
       t : List ℕ
       t = sorted_text l.number ++ (41 ∷ rest)
@@ -289,15 +290,15 @@ module _ (text : List ℕ) (type : ℕ → ℕ → Out Tree) (l : Label) (at row
       (rw (need-lparen text at t e, f.reads, closes text _ f.got.trees f.got.next rest f.after))
       (skip 1 f.got.next text (41 ∷ rest) f.after)
 
-  pub run-ends-read : (kids : Forest Label) → ReadsAll text type kids → ShapeRow run_end_encoded l kids → count kids ≤ rows
-      → drop at text ≡ shape_text run_end_encoded l (shown kids) ++ rest → TreeRead text (run_end_encoded_at text type l.kind at rows) (bare_label l) kids rest
+  pub run-ends-read : (kids : Forest Label) → ReadsAll spelling text type kids → ShapeRow run_end_encoded l kids → count kids ≤ rows
+      → drop at text ≡ shape_text spelling run_end_encoded l (shown spelling kids) ++ rest → TreeRead text (run_end_encoded_at text type l.kind at rows) (bare_label l) kids rest
   unfolding rules_of arity_fits shape_fits shape_text shown
   run-ends-read ∅ rd h enough e = absurd h.arity
   run-ends-read (node m kids ∅) rd h enough e = absurd h.arity
   run-ends-read (node m kids (node n ks (node o k₃ k₄))) rd h enough e = absurd h.arity
   run-ends-read (node m kids (node n ks ∅)) rd h enough e =
       run-ends-step m n kids ks _ h e
-      (pair_read text type m n kids ks (at + 1) rows rest rd.0 rd.1.0
+      (pair_read spelling text type m n kids ks (at + 1) rows rest rd.0 rd.1.0
       (record {
         first = field_row_lem m kids h.below.0;
         second = field_row_lem n ks h.below.2.0;
@@ -306,4 +307,4 @@ module _ (text : List ℕ) (type : ℕ → ℕ → Out Tree) (l : Label) (at row
         non_null = eqb→eq m.role 2 h.shape;
       })
       (omega arith)
-      (skip 1 at text _ e ∙ append_assoc (run_end_text (shown_tree m kids) (shown_tree n ks)) (41 ∷ []) rest))
+      (skip 1 at text _ e ∙ append_assoc (run_end_text (shown_tree spelling m kids) (shown_tree spelling n ks)) (41 ∷ []) rest))

@@ -18,6 +18,7 @@ use Rattle.parser.specs.Parse.{Tree, single, shape_at, type_with, type_at}
 use Rattle.parser.proofs.FirstType.{first-type}
 use Rattle.datatype_parse.specs.Parse.{text_over, parse}
 use Rattle.display_length.specs.Display.{shape_text, type_text, shown, display}
+use Rattle.display_length.specs.declared.words.Spelling.{Spelling}
 use Rattle.round_trip.proofs.PlainRows.{PlainRow, PlainRows, ShapeRow, shape_row, bare_label, bare_is}
 use Rattle.round_trip.proofs.Pieces.{look-here, stands-is, need-found}
 use Rattle.round_trip.proofs.Types.{TreeRead, Begins, ReadsTree, ReadsAll, begins}
@@ -26,26 +27,26 @@ use Rattle.round_trip.proofs.Parents.{list_read, fixed-list-read, struct-read, u
 
 -- ---- one level
 
-module _ (text : List ℕ) (type : ℕ → ℕ → Out Tree) where
+module _ (spelling : Spelling) (text : List ℕ) (type : ℕ → ℕ → Out Tree) where
   -- what stands behind a kind's word, by its shape
-  shape-read : (s : Shape) (l : Label) (kids : Forest Label) (at rows : ℕ) (rest : List ℕ) → ReadsAll text type kids → ShapeRow s l kids → count kids ≤ rows
-      → drop at text ≡ shape_text s l (shown kids) ++ rest → TreeRead text (shape_at text type s l.kind at rows) (bare_label l) kids rest
+  shape-read : (s : Shape) (l : Label) (kids : Forest Label) (at rows : ℕ) (rest : List ℕ) → ReadsAll spelling text type kids → ShapeRow s l kids → count kids ≤ rows
+      → drop at text ≡ shape_text spelling s l (shown spelling kids) ++ rest → TreeRead text (shape_at text type s l.kind at rows) (bare_label l) kids rest
   unfolding shape_at
   shape-read leaf l kids at rows rest rd h enough e = leaf-read text l kids at rest h (unfold shape_text in e)
-  shape-read timestamp l kids at rows rest rd h enough e = timestamp-read text l kids at rest h e
-  shape-read time l kids at rows rest rd h enough e = time-read text l kids at rest h e
-  shape-read interval l kids at rows rest rd h enough e = interval-read text l kids at rest h e
-  shape-read fixed l kids at rows rest rd h enough e = fixed-read text l kids at rest h e
-  shape-read list l kids at rows rest rd h enough e = list_read text type l at rows rest kids rd h enough e
-  shape-read fixed_list l kids at rows rest rd h enough e = fixed-list-read text type l at rows rest kids rd h enough e
-  shape-read struct l kids at rows rest rd h enough e = struct-read text type l at rows rest kids rd h enough e
-  shape-read union l kids at rows rest rd h enough e = union-read text type l at rows rest kids rd h enough e
-  shape-read dictionary l kids at rows rest rd h enough e = dictionary-read text type l at rows rest kids rd h enough e
-  shape-read decimal l kids at rows rest rd h enough e = decimal-read text l kids at rest h e
-  shape-read mapping l kids at rows rest rd h enough e = map_read text type l at rows rest kids rd h enough e
-  shape-read run_end_encoded l kids at rows rest rd h enough e = run-ends-read text type l at rows rest kids rd h enough e
+  shape-read timestamp l kids at rows rest rd h enough e = timestamp-read text l kids at rest spelling h e
+  shape-read time l kids at rows rest rd h enough e = time-read text l kids at rest spelling h e
+  shape-read interval l kids at rows rest rd h enough e = interval-read text l kids at rest spelling h e
+  shape-read fixed l kids at rows rest rd h enough e = fixed-read text l kids at rest spelling h e
+  shape-read list l kids at rows rest rd h enough e = list_read spelling text type l at rows rest kids rd h enough e
+  shape-read fixed_list l kids at rows rest rd h enough e = fixed-list-read spelling text type l at rows rest kids rd h enough e
+  shape-read struct l kids at rows rest rd h enough e = struct-read spelling text type l at rows rest kids rd h enough e
+  shape-read union l kids at rows rest rd h enough e = union-read spelling text type l at rows rest kids rd h enough e
+  shape-read dictionary l kids at rows rest rd h enough e = dictionary-read spelling text type l at rows rest kids rd h enough e
+  shape-read decimal l kids at rows rest rd h enough e = decimal-read text spelling l kids at rest h e
+  shape-read mapping l kids at rows rest rd h enough e = map_read spelling text type l at rows rest kids rd h enough e
+  shape-read run_end_encoded l kids at rows rest rd h enough e = run-ends-read spelling text type l at rows rest kids rd h enough e
 
-  worded : (l : Label) (kids : Forest Label) (at rows : ℕ) (rest : List ℕ) (b : Begins text at l kids rest)
+  worded : (l : Label) (kids : Forest Label) (at rows : ℕ) (rest : List ℕ) (b : Begins spelling text at l kids rest)
       → TreeRead text (shape_at text type (shape_of l.kind) l.kind b.token.next rows) (bare_label l) kids rest
       → TreeRead text (type_with text type at (suc rows)) (bare_label l) kids rest
   unfolding type_with
@@ -58,8 +59,8 @@ module _ (text : List ℕ) (type : ℕ → ℕ → Out Tree) where
         below = r.below;
       }
 
-  type-read : (place : Standing) (l : Label) (kids : Forest Label) → ReadsAll text type kids → PlainRow place l kids → PlainRows (rules_at l).below kids
-      → ReadsTree text (type_with text type) l kids
+  type-read : (place : Standing) (l : Label) (kids : Forest Label) → ReadsAll spelling text type kids → PlainRow place l kids → PlainRows (rules_at l).below kids
+      → ReadsTree spelling text (type_with text type) l kids
   type-read place l kids rd r pl at zero rest b enough = absurd (omega arith)
   type-read place l kids rd r pl at (suc rows) rest b enough =
       worded l kids at rows rest b
@@ -67,22 +68,22 @@ module _ (text : List ℕ) (type : ℕ → ℕ → Out Tree) where
 
 -- ---- all levels
 
-all_read : (text : List ℕ) (place : Standing) (f : Forest Label) (level : ℕ) → PlainRows place f → depth f ≤ level → ReadsAll text (λ a r. type_at text level a r) f
+all_read : (spelling : Spelling) (text : List ℕ) (place : Standing) (f : Forest Label) (level : ℕ) → PlainRows place f → depth f ≤ level → ReadsAll spelling text (λ a r. type_at text level a r) f
 unfolding type_at
-all_read text place ∅ level pl de = tt
-all_read text place (node l kids others) zero pl de = absurd (omega arith)
-all_read text place (node l kids others) (suc level) pl de = (
-  type-read text (λ a r. type_at text level a r) place l kids (all_read text (rules_at l).below kids level pl.1 (omega arith)) pl.0 pl.1,
-  all_read text place others (suc level) pl.2 (omega arith),
+all_read spelling text place ∅ level pl de = tt
+all_read spelling text place (node l kids others) zero pl de = absurd (omega arith)
+all_read spelling text place (node l kids others) (suc level) pl de = (
+  type-read spelling text (λ a r. type_at text level a r) place l kids (all_read spelling text (rules_at l).below kids level pl.1 (omega arith)) pl.0 pl.1,
+  all_read spelling text place others (suc level) pl.2 (omega arith),
 )
 
 -- ---- the whole text
 
 -- what is read of the printed text of a tree, with so many rows lent, where it is short enough and UTF-8
-pub record WholeRead (tree : Forest Label) (rows : ℕ) : Type 0 where
+pub record WholeRead (spelling : Spelling) (tree : Forest Label) (rows : ℕ) : Type 0 where
   pub back : Forest Row
-  pub reads : length (display tree) ≤ 16384 → is_utf8 (display tree) ≡ true → parse (display tree) rows ≡ done back
-  pub says : labels (display tree) name_list back ≡ tree
+  pub reads : length (display spelling tree) ≤ 16384 → is_utf8 (display spelling tree) ≡ true → parse (display spelling tree) rows ≡ done back
+  pub says : labels (display spelling tree) name_list back ≡ tree
 
 pub over : (text : List ℕ) (at : ℕ) → drop at text ≡ [] → text_over text at ≡ true
 unfolding text_over token_from
@@ -90,21 +91,21 @@ over text at e =
     let t : token_at text at ≡ token (refuse 5) at 0 = (look-here text at [] e).token in
     rw (stands-is text no_token at (token (refuse 5) at 0) t, t)
 
-whole : (l : Label) (kids : Forest Label) (rows : ℕ) → bare_label l ≡ l
-    → TreeRead (display (node l kids ∅)) (type_at (display (node l kids ∅)) 64 0 rows) (bare_label l) kids [] → WholeRead (node l kids ∅) rows
+whole : (spelling : Spelling) (l : Label) (kids : Forest Label) (rows : ℕ) → bare_label l ≡ l
+    → TreeRead (display spelling (node l kids ∅)) (type_at (display spelling (node l kids ∅)) 64 0 rows) (bare_label l) kids [] → WholeRead spelling (node l kids ∅) rows
 unfolding parse labels
-whole l kids rows b r =
+whole spelling l kids rows b r =
     record {
       back = parented (single r.got);
-      reads = λ short utf8. rw (first-type (display (node l kids ∅)) rows short utf8, r.reads, over (display (node l kids ∅)) r.got.next r.after);
-      says = labels-parented (display (node l kids ∅)) name_list (single r.got) ∙ (λ j. node ((r.row ∙ b) j) (r.below j) ∅);
+      reads = λ short utf8. rw (first-type (display spelling (node l kids ∅)) rows short utf8, r.reads, over (display spelling (node l kids ∅)) r.got.next r.after);
+      says = labels-parented (display spelling (node l kids ∅)) name_list (single r.got) ∙ (λ j. node ((r.row ∙ b) j) (r.below j) ∅);
     }
 
-pub whole_read : (l : Label) (kids : Forest Label) (rows : ℕ) → PlainRows bare (node l kids ∅) → suc (depth kids) ≤ 64 → suc (count kids) ≤ rows
-    → WholeRead (node l kids ∅) rows
+pub whole_read : (spelling : Spelling) (l : Label) (kids : Forest Label) (rows : ℕ) → PlainRows bare (node l kids ∅) → suc (depth kids) ≤ 64 → suc (count kids) ≤ rows
+    → WholeRead spelling (node l kids ∅) rows
 unfolding display shown
-whole_read l kids rows pl de enough =
-    let text : List ℕ = type_text l (shown kids) in
-    whole l kids rows (bare_is l kids pl.0)
-    ((all_read text bare (node l kids ∅) 64 pl (omega arith)).0 0 rows []
-    (begins text l kids 0 0 [] pl.0.fits.kind tt (look-here text 0 (text ++ []) (sym (append-nil text)))) enough)
+whole_read spelling l kids rows pl de enough =
+    let text : List ℕ = type_text spelling l (shown spelling kids) in
+    whole spelling l kids rows (bare_is l kids pl.0)
+    ((all_read spelling text bare (node l kids ∅) 64 pl (omega arith)).0 0 rows []
+    (begins spelling text l kids 0 0 [] pl.0.fits.kind tt (look-here text 0 (text ++ []) (sym (append-nil text)))) enough)

@@ -10,6 +10,8 @@ use Rattle.datatype.specs.Table.{table_of}
 use Rattle.datatype_parse.specs.Internal.Computed as parser
 use Rattle.datatype_parse.specs.Parse.{parse}
 use Rattle.datatype_display.specs.Internal.Computed as printer
+use Rattle.display_length.specs.declared.words.Spelling.{Spelling}
+use Rattle.display_length.specs.declared.words.Spelling.TheVariants.{Us, Micro}
 use Rattle.round_trip.specs.Plain.{is_plain, all_plain, is_plain_tree, in_demand3}
 
 -- ---- the bytes
@@ -56,14 +58,15 @@ text =
     ∷ bytes "\"r\": RunEndEncoded(non-null Int32, Utf8), \"r\": RunEndEncoded(\"" ∷ plain_text ∷ bytes "\": non-null Int16, \"values\": Utf8))"
     ∷ [])
 
--- The tree that it is read as meets the conditions.
-abbrev pub meets_conditions : Out (Forest Row) → Bool
-meets_conditions (refused r) = false
-meets_conditions (done f) = in_demand3 text name_list (table_of f)
+-- The tree that it is read as meets the conditions, in either spelling.
+abbrev pub meets_conditions : Spelling → Out (Forest Row) → Bool
+meets_conditions spelling (refused r) = false
+meets_conditions spelling (done f) = in_demand3 spelling text name_list (table_of f)
 
-pub conditions_met : meets_conditions (parse text max_rows) ≡ true
+pub conditions_met : (spelling : Spelling) → meets_conditions spelling (parse text max_rows) ≡ true
 unfolding parser.computed printer.computed is_plain all_plain is_plain_tree in_demand3
-conditions_met = refl
+conditions_met Us = refl
+conditions_met Micro = refl
 
 -- Every kind from 0 to 40 stands in it.
 abbrev pub has_kind : ℕ → Forest Row → Bool

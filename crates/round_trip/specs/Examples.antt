@@ -10,14 +10,17 @@ use Rattle.datatype.specs.Table.{table_of}
 use Rattle.subtrees.specs.Parents.{parent_column}
 use Rattle.datatype_parse.specs.Internal.Computed as parser
 use Rattle.datatype_parse.specs.Parse.{parse}
+use Rattle.display_length.specs.declared.words.Spelling.{Spelling}
+use Rattle.display_length.specs.declared.words.Spelling.TheVariants.{Micro}
 use Rattle.datatype_display.specs.Internal.Computed as printer
-use Rattle.datatype_display.specs.Print.{print}
+use Rattle.datatype_display.specs.Print.{default_spelling, print}
 
--- What is expected of a text: a number of rows, a refusal, or a printed text.
+-- What is expected of a text: a number of rows, a refusal, or a printed text, in the default spelling or in another.
 pub data Expected : Type 0 where
   rows : ℕ → Expected
   refusal : ℕ → Expected
   prints : String → Expected
+  prints_in : Spelling → String → Expected
 
 pub record Example : Type 0 where
   pub text : String
@@ -36,9 +39,11 @@ abbrev pub meets : List ℕ → Out (Forest Row) → Expected → Bool
 meets text (refused r) (rows n) = false
 meets text (refused r) (refusal n) = eqb r.number n
 meets text (refused r) (prints s) = false
+meets text (refused r) (prints_in spelling s) = false
 meets text (done f) (rows n) = eqb (count f) n
 meets text (done f) (refusal n) = false
-meets text (done f) (prints s) = prints_as (print text name_list (table_of f) max_text) (bytes s)
+meets text (done f) (prints s) = prints_as (print default_spelling text name_list (table_of f) max_text) (bytes s)
+meets text (done f) (prints_in spelling s) = prints_as (print spelling text name_list (table_of f) max_text) (bytes s)
 
 abbrev pub all_meet : List Example → Bool
 all_meet [] = true
@@ -95,7 +100,10 @@ further =
     ∷ "Dictionary(Utf8, Int32)" gives rows 3
     ∷ "Decimal256(76, -128)" gives prints "Decimal256(76, -128)"
     ∷ "Interval(MonthDayNano)" gives prints "Interval(MonthDayNano)"
-    ∷ "Timestamp(us, Some(\"Europe/Zurich\"))" gives prints "Timestamp(µs, \"Europe/Zurich\")"
+    ∷ "Timestamp(us, Some(\"Europe/Zurich\"))" gives prints "Timestamp(us, \"Europe/Zurich\")"
+    ∷ "Timestamp(us, Some(\"Europe/Zurich\"))" gives prints_in Micro "Timestamp(µs, \"Europe/Zurich\")"
+    ∷ "Struct(\"a\": Duration(Microsecond), \"b\": Time64(µs), \"c\": Time64(ns))" gives prints "Struct(\"a\": Duration(us), \"b\": Time64(us), \"c\": Time64(ns))"
+    ∷ "Struct(\"a\": Duration(Microsecond), \"b\": Time64(us), \"c\": Time64(ns))" gives prints_in Micro "Struct(\"a\": Duration(µs), \"b\": Time64(µs), \"c\": Time64(ns))"
     ∷ "Timestamp(s, Some('a'))" gives refusal 9
     ∷ "Timestamp(s, Some(''))" gives refusal 7
     ∷ "Struct(\"\\a\" b\": Int8)" gives prints "Struct(\"\\\\a\\\" b\": Int8)"

@@ -6,6 +6,7 @@ use Rattle.datatype.specs.Limits.{max_text}
 use Rattle.datatype.specs.Tree.{Forest, ∅, node, Label}
 use Rattle.datatype.specs.Table.{tree_of}
 use Rattle.row_table.specs.Sound.{is_sound}
+use Rattle.display_length.specs.declared.words.Spelling.{Spelling}
 use Rattle.display_length.specs.Display.{display}
 
 -- Printable ASCII without quote marks, 34 and 39, or the backslash, 92.
@@ -19,10 +20,10 @@ all_plain (node l kids next) = all is_plain l.name && all is_plain l.zone && all
 unfoldable pub is_plain_tree : List ℕ → List ℕ → List ℕ → Bool
 is_plain_tree text names table = all_plain (tree_of text names table)
 
--- A tree's printed text is what the spellings give.
-abbrev pub printed : List ℕ → List ℕ → List ℕ → List ℕ
-printed text names table = display (tree_of text names table)
+-- A tree's printed text is what the spelling gives.
+abbrev pub printed : Spelling → List ℕ → List ℕ → List ℕ → List ℕ
+printed spelling text names table = display spelling (tree_of text names table)
 
--- Whether text, name list and row words are a tree that demand 3 speaks of.
-unfoldable pub in_demand3 : List ℕ → List ℕ → List ℕ → Bool
-in_demand3 text names table = is_sound text names table && is_plain_tree text names table && leb (length (printed text names table)) max_text
+-- Whether text, name list and row words are a tree that demand 3 speaks of, where it is printed in a spelling.
+unfoldable pub in_demand3 : Spelling → List ℕ → List ℕ → List ℕ → Bool
+in_demand3 spelling text names table = is_sound text names table && is_plain_tree text names table && leb (length (printed spelling text names table)) max_text

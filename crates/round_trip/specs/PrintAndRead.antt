@@ -9,6 +9,7 @@ use Rattle.row_table.specs.Sound.{is_sound}
 use Rattle.subtrees.specs.Equal.{equal_trees}
 use Rattle.datatype_parse.specs.Parse.{parse_answer, parse_rows}
 use Rattle.datatype_display.specs.Print.{print}
+use Rattle.display_length.specs.declared.words.Spelling.{Spelling}
 use Rattle.round_trip.specs.Plain.{printed, in_demand3}
 use Rattle.round_trip.specs.declared.PrintedAndRead.{PrintedAndRead}
 use Rattle.round_trip.specs.declared.NotReadBack.{NotReadBack}
@@ -39,24 +40,24 @@ abbrev pub answer_to : List ℕ → Out (List ℕ) → Outcome
 answer_to back (refused r) = not_printed r.number
 answer_to back (done s) = outcome_of (length s) (parse_answer s back)
 
-unfoldable pub print_and_read_answer : List ℕ → List ℕ → List ℕ → List ℕ → List ℕ → Outcome
-print_and_read_answer text names table out back = answer_to back (print text names table (length out))
+unfoldable pub print_and_read_answer : Spelling → List ℕ → List ℕ → List ℕ → List ℕ → List ℕ → Outcome
+print_and_read_answer spelling text names table out back = answer_to back (print spelling text names table (length out))
 
 -- What the words lent to the reader hold behind it: what they held before where no text was printed.
 abbrev pub rows_to : List ℕ → Out (List ℕ) → List ℕ
 rows_to back (refused r) = back
 rows_to back (done s) = parse_rows s back
 
-unfoldable pub print_and_read_rows : List ℕ → List ℕ → List ℕ → List ℕ → List ℕ → List ℕ
-print_and_read_rows text names table out back = rows_to back (print text names table (length out))
+unfoldable pub print_and_read_rows : Spelling → List ℕ → List ℕ → List ℕ → List ℕ → List ℕ → List ℕ
+print_and_read_rows spelling text names table out back = rows_to back (print spelling text names table (length out))
 
 -- ---- demand 3
 
 -- Its conditions on the two calls: a tree that it speaks of, and buffers that hold the printed text and the tree's rows.
 -- 1,024 rows always hold these (`demand3-asks` in proofs/PrintAndRead.antt), and 16,384 bytes the text (`large-buffers`).
-pub record Asks3 (text names table out back : List ℕ) : Type 0 where
-  pub tree : T (in_demand3 text names table)
-  pub bytes : length (printed text names table) ≤ length out
+pub record Asks3 (spelling : Spelling) (text names table out back : List ℕ) : Type 0 where
+  pub tree : T (in_demand3 spelling text names table)
+  pub bytes : length (printed spelling text names table) ≤ length out
   pub rows : row_words * count (tree_of text names table) ≤ length back
 
 -- The bytes printed, at the start of the output; the rows filled, at the start of the words lent.
@@ -71,12 +72,13 @@ rows_of (not_printed n) back = []
 rows_of (not_read r) back = []
 
 -- What demand 3 says of an answer and of what the two buffers then hold. What they held before is not in it.
--- Two such trees that are not equal never get one text (`never-one-text` in proofs/PrintAndRead.antt).
-pub record Demand3 (text names table : List ℕ) (answer : Outcome) (out back : List ℕ) : Type 0 where
+-- Two such trees that are not equal never get one text, whatever their spellings (`never-one-text` in
+-- proofs/PrintAndRead.antt).
+pub record Demand3 (spelling : Spelling) (text names table : List ℕ) (answer : Outcome) (out back : List ℕ) : Type 0 where
   -- neither call refuses: the printer answers the printed length, the reader the tree's row count
-  pub answers : answer ≡ tree (length (printed text names table)) (count (tree_of text names table))
+  pub answers : answer ≡ tree (length (printed spelling text names table)) (count (tree_of text names table))
   -- exactly the printed text stands at the start of the output
-  pub bytes : bytes_of answer out ≡ printed text names table
+  pub bytes : bytes_of answer out ≡ printed spelling text names table
   -- the rows filled, with those bytes as their text and the same name list, are a sound tree
   pub sound : T (is_sound (bytes_of answer out) names (rows_of answer back))
   -- equal to the one printed

@@ -4,7 +4,8 @@
 use crate::generate::Random;
 use crate::generate::trees::{self, Letters, Tree};
 use crate::model::{
-    self, Limits, MOST_BYTES, MOST_LEVELS, MOST_ROWS, NAME_LIST, Refused, Row, WORDS, refusal,
+    self, Limits, MOST_BYTES, MOST_LEVELS, MOST_ROWS, NAME_LIST, Refused, Row, Spelling, WORDS,
+    refusal,
 };
 use crate::oracle::{self, Answer, ErrorKind};
 use crate::subject::Subject;
@@ -19,6 +20,9 @@ const BYTE_BEFORE: u8 = 0xa5;
 /// Answers by sort: accepted or printed at 0, refused at the refusal's number.
 pub type Counts = [usize; 20];
 
+/// A printed text, or the number of a refusal.
+type Printed = Result<Vec<u8>, u32>;
+
 pub struct Check<'s> {
     subject: Option<&'s dyn Subject>,
     random: Random,
@@ -27,6 +31,8 @@ pub struct Check<'s> {
     pub by_rust: usize,
     /// Trees that the port printed beside the Rust.
     pub printed: usize,
+    /// Trees whose texts in the two spellings differ, in their units of microseconds alone.
+    pub spelled: usize,
     /// Tables whose parents the port set.
     pub parented: usize,
     /// Refusals of the port whose number and place were compared with the model's.
@@ -42,6 +48,7 @@ impl<'s> Check<'s> {
             differences: 0,
             by_rust: 0,
             printed: 0,
+            spelled: 0,
             parented: 0,
             placed: 0,
             counts: [0; 20],
@@ -145,14 +152,19 @@ impl<'s> Check<'s> {
         }
     }
 
-    /// Prints a sound tree everywhere and asks for its verdict.
+    /// Prints a sound tree everywhere and asks for its verdict. The Rust has a say in one spelling alone.
     fn print_and_judge(&mut self, tree: &Tree, data_type: &arrow_schema::DataType) {
         let rust = oracle::print(data_type, MOST_BYTES);
-        let model = model::print(&tree.text, &tree.list, &tree.words, MOST_BYTES);
-        if model != rust {
+        let printed = in_both(tree);
+        let [plain, model] = &printed;
+        self.spelled += usize::from(plain != model);
+        if let Some(difference) = spellings(tree, plain, model) {
+            self.differ_tree(tree, &difference);
+        }
+        if *model != rust {
             let what = format!(
                 "printed by the model {} by the Rust {}",
-                said(&model),
+                said(model),
                 said(&rust)
             );
             self.differ_tree(tree, &what);
@@ -164,7 +176,7 @@ impl<'s> Check<'s> {
         if verdicts.0 != Ok(verdicts.1) {
             self.differ_tree(tree, &format!("verdicts {verdicts:?}"));
         }
-        self.subject_prints(tree, &model);
+        self.subject_prints(tree, &printed);
         self.port_and_rust(tree, &rust);
     }
 
@@ -185,10 +197,16 @@ impl<'s> Check<'s> {
         self.print_and_judge(tree, &data_type);
     }
 
-    /// Prints a sound tree and reads the printed text, which must give an equal tree if its names
-    /// and zones are plain. Answers the printed text.
-    pub fn round_trip(&mut self, tree: &Tree, letters: Letters) -> Option<Vec<u8>> {
-        let printed = model::print(&tree.text, &tree.list, &tree.words, MOST_BYTES).ok()?;
+    /// Prints a sound tree in a spelling and reads the printed text, which must give an equal tree if its
+    /// names and zones are plain. Answers the printed text.
+    pub fn round_trip(
+        &mut self,
+        spelling: Spelling,
+        tree: &Tree,
+        letters: Letters,
+    ) -> Option<Vec<u8>> {
+        let Tree { text, list, words } = tree;
+        let printed = model::print(spelling, text, list, words, MOST_BYTES).ok()?;
         if letters == Letters::Plain {
             let rows = model::from_words(&tree.words);
             let back = model::read(&printed, Limits::lent(MOST_ROWS));
@@ -228,12 +246,13 @@ impl<'s> Check<'s> {
         if model::sound(&tree.text, &tree.list, &tree.words) {
             self.differ_tree(tree, &format!("sound by the model, but for: {clause}"));
         }
-        let model = model::print(&tree.text, &tree.list, &tree.words, MOST_BYTES);
+        let printed = in_both(tree);
         let verdict = model::verdict(&tree.text, &tree.list, &tree.words);
-        if model != Err(refusal::NOT_SOUND) || verdict != Err(refusal::NOT_SOUND) {
+        let refused = [const { Err(refusal::NOT_SOUND) }; 2];
+        if printed != refused || verdict != Err(refusal::NOT_SOUND) {
             self.differ_tree(tree, "not sound, yet printed or judged");
         }
-        self.subject_prints(tree, &model);
+        self.subject_prints(tree, &printed);
     }
 
     /// Two sound trees: equal by the model exactly if the Rust's types are equal. Answers whether.
@@ -312,39 +331,54 @@ impl<'s> Check<'s> {
         }
     }
 
-    /// The port's printer, with 16,384 bytes and with a random part of them.
-    fn subject_prints(&mut self, tree: &Tree, printed: &Result<Vec<u8>, u32>) {
+    /// The port's printer in both spellings, of which it is given what they print.
+    fn subject_prints(&mut self, tree: &Tree, printed: &[Printed; 2]) {
         self.subject_parents(tree);
+        let lengths = printed
+            .each_ref()
+            .map(|printed| printed.as_ref().map_or(30, Vec::len));
+        for spelling in Spelling::BOTH {
+            self.subject_prints_in(spelling, tree, lengths);
+        }
+    }
+
+    /// The port's printer with as many bytes as each spelling takes, with a random part of them, with 16,384 and
+    /// with more.
+    fn subject_prints_in(&mut self, spelling: Spelling, tree: &Tree, lengths: [usize; 2]) {
         let Some(subject) = self.subject else {
             return;
         };
-        let length = printed.as_ref().map_or(30, Vec::len);
-        let few = self.random.below(length + 1);
+        let few = self.random.below(lengths[1] + 1);
         let more = MOST_BYTES + self.random.below(100);
-        for room in [MOST_BYTES, length, few, more] {
-            let expected = model::print(&tree.text, &tree.list, &tree.words, room);
+        let mut rooms = vec![lengths[0], lengths[1], few, MOST_BYTES, more];
+        rooms.dedup();
+        let Tree { text, list, words } = tree;
+        for room in rooms {
+            let expected = model::print(spelling, text, list, words, room);
             let mut out = vec![BYTE_BEFORE; room];
-            let answer = subject.print(&tree.text, &tree.list, &tree.words, &mut out);
+            let answer = subject.print(spelling, text, list, words, &mut out);
+            let lent = format!("{spelling:?}, {room} bytes lent");
             let mut wanted = expected.clone().unwrap_or_default();
             wanted.resize(room, BYTE_BEFORE);
             let count = expected.map(|printed| printed.len());
             if answer != count {
-                let what = format!("{room} bytes lent: port prints {answer:?}, model {count:?}");
+                let what = format!("{lent}: port prints {answer:?}, model {count:?}");
                 self.differ_tree(tree, &what);
             } else if out != wanted {
-                let what = format!("{room} bytes lent: the port's output is {}", shown(&out));
+                let what = format!("{lent}: the port's output is {}", shown(&out));
                 self.differ_tree(tree, &what);
             }
         }
     }
 
-    /// The port's printer and the Rust's `Display` directly.
-    fn port_and_rust(&mut self, tree: &Tree, rust: &Result<Vec<u8>, u32>) {
+    /// The port's printer, in the Rust's spelling, and the Rust's `Display` directly.
+    fn port_and_rust(&mut self, tree: &Tree, rust: &Printed) {
         let Some(subject) = self.subject else {
             return;
         };
         let mut out = vec![BYTE_BEFORE; MOST_BYTES];
-        let answer = subject.print(&tree.text, &tree.list, &tree.words, &mut out);
+        let Tree { text, list, words } = tree;
+        let answer = subject.print(Spelling::Micro, text, list, words, &mut out);
         let port = answer.map(|length| out[..length.min(MOST_BYTES)].to_vec());
         self.printed += usize::from(port.is_ok());
         if port != *rust {
@@ -356,6 +390,46 @@ impl<'s> Check<'s> {
             self.differ_tree(tree, &what);
         }
     }
+}
+
+/// What the model prints of a tree in each spelling.
+fn in_both(tree: &Tree) -> [Printed; 2] {
+    let Tree { text, list, words } = tree;
+    Spelling::BOTH.map(|spelling| model::print(spelling, text, list, words, MOST_BYTES))
+}
+
+/// What is wrong with a sound tree's two texts, which must differ in the units of microseconds alone, and in all of
+/// them. Either both are refused or none is, but where the longer one alone has no room.
+fn spellings(tree: &Tree, plain: &Printed, micro: &Printed) -> Option<String> {
+    let units = model::microseconds(&model::from_words(&tree.words));
+    let right = match (plain, micro) {
+        (Ok(plain), Ok(micro)) => respelled(plain, micro) == Some(units),
+        (Ok(plain), Err(refusal::NO_ROOM)) => plain.len() + units > MOST_BYTES,
+        (Err(number), Err(other)) => number == other,
+        _ => false,
+    };
+    let said = || format!("{units} units, spelled {} and {}", said(plain), said(micro));
+    (!right).then(said)
+}
+
+/// How many times the second text has `(µs` where the first has `(us`; none if they differ in anything else.
+pub fn respelled(mut plain: &[u8], mut micro: &[u8]) -> Option<usize> {
+    let mut units = 0;
+    let mut before = 0;
+    while let (Some(byte), Some(other)) = (plain.first(), micro.first()) {
+        let (unit, other) = if byte == other {
+            (&plain[..1], &micro[..1])
+        } else if before == b'(' {
+            units += 1;
+            (b"us".as_slice(), "µs".as_bytes())
+        } else {
+            return None;
+        };
+        before = unit[0];
+        plain = plain.strip_prefix(unit)?;
+        micro = micro.strip_prefix(other)?;
+    }
+    (plain.is_empty() && micro.is_empty()).then_some(units)
 }
 
 /// What differs between an answer and the Rust's, if anything does.
@@ -457,7 +531,7 @@ pub fn shown(bytes: &[u8]) -> String {
     format!("`{start}`{more} ({} bytes)", bytes.len())
 }
 
-fn said(printed: &Result<Vec<u8>, u32>) -> String {
+fn said(printed: &Printed) -> String {
     match printed {
         Ok(bytes) => shown(bytes),
         Err(number) => format!("no {number}"),
@@ -473,13 +547,15 @@ pub fn random_tree(check: &mut Check, random: &mut Random, letters: Letters) {
     };
     let tree = trees::sound(random, letters, rows);
     check.sound_tree(&tree);
-    if let Some(printed) = check.round_trip(&tree, letters)
-        && random.one_in(4)
-    {
-        // The printed text is a text like any other.
-        let counts = check.counts;
-        let _ = check.text(&printed);
-        check.counts = counts;
+    for spelling in Spelling::BOTH {
+        if let Some(printed) = check.round_trip(spelling, &tree, letters)
+            && random.one_in(4)
+        {
+            // The printed text is a text like any other.
+            let counts = check.counts;
+            let _ = check.text(&printed);
+            check.counts = counts;
+        }
     }
     if random.one_in(4) {
         if let Some(packed) = trees::packed(&tree)

@@ -2,7 +2,7 @@
 //! callgrind counts those of this program, which repeats one of them N times and 2 N times; the
 //! difference is what N repetitions take. Unlike times they are the same in every run, but for one or two.
 
-use crate::model::{MOST_BYTES, MOST_ROWS, NAME_LIST, WORDS};
+use crate::model::{MOST_BYTES, MOST_ROWS, NAME_LIST, Spelling, WORDS};
 use crate::speed::texts;
 use crate::subject::{Linked, Subject};
 use arrow_schema::DataType;
@@ -124,7 +124,8 @@ fn print(text: &str, side: usize, times: usize) {
             0 => black_box(black_box(&data_type).to_string().len()),
             _ => {
                 let (text, rows) = (black_box(text).as_bytes(), black_box(rows));
-                let printed = Linked.print(text, NAME_LIST, rows, black_box(&mut out));
+                let out = black_box(&mut out);
+                let printed = Linked.print(Spelling::Micro, text, NAME_LIST, rows, out);
                 black_box(printed.expect("printed"))
             }
         };

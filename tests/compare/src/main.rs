@@ -35,7 +35,9 @@ compare texts FILE [seed=N]
 compare tables FILE [seed=N]
     writes damaged tables with their answers, for the same
 compare prints FILE [seed=N]
-    writes trees with what they print, for the same
+    writes trees with what they print in the Rust's spelling, for the same
+compare prints_us FILE [seed=N]
+    writes trees that have microseconds with what they print in the default spelling, for the same
 compare service [seed=N] [texts=N]
     compares the crate that services use with the Rust (with the feature subject)
 compare show
@@ -67,12 +69,13 @@ fn command(arguments: &[String]) -> Result<ExitCode, String> {
     let (name, rest) = arguments.split_first().ok_or("no command")?;
     match name.as_str() {
         "run" => run(&settings(rest, &["seed", "sequences", "texts", "trees"])?),
-        "texts" | "tables" | "prints" => {
+        "texts" | "tables" | "prints" | "prints_us" => {
             let (file, rest) = rest.split_first().ok_or("no file")?;
             let seed = settings(rest, &["seed"])?.get("seed").copied().unwrap_or(1);
             match name.as_str() {
                 "texts" => sample::texts(file, seed),
                 "prints" => prints::prints(file, seed),
+                "prints_us" => prints::prints_us(file, seed),
                 _ => sample::tables(file, seed),
             }
         }
@@ -114,9 +117,11 @@ fn show() -> Result<ExitCode, String> {
             rows.iter()
                 .for_each(|row| println!("  {:?}", row.to_words()));
             let words = model::to_words(&rows);
-            match model::print(&text, model::NAME_LIST, &words, MOST_BYTES) {
-                Ok(printed) => println!("  prints {}", shown(&printed)),
-                Err(number) => println!("  prints no {number}"),
+            for spelling in model::Spelling::BOTH {
+                match model::print(spelling, &text, model::NAME_LIST, &words, MOST_BYTES) {
+                    Ok(printed) => println!("  prints {}", shown(&printed)),
+                    Err(number) => println!("  prints no {number}"),
+                }
             }
         }
         Err((number, place)) => println!("model: no {number} {place}"),
@@ -322,6 +327,7 @@ fn run(settings: &BTreeMap<String, u64>) -> Result<ExitCode, String> {
         .for_each(|(clause, count)| println!("{count:>9}  {clause}"));
 
     println!("\ntrees printed by port and Rust: {}", report.check.printed);
+    println!("trees whose two spellings differ: {}", report.check.spelled);
     println!(
         "tables whose parents the port set: {}",
         report.check.parented

@@ -900,10 +900,30 @@ fn run_ends_rule(node: &Node) -> bool {
 
 // Printing
 
-/// The printed text where that many output bytes are lent.
-pub fn print(text: &[u8], list: &[u8], words: &[u32], room: usize) -> Result<Vec<u8>, u32> {
+/// How microseconds are printed (document 02, [3]).
+#[derive(Clone, Copy, Debug, PartialEq, Eq)]
+pub enum Spelling {
+    /// `us`, where no spelling is named.
+    Us,
+    /// `µs`, as in the Rust.
+    Micro,
+}
+
+impl Spelling {
+    pub const BOTH: [Spelling; 2] = [Spelling::Us, Spelling::Micro];
+}
+
+/// The text printed in a spelling where that many output bytes are lent.
+pub fn print(
+    spelling: Spelling,
+    text: &[u8],
+    list: &[u8],
+    words: &[u32],
+    room: usize,
+) -> Result<Vec<u8>, u32> {
     let root = sound_tree(text, list, words).ok_or(NOT_SOUND)?;
     let mut printer = Printer {
+        spelling,
         text,
         list,
         out: Vec::new(),
@@ -920,6 +940,7 @@ pub fn print(text: &[u8], list: &[u8], words: &[u32], room: usize) -> Result<Vec
 }
 
 struct Printer<'a> {
+    spelling: Spelling,
     text: &'a [u8],
     list: &'a [u8],
     out: Vec<u8>,
@@ -984,7 +1005,11 @@ impl Printer<'_> {
         let row = &node.row;
         let children = &node.children;
         self.say(KINDS[row.kind as usize]);
-        let unit = ["s", "ms", "µs", "ns"];
+        let microseconds = match self.spelling {
+            Spelling::Us => "us",
+            Spelling::Micro => "µs",
+        };
+        let unit = ["s", "ms", microseconds, "ns"];
         match row.kind {
             TIMESTAMP => {
                 self.say(&format!("({}", unit[row.number as usize]));
@@ -1062,6 +1087,13 @@ impl Printer<'_> {
             _ => {}
         }
     }
+}
+
+/// How many rows have microseconds for their unit.
+pub fn microseconds(rows: &[Row]) -> usize {
+    let has_unit = |row: &&Row| matches!(row.kind, TIMESTAMP | TIME32 | TIME64 | DURATION);
+    let units = rows.iter().filter(has_unit);
+    units.filter(|row| row.number == 2).count()
 }
 
 /// The layout verdict: yes (`None`) or the first row that breaks a rule.

@@ -1,10 +1,12 @@
-//! The stored sample of the printer, for a replay without Rust: trees with what they print. README.md has the format.
+//! The stored samples of the printer, for a replay without Rust: trees with what they print, one in the Rust's spelling
+//! and one in the default. README.md has the format.
 
 use crate::check::Check;
 use crate::generate::trees::{self, Letters, Tree, tree};
 use crate::generate::{Random, texts};
 use crate::model::{
-    self, KINDS, Limits, MOST_BYTES, MOST_LEVELS, MOST_ROWS, NAME_LIST, Row, WORDS, kind, refusal,
+    self, KINDS, Limits, MOST_BYTES, MOST_LEVELS, MOST_ROWS, NAME_LIST, Row, Spelling, WORDS, kind,
+    refusal,
 };
 use crate::oracle;
 use crate::sample::{File, Stored, leaf};
@@ -18,6 +20,7 @@ const MOST_LENT: usize = 20_000;
 const LONG: usize = 600;
 
 struct Prints<'s> {
+    spelling: Spelling,
     check: Check<'s>,
     random: Random,
     kept: File,
@@ -27,16 +30,10 @@ struct Prints<'s> {
     kinds: [usize; KINDS.len()],
 }
 
-/// Writes trees with what they print; none while model, Rust and port differ on any.
+/// Writes trees with what they print in the Rust's spelling; none while model, Rust and port differ on any.
 pub fn prints(file: &str, seed: u64) -> Result<ExitCode, String> {
     let subject = subject::linked();
-    let mut prints = Prints {
-        check: Check::new(subject.as_deref(), seed),
-        random: Random::new(seed),
-        kept: File::default(),
-        answers: [0; 20],
-        kinds: [0; KINDS.len()],
-    };
+    let mut prints = Prints::new(Spelling::Micro, Check::new(subject.as_deref(), seed), seed);
     prints.read(500)?;
     prints.sound(Letters::Plain, 200)?;
     prints.sound(Letters::Ascii, 600)?;
@@ -45,24 +42,21 @@ pub fn prints(file: &str, seed: u64) -> Result<ExitCode, String> {
     prints.defaults()?;
     prints.limits()?;
     prints.damaged(400)?;
-    if prints.check.differences() > 0 {
-        println!("nothing is written while there are differences");
-        return Ok(ExitCode::FAILURE);
-    }
-    let missing = KINDS
-        .iter()
-        .zip(prints.kinds)
-        .find(|(_, count)| *count < 10);
-    if let Some((word, count)) = missing {
-        return Err(format!("{word} is printed {count} times only"));
-    }
-    let bytes = prints.kept.write(file, wrong_print())?;
-    let all = prints.kept.records.len();
-    println!("{all} prints, {bytes} bytes in {file}");
-    for number in [0, 17, 18, 19] {
-        println!("{:>6} answered {number}", prints.answers[number]);
-    }
-    Ok(ExitCode::SUCCESS)
+    prints.write(file, &KINDS)
+}
+
+/// Writes trees that have microseconds with what the model prints in the default spelling, none while it differs from
+/// the Rust's text in anything but the units, or from the port's.
+pub fn prints_us(file: &str, seed: u64) -> Result<ExitCode, String> {
+    let subject = subject::linked();
+    let mut prints = Prints::new(Spelling::Us, Check::new(subject.as_deref(), seed), seed);
+    prints.read(4_000)?;
+    prints.sound(Letters::Plain, 2_000)?;
+    prints.sound(Letters::Ascii, 4_000)?;
+    prints.sound(Letters::Any, 1_000)?;
+    prints.limits()?;
+    prints.damaged(1_000)?;
+    prints.write(file, &["Timestamp", "Time64", "Duration"])
 }
 
 fn print_record(tree: &Tree, room: usize, printed: &Result<Vec<u8>, u32>) -> Vec<u8> {
@@ -76,15 +70,57 @@ fn print_record(tree: &Tree, room: usize, printed: &Result<Vec<u8>, u32>) -> Vec
     record.0
 }
 
-/// A tree with a text that is not its own, of the same length.
-fn wrong_print() -> Vec<u8> {
-    print_record(&leaf(b"Int32"), MOST_BYTES, &Ok(b"Int16".to_vec()))
+/// A tree with a text that is not its own: another's, of the same length, or its own in the other spelling.
+fn wrong_print(spelling: Spelling) -> Vec<u8> {
+    let (text, wrong) = match spelling {
+        Spelling::Us => ("Duration(us)", "Duration(µs)"),
+        Spelling::Micro => ("Int32", "Int16"),
+    };
+    print_record(&leaf(text.as_bytes()), MOST_BYTES, &Ok(wrong.into()))
 }
 
-impl Prints<'_> {
-    /// Keeps a tree that prints into so many bytes; fails where model and Rust differ.
+impl<'s> Prints<'s> {
+    fn new(spelling: Spelling, check: Check<'s>, seed: u64) -> Prints<'s> {
+        Prints {
+            spelling,
+            check,
+            random: Random::new(seed),
+            kept: File::default(),
+            answers: [0; 20],
+            kinds: [0; KINDS.len()],
+        }
+    }
+
+    /// Writes what is kept, unless there are differences. Each of these kinds must be printed ten times.
+    fn write(mut self, file: &str, often: &[&str]) -> Result<ExitCode, String> {
+        if self.check.differences() > 0 {
+            println!("nothing is written while there are differences");
+            return Ok(ExitCode::FAILURE);
+        }
+        let missing = KINDS
+            .iter()
+            .zip(self.kinds)
+            .find(|(word, count)| often.contains(word) && *count < 10);
+        if let Some((word, count)) = missing {
+            return Err(format!("{word} is printed {count} times only"));
+        }
+        let bytes = self.kept.write(file, wrong_print(self.spelling))?;
+        let all = self.kept.records.len();
+        println!("{all} prints, {bytes} bytes in {file}");
+        for number in [0, 17, 18, 19] {
+            println!("{:>6} answered {number}", self.answers[number]);
+        }
+        Ok(ExitCode::SUCCESS)
+    }
+
+    /// Keeps a tree that prints into so many bytes; fails where model and Rust differ. In the default spelling a tree
+    /// without microseconds is left out.
     fn keep(&mut self, tree: &Tree, room: usize, long: usize) -> Result<(), String> {
-        let printed = agreed(tree, room)?;
+        let units = model::microseconds(&model::from_words(&tree.words));
+        if self.spelling == Spelling::Us && units == 0 {
+            return Ok(());
+        }
+        let printed = agreed(self.spelling, tree, room)?;
         let record = print_record(tree, room, &printed);
         if record.len() > long || !self.kept.offer(record) {
             return Ok(());
@@ -101,7 +137,8 @@ impl Prints<'_> {
     /// A tree that is sound or not, and a buffer: exact, a byte short, longer, or of any length.
     fn offer(&mut self, tree: &Tree) -> Result<(), String> {
         self.check.any_tree(tree);
-        let printed = model::print(&tree.text, &tree.list, &tree.words, MOST_BYTES);
+        let Tree { text, list, words } = tree;
+        let printed = model::print(self.spelling, text, list, words, MOST_BYTES);
         let length = printed.map_or(30, |printed| printed.len());
         let room = match self.random.below(12) {
             0 => length - 1,
@@ -234,7 +271,7 @@ impl Prints<'_> {
     /// The longest text and one byte more; the deepest tree and one level more.
     fn limits(&mut self) -> Result<(), String> {
         for length in [MOST_BYTES, MOST_BYTES + 1] {
-            let tree = long(length);
+            let tree = long(self.spelling, length);
             self.check.sound_tree(&tree);
             for room in [MOST_BYTES - 1, MOST_BYTES + 1] {
                 self.keep(&tree, room, MOST_LENT)?;
@@ -264,10 +301,13 @@ impl Prints<'_> {
     }
 }
 
-/// What a tree prints into so many bytes: by the Rust, and by the model where it is not sound.
-fn agreed(tree: &Tree, room: usize) -> Result<Result<Vec<u8>, u32>, String> {
+/// What a tree prints into so many bytes: by the Rust, and by the model where it is not sound or in the default spelling.
+fn agreed(spelling: Spelling, tree: &Tree, room: usize) -> Result<Result<Vec<u8>, u32>, String> {
     let Tree { text, list, words } = tree;
-    let model = model::print(text, list, words, room);
+    let model = model::print(spelling, text, list, words, room);
+    if spelling == Spelling::Us {
+        return Ok(model);
+    }
     let rust = if model::sound(text, list, words) {
         oracle::print(&oracle::data_type(text, list, words), room)
     } else {
@@ -299,14 +339,25 @@ fn name(row: Row, start: u32, size: u32) -> Row {
 }
 
 /// A tree with a short text that prints to exactly this many bytes: names of control characters, which print as six
-/// bytes each, and one of letters that fills up.
-fn long(length: usize) -> Tree {
+/// bytes each, and one of letters that fills up. In the default spelling the fields are durations in microseconds.
+fn long(spelling: Spelling, length: usize) -> Tree {
     let text = [[0x1f; 500].as_slice(), &[b'a'; 2_000]].concat();
+    let leaf = match spelling {
+        Spelling::Us => Row {
+            number: 2,
+            ..of(kind::DURATION, 1)
+        },
+        Spelling::Micro => of(kind::INT8, 1),
+    };
     let mut rows = vec![of(kind::STRUCT, 7)];
-    rows.extend([name(of(kind::INT8, 1), 0, 500); 5]);
-    rows.push(name(of(kind::INT8, 1), 500, 1));
-    let short = tree(&text, &rows);
-    let short = oracle::data_type(&short.text, &short.list, &short.words).to_string();
+    rows.extend([name(leaf, 0, 500); 5]);
+    rows.push(name(leaf, 500, 1));
+    let Tree {
+        text: of_short,
+        list,
+        words,
+    } = tree(&text, &rows);
+    let short = model::print(spelling, &of_short, &list, &words, MOST_BYTES).expect("printed");
     rows[6].name_length += (length - short.len()) as u32;
     let tree = tree(&text, &rows);
     assert_eq!(tree.words.len(), 7 * WORDS);

@@ -6,7 +6,7 @@ use crate::generate::trees::{self, Letters, Tree};
 use crate::generate::{Random, Visit, bytes, damage, limits, places, sequences, texts};
 use crate::known;
 use crate::model::{
-    self, KINDS, Limits, MOST_BYTES, MOST_ROWS, NAME_LIST, Refused, Row, WORDS, refusal,
+    self, KINDS, Limits, MOST_BYTES, MOST_ROWS, NAME_LIST, Refused, Row, Spelling, WORDS, refusal,
 };
 use crate::subject;
 use std::collections::BTreeMap;
@@ -213,7 +213,8 @@ fn chosen(seed: u64) -> Vec<Vec<u8>> {
 /// The refusal's number, the reader's or the printer's; 0 for neither.
 fn answer(text: &[u8]) -> u32 {
     let printed = model::read(text, Limits::lent(MOST_ROWS))
-        .and_then(|rows| model::print(text, NAME_LIST, &model::to_words(&rows), MOST_BYTES));
+        .map(|rows| model::to_words(&rows))
+        .and_then(|words| model::print(Spelling::Micro, text, NAME_LIST, &words, MOST_BYTES));
     printed.err().unwrap_or(0)
 }
 

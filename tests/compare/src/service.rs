@@ -1,10 +1,10 @@
-//! The crate that services use, in bindings/rust, beside the Rust: reading, every field's view, printing and equality;
-//! of a refused text also number and place, beside the model.
+//! The crate that services use, in bindings/rust, beside the Rust: reading, every field's view, printing as `µs` and
+//! equality; beside the model number and place of a refused text, and printing in the default spelling.
 
 use crate::generate::{Random, Visit, damage, limits, places, texts};
-use crate::model::{self, Limits, MOST_ROWS};
+use crate::model::{self, Limits, MOST_BYTES, MOST_ROWS, NAME_LIST};
 use crate::oracle::{self, Answer, ErrorKind, Row};
-use arrow_types::{DataType, Error, Field, MAX_TEXT, ReadError};
+use arrow_types::{DataType, Error, Field, MAX_TEXT, ReadError, Spelling};
 use std::collections::BTreeMap;
 use std::process::ExitCode;
 
@@ -74,19 +74,39 @@ fn trees(read: &DataType, rust: &arrow_schema::DataType, rows: &[Row]) -> Result
     if read.row_count() != rows.len() || fields.any(|(field, row)| row != &seen(field, row)) {
         return Err(format!("{read:?} with other rows than the Rust's"));
     }
-    let printed = match (read.print(), rust.to_string()) {
+    let plain = printed_by_default(read)?;
+    let printed = match (read.print_with(Spelling::Micro), rust.to_string()) {
         (Ok(printed), other) if printed == other => printed,
         (Err(Error::NotAscii), _) if !rows.iter().all(is_ascii) => return Ok(true),
         (Err(Error::PrintTooLong), other) if other.len() > MAX_TEXT => return Ok(true),
         (printed, other) => return Err(format!("prints {printed:?}, and the Rust {other}")),
     };
     let again = printed.parse().as_ref() == Ok(read);
+    if again != plain.is_ok_and(|plain| plain.parse().as_ref() == Ok(read)) {
+        return Err(format!(
+            "{printed} reads back equal: {again}, and not as `us`"
+        ));
+    }
     let same = again
         == printed
             .parse()
             .is_ok_and(|again: arrow_schema::DataType| &again == rust);
     same.then_some(true)
         .ok_or(format!("{printed} reads back equal: {again}"))
+}
+
+/// What the crate prints where no spelling is named, which the model prints too.
+fn printed_by_default(read: &DataType) -> Result<Result<String, Error>, String> {
+    let printed = read.print();
+    let (spelling, text) = (model::Spelling::Us, read.text().as_bytes());
+    let model = model::print(spelling, text, NAME_LIST, read.rows(), MOST_BYTES);
+    let same = match (&printed, &model) {
+        (Ok(printed), Ok(model)) => printed.as_bytes() == model,
+        (Err(error), Err(number)) => error.number() == *number,
+        _ => false,
+    };
+    same.then(|| printed.clone())
+        .ok_or_else(|| format!("prints {printed:?} by default, and the model {model:?}"))
 }
 
 fn is_ascii(row: &Row) -> bool {

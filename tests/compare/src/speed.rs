@@ -1,7 +1,7 @@
 //! How fast the port reads beside the Rust's `from_str` and prints beside its `to_string`: the same
 //! texts, in one process, in turn.
 
-use crate::model::{MOST_BYTES, MOST_ROWS, NAME_LIST, WORDS};
+use crate::model::{MOST_BYTES, MOST_ROWS, NAME_LIST, Spelling, WORDS};
 use crate::subject::{Linked, Subject};
 use arrow_schema::DataType;
 use std::hint::black_box;
@@ -68,12 +68,7 @@ fn print() {
             black_box(black_box(&data_type).to_string());
         });
         let port = fastest(&text, |text| {
-            let rows = black_box(rows);
-            black_box(
-                Linked
-                    .print(text.as_bytes(), NAME_LIST, rows, black_box(&mut out))
-                    .is_ok(),
-            );
+            print_once(text, rows, &mut out);
         });
         println!(
             "{name:<22} {:>7} {count:>6} {rust:>8.0} {port:>8.0} {:>6.1}",
@@ -81,6 +76,13 @@ fn print() {
             rust / port,
         );
     }
+}
+
+/// Prints a tree with the port, in the Rust's spelling.
+fn print_once(text: &str, rows: &[u32], out: &mut [u8]) {
+    let (rows, out) = (black_box(rows), black_box(out));
+    let printed = Linked.print(Spelling::Micro, text.as_bytes(), NAME_LIST, rows, out);
+    black_box(printed.is_ok());
 }
 
 /// Time grows with rows and bytes: 1,023 fields whose name is the whole text, so that it is looked at once for each and
@@ -100,17 +102,12 @@ fn refuse() {
             }
             let mut out = vec![0; MOST_BYTES];
             assert_eq!(
-                Linked.print(text.as_bytes(), NAME_LIST, &rows, &mut out),
+                Linked.print(Spelling::Micro, text.as_bytes(), NAME_LIST, &rows, &mut out),
                 Err(19)
             );
             let start = Instant::now();
             for _ in 0..ROUNDS {
-                let rows = black_box(rows.as_slice());
-                black_box(
-                    Linked
-                        .print(text.as_bytes(), NAME_LIST, rows, black_box(&mut out))
-                        .is_ok(),
-                );
+                print_once(&text, &rows, &mut out);
             }
             let port = start.elapsed().as_nanos() as f64 / ROUNDS as f64;
             println!(

@@ -1,15 +1,22 @@
 //! The port: the static library of the crate `arrow_types`, linked with the feature `subject` (build.rs).
 //! Without that feature only model and Rust are compared.
 
-use crate::model::Refused;
+use crate::model::{Refused, Spelling};
 
 /// What is compared of the port.
 pub trait Subject {
     /// Fills `rows` and answers the row count, or the refusal's number and place.
     fn read(&self, text: &[u8], rows: &mut [u32]) -> Result<usize, Refused>;
 
-    /// Fills `out` and answers the printed length or the refusal's number.
-    fn print(&self, text: &[u8], list: &[u8], rows: &[u32], out: &mut [u8]) -> Result<usize, u32>;
+    /// Prints in a spelling: fills `out` and answers the printed length or the refusal's number.
+    fn print(
+        &self,
+        spelling: Spelling,
+        text: &[u8],
+        list: &[u8],
+        rows: &[u32],
+        out: &mut [u8],
+    ) -> Result<usize, u32>;
 
     /// Sets the parents of rows.
     fn set_parents(&self, rows: &mut [u32]);
@@ -43,6 +50,18 @@ unsafe extern "C" {
     fn arrow_types_rows_to_lend(text_length: usize) -> usize;
 
     fn arrow_types_print(
+        text: *const u8,
+        text_length: usize,
+        list: *const u8,
+        list_length: usize,
+        rows: *const u32,
+        rows_length: usize,
+        out: *mut u8,
+        out_length: usize,
+        length: *mut usize,
+    ) -> u32;
+
+    fn arrow_types_print_micro(
         text: *const u8,
         text_length: usize,
         list: *const u8,
@@ -89,10 +108,21 @@ impl Subject for Linked {
         read
     }
 
-    fn print(&self, text: &[u8], list: &[u8], rows: &[u32], out: &mut [u8]) -> Result<usize, u32> {
+    fn print(
+        &self,
+        spelling: Spelling,
+        text: &[u8],
+        list: &[u8],
+        rows: &[u32],
+        out: &mut [u8],
+    ) -> Result<usize, u32> {
+        let print = match spelling {
+            Spelling::Us => arrow_types_print,
+            Spelling::Micro => arrow_types_print_micro,
+        };
         let mut length = usize::MAX;
         let status = unsafe {
-            arrow_types_print(
+            print(
                 text.as_ptr(),
                 text.len(),
                 list.as_ptr(),

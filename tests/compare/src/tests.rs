@@ -5,7 +5,7 @@ use crate::check::{self, Check};
 use crate::generate::trees::{self, Letters};
 use crate::generate::{Random, damage, texts};
 use crate::known;
-use crate::model::{self, Limits, MOST_BYTES, MOST_ROWS, NAME_LIST, Refused, WORDS};
+use crate::model::{self, Limits, MOST_BYTES, MOST_ROWS, NAME_LIST, Refused, Spelling, WORDS};
 use crate::subject::{self, Subject};
 
 #[test]
@@ -148,7 +148,7 @@ fn wrong_parents_are_not_sound() {
             assert_eq!(model::sound(text.as_bytes(), NAME_LIST, &changed), sound);
             if let Some(port) = subject::linked() {
                 let out = &mut vec![7; MOST_BYTES];
-                let printed = port.print(text.as_bytes(), NAME_LIST, &changed, out);
+                let printed = port.print(Spelling::Us, text.as_bytes(), NAME_LIST, &changed, out);
                 assert_eq!(printed, if sound { Ok(text.len()) } else { Err(17) });
             }
         }
@@ -180,8 +180,84 @@ fn rows_of_eleven_words_are_not_sound() {
     assert!(!model::sound(text.as_bytes(), NAME_LIST, &eleven));
     if let Some(port) = subject::linked() {
         let out = &mut vec![7; MOST_BYTES];
-        let printed = port.print(text.as_bytes(), NAME_LIST, &eleven, out);
+        let printed = port.print(Spelling::Us, text.as_bytes(), NAME_LIST, &eleven, out);
         assert_eq!(printed, Err(17));
+    }
+}
+
+/// What the model prints of a text into so many bytes, and the port too if it is linked.
+fn printed(spelling: Spelling, text: &str, room: usize) -> Result<String, u32> {
+    let (bytes, words) = (text.as_bytes(), words(text));
+    let printed = model::print(spelling, bytes, NAME_LIST, &words, room);
+    if let Some(port) = subject::linked() {
+        let mut out = vec![7; room];
+        let answer = port.print(spelling, bytes, NAME_LIST, &words, &mut out);
+        assert_eq!(answer.map(|length| out[..length].to_vec()), printed);
+    }
+    printed.map(|printed| String::from_utf8(printed).expect("UTF-8"))
+}
+
+#[test]
+fn spellings() {
+    for (text, plain, micro) in [
+        ("Timestamp(us)", "Timestamp(us)", "Timestamp(µs)"),
+        ("Duration(Microsecond)", "Duration(us)", "Duration(µs)"),
+        ("Time64(µs)", "Time64(us)", "Time64(µs)"),
+        ("Time64(ns)", "Time64(ns)", "Time64(ns)"),
+    ] {
+        assert_eq!(printed(Spelling::Us, text, MOST_BYTES), Ok(plain.into()));
+        assert_eq!(printed(Spelling::Micro, text, MOST_BYTES), Ok(micro.into()));
+    }
+}
+
+#[test]
+fn a_length_is_that_of_the_spelling() {
+    let text = "Timestamp(us)";
+    assert_eq!(printed(Spelling::Us, text, 13), Ok(text.into()));
+    assert_eq!(printed(Spelling::Us, text, 12), Err(19));
+    assert_eq!(printed(Spelling::Micro, text, 13), Err(19));
+    let micro = printed(Spelling::Micro, text, 14);
+    assert_eq!(micro, Ok("Timestamp(µs)".into()));
+
+    let around = "Struct(\"\": Time64(us))".len();
+    let longest = format!(
+        "Struct(\"{}\": Time64(us))",
+        "a".repeat(MOST_BYTES - around)
+    );
+    assert_eq!(longest.len(), MOST_BYTES);
+    let plain = printed(Spelling::Us, &longest, MOST_BYTES);
+    assert_eq!(plain.as_ref(), Ok(&longest));
+    assert_eq!(printed(Spelling::Micro, &longest, MOST_BYTES), Err(19));
+}
+
+#[test]
+fn a_name_is_no_unit() {
+    for spelling in Spelling::BOTH {
+        let printed = |text| printed(spelling, text, MOST_BYTES);
+        for text in ["List(Int8, field: '(µs)')", "Struct(\"(us)\": Int8)"] {
+            assert_eq!(printed(text), Ok(text.into()));
+        }
+        assert_eq!(printed("Struct(\"µs\": Timestamp(us))"), Err(18));
+        assert_eq!(printed("Timestamp(us, \"µs\")"), Err(18));
+    }
+}
+
+#[test]
+fn units_alone_differ() {
+    let respelled = |plain: &str, micro: &str| check::respelled(plain.as_bytes(), micro.as_bytes());
+    assert_eq!(respelled("Int8", "Int8"), Some(0));
+    assert_eq!(respelled("Time64(us)", "Time64(µs)"), Some(1));
+    assert_eq!(respelled("a(us)b(us, c)", "a(µs)b(µs, c)"), Some(2));
+    assert_eq!(respelled("a(us)b(us, c)", "a(µs)b(us, c)"), Some(1));
+    for (plain, micro) in [
+        ("Time64(us)", "Time64(µs"),
+        ("Time64(us", "Time64(µs)"),
+        ("Time64(ns)", "Time64(µs)"),
+        ("Time64(µs)", "Time64(us)"),
+        ("\"us\"", "\"µs\""),
+        ("Int8", "Int16"),
+    ] {
+        assert_eq!(respelled(plain, micro), None);
     }
 }
 
@@ -233,7 +309,10 @@ enum Fault {
     SmallRoomForRows,
     OutputBehindTheText,
     OutputOfARefusal,
-    PlainMicroseconds,
+    DefaultOfTheRust,
+    SpellingIgnored,
+    UsMeasuredAsMicro,
+    MicroMeasuredAsUs,
     SoundnessUnasked,
     OneByteOfRoomMissing,
 }
@@ -259,6 +338,18 @@ impl Port {
             (Fault::PlaceOfTheTypesEnd, 16) => without_spaces,
             (Fault::PlaceBeforeTheTypesSpaces, 3 | 4) => without_spaces,
             _ => place,
+        }
+    }
+
+    /// In which spelling the port prints, and whose length it asks for.
+    fn spellings(&self, spelling: Spelling) -> (Spelling, Spelling) {
+        let same = |spelling| (spelling, spelling);
+        match (self.0, spelling) {
+            (Fault::DefaultOfTheRust, _) => same(Spelling::Micro),
+            (Fault::SpellingIgnored, _) => same(Spelling::Us),
+            (Fault::UsMeasuredAsMicro, _) => (spelling, Spelling::Micro),
+            (Fault::MicroMeasuredAsUs, _) => (spelling, Spelling::Us),
+            _ => same(spelling),
         }
     }
 }
@@ -312,7 +403,14 @@ impl Subject for Port {
         }
     }
 
-    fn print(&self, text: &[u8], list: &[u8], rows: &[u32], out: &mut [u8]) -> Result<usize, u32> {
+    fn print(
+        &self,
+        spelling: Spelling,
+        text: &[u8],
+        list: &[u8],
+        rows: &[u32],
+        out: &mut [u8],
+    ) -> Result<usize, u32> {
         let room = match self.0 {
             Fault::OneByteOfRoomMissing => out.len().saturating_sub(1),
             _ => out.len(),
@@ -321,12 +419,11 @@ impl Subject for Port {
         if self.0 == Fault::ParentsUnasked && rows.len() % WORDS == 0 {
             rows = trees::tree(text, &model::from_words(&rows)).words;
         }
-        match model::print(text, list, &rows, room) {
+        let (spelling, measured) = self.spellings(spelling);
+        let in_spelling = |_| model::print(spelling, text, list, &rows, MOST_BYTES);
+        match model::print(measured, text, list, &rows, room).and_then(in_spelling) {
             Ok(mut printed) => {
-                if self.0 == Fault::PlainMicroseconds {
-                    let plain = String::from_utf8_lossy(&printed).replace("(µs", "(us");
-                    printed = plain.into_bytes();
-                }
+                printed.truncate(out.len());
                 out[..printed.len()].copy_from_slice(&printed);
                 if self.0 == Fault::OutputBehindTheText {
                     out[printed.len()..].fill(0);
@@ -410,7 +507,10 @@ fn ports_with_faults_are_caught() {
         Fault::SmallRoomForRows,
         Fault::OutputBehindTheText,
         Fault::OutputOfARefusal,
-        Fault::PlainMicroseconds,
+        Fault::DefaultOfTheRust,
+        Fault::SpellingIgnored,
+        Fault::UsMeasuredAsMicro,
+        Fault::MicroMeasuredAsUs,
         Fault::SoundnessUnasked,
         Fault::OneByteOfRoomMissing,
     ] {

@@ -6,7 +6,7 @@ use Rattle.datatype.specs.Limits.{max_text}
 use Rattle.datatype.specs.Tree.{depth, name_list}
 use Rattle.datatype.specs.Table.{row_words, tree_of}
 use Rattle.output.specs.Digits.{digits}
-use Rattle.datatype_display.specs.Print.{print}
+use Rattle.datatype_display.specs.Print.{default_spelling, print}
 use Rattle.answer_line.specs.Line.{no_line}
 
 -- The bytes s stand at the start of the buffer, and past them what it held before.
@@ -42,4 +42,4 @@ tree_line rows levels (done printed) = ok_head rows levels ++ (printed ++ bytes 
 
 -- The answer to a text that was read into a table.
 unfoldable pub table_line : List ℕ → List ℕ → List ℕ
-table_line text table = tree_line (length table / row_words) (depth (tree_of text name_list table)) (print text name_list table max_text)
+table_line text table = tree_line (length table / row_words) (depth (tree_of text name_list table)) (print default_spelling text name_list table max_text)

@@ -7,7 +7,8 @@ use Rattle.datatype.specs.Kind.{Shape}
 use Rattle.output.specs.Digits.{digits}
 use Rattle.display_length.specs.Display.{hex, escaped, quoted, Shown, nullity_text, field_text, shape_text, type_text, shown}
 use Rattle.display_length.specs.declared.nodes.Node.{Node}
-use Rattle.display_length.specs.Internal.Nodes.{label_in, children_in, levels_below}
+use Rattle.display_length.specs.declared.nodes.Nodes.{Nodes}
+use Rattle.display_length.specs.Internal.Nodes.{label_in, children_in, levels_below, labels_in}
 use Rattle.datatype_display.specs.declared.write.Printer.{Printer}
 
 -- ---- the output
@@ -72,18 +73,22 @@ union_field_text k = bytes ", " ++ (digits k.label.union_id ++ (bytes ": (" ++ (
 
 -- What the types below a node print.
 abbrev pub fields_in : Node → List Shown
-fields_in n = shown (children_in n)
+fields_in n = shown n.whole.now.spelling (children_in n)
 
 -- A node's printed type.
 unfoldable pub text_in : Node → List ℕ
-text_in n = type_text (label_in n) (fields_in n)
+text_in n = type_text n.whole.now.spelling (label_in n) (fields_in n)
 
 abbrev pub shown_in : Node → Shown
 shown_in n = record { label = label_in n; text = text_in n }
 
+-- What nodes side by side print.
+abbrev pub all_shown : Nodes → List Shown
+all_shown ns = shown ns.whole.now.spelling (labels_in ns)
+
 -- What stands behind the kind's word, where the kind has a shape.
 unfoldable pub shape_in : Shape → Node → List ℕ
-shape_in s n = shape_text s (label_in n) (fields_in n)
+shape_in s n = shape_text n.whole.now.spelling s (label_in n) (fields_in n)
 
 -- The first type below a node's.
 pub record HasFirst (n : Node) (child : Node) : Type 0 where

@@ -16,9 +16,9 @@ children_in n = kids_at n.whole.now.tree.text.now n.whole.now.tree.names.now n.w
 abbrev pub levels_below : Node → ℕ
 levels_below n = depth_below n.whole.now.tree.rows.now n.at
 
--- A node's type.
+-- A node's type, in the spelling of its tree.
 abbrev pub length_in : Node → ℕ
-length_in n = length_at n.whole.now.tree.text.now n.whole.now.tree.names.now n.whole.now.tree.rows.now n.at
+length_in n = length_at n.whole.now.spelling n.whole.now.tree.text.now n.whole.now.tree.names.now n.whole.now.tree.rows.now n.at
 
 -- Nodes side by side: their rows, and what they say.
 abbrev pub rows_in : Nodes → Forest Row

@@ -9,6 +9,7 @@ use Rattle.datatype.specs.Table.{rows_at}
 use Rattle.subtrees.specs.Internal.Run.{row_at, forest_at}
 use Rattle.output.specs.Digits.{digits}
 use Rattle.display_length.specs.Display.{kind_text, unit_text, interval_text, mode_text, sorted_text, scale_text, quoted, list_name_text, zone_text}
+use Rattle.display_length.specs.declared.words.Spelling.{Spelling}
 use Rattle.display_length.specs.PrintedLength.{quotes_names, is_ascii, names_ascii}
 
 -- ---- rows
@@ -60,23 +61,23 @@ word_length k = length (kind_text k)
 
 -- What stands behind a kind's word, but for what stands around its children's types: the marks, and what words 4 and 5
 -- and the zone say.
-unfoldable pub behind_length : Shape → Label → ℕ
-behind_length leaf l = 0
-behind_length timestamp l = 2 + length (unit_text l.number) + length (zone_text l.zone)
-behind_length time l = 2 + length (unit_text l.number)
-behind_length interval l = 2 + length (interval_text l.number)
-behind_length fixed l = 2 + length (digits l.number)
-behind_length list l = 2
-behind_length fixed_list l = 5 + length (digits l.number)
-behind_length struct l = 2
-behind_length union l = 2 + length (mode_text l.number)
-behind_length dictionary l = 2
-behind_length decimal l = 4 + length (digits l.number) + length (scale_text l.scale)
-behind_length mapping l = 4 + length (sorted_text l.number)
-behind_length run_end_encoded l = 2
+unfoldable pub behind_length : Spelling → Shape → Label → ℕ
+behind_length spelling leaf l = 0
+behind_length spelling timestamp l = 2 + length (unit_text spelling l.number) + length (zone_text l.zone)
+behind_length spelling time l = 2 + length (unit_text spelling l.number)
+behind_length spelling interval l = 2 + length (interval_text l.number)
+behind_length spelling fixed l = 2 + length (digits l.number)
+behind_length spelling list l = 2
+behind_length spelling fixed_list l = 5 + length (digits l.number)
+behind_length spelling struct l = 2
+behind_length spelling union l = 2 + length (mode_text l.number)
+behind_length spelling dictionary l = 2
+behind_length spelling decimal l = 4 + length (digits l.number) + length (scale_text l.scale)
+behind_length spelling mapping l = 4 + length (sorted_text l.number)
+behind_length spelling run_end_encoded l = 2
 
-unfoldable pub row_length : Label → ℕ
-row_length l = word_length l.kind + behind_length (shape_of l.kind) l
+unfoldable pub row_length : Spelling → Label → ℕ
+row_length spelling l = word_length l.kind + behind_length spelling (shape_of l.kind) l
 
 -- A comma and a space before each child but the first.
 abbrev pub comma_length : Bool → ℕ
@@ -108,15 +109,15 @@ around_length mapping quotes first l = field_length quotes l
 around_length run_end_encoded quotes first l = comma_length first + field_length quotes l
 
 -- The types of a run of children, with what stands around them.
-unfoldable pub children_length : Shape → Bool → Bool → Forest Label → ℕ
-children_length s quotes first ∅ = 0
-children_length s quotes first (node l kids next) =
-    around_length s quotes first l + (row_length l + children_length (shape_of l.kind) (quotes_names (shape_of l.kind) (roots kids)) true kids)
-    + children_length s quotes false next
+unfoldable pub children_length : Spelling → Shape → Bool → Bool → Forest Label → ℕ
+children_length spelling s quotes first ∅ = 0
+children_length spelling s quotes first (node l kids next) =
+    around_length s quotes first l + (row_length spelling l + children_length spelling (shape_of l.kind) (quotes_names (shape_of l.kind) (roots kids)) true kids)
+    + children_length spelling s quotes false next
 
 -- A row's type.
-unfoldable pub type_length : Label → Forest Label → ℕ
-type_length l kids = row_length l + children_length (shape_of l.kind) (quotes_names (shape_of l.kind) (roots kids)) true kids
+unfoldable pub type_length : Spelling → Label → Forest Label → ℕ
+type_length spelling l kids = row_length spelling l + children_length spelling (shape_of l.kind) (quotes_names (shape_of l.kind) (roots kids)) true kids
 
-unfoldable pub length_at : List ℕ → List ℕ → List ℕ → ℕ → ℕ
-length_at text names table i = type_length (label_at text names table i) (kids_at text names table i)
+unfoldable pub length_at : Spelling → List ℕ → List ℕ → List ℕ → ℕ → ℕ
+length_at spelling text names table i = type_length spelling (label_at text names table i) (kids_at text names table i)

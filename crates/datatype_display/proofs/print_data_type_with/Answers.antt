@@ -4,7 +4,7 @@ use native.Mathlib.Omega.{arith}
 use Rattle.display_length.proofs.TreeLaws.{root_levels}
 use Rattle.datatype_display.proofs.Writes.{same_output}
 use Rattle.datatype_display.proofs.Prints.{root-fits, printed-bytes}
-use Rattle.datatype_display.proofs.print_data_type.Goals as goal
+use Rattle.datatype_display.proofs.print_data_type_with.Goals as goal
 
 pub put_type-requires : goal.put_type-requires
 put_type-requires c = (root_levels c.root.result c.root.ensures.at, root-fits _ _ c.root.ensures.whole c.root.ensures.at _ _ c.in_ok-length.ensures _ c.min-room.ensures c.if-room-length.false _ refl refl)
