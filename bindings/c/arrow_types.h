@@ -60,7 +60,7 @@ enum arrow_types_refusal {
     ARROW_TYPES_WRONG_UNION_ID = 15,     /* a union id is negative or used twice */
     ARROW_TYPES_TRAILING_TEXT = 16,      /* something follows the type */
     ARROW_TYPES_NOT_SOUND = 17,          /* text and rows are no sound tree */
-    ARROW_TYPES_NOT_ASCII = 18,          /* a name or zone to print in double quotes is not ASCII */
+    ARROW_TYPES_NOT_LATIN = 18,          /* a name or zone to print in double quotes has a character above U+017F */
     ARROW_TYPES_PRINT_TOO_LONG = 19      /* the printed text is longer than 16,384 bytes or the buffer */
 };
 

@@ -209,8 +209,6 @@ static void printing(void)
     CHECK(out[0] == 'x');
     CHECK(arrow_types_print(TREE(&a), out, 24, &length) == 0);
 
-    CHECK(read_text(&a, "Struct(\"\xc3\xbc\": Int8)") == 0);
-    CHECK(arrow_types_print(TREE(&a), out, sizeof out, &length) == ARROW_TYPES_NOT_ASCII);
 }
 
 /* What is lent to print a name stands in more bytes, which must stay as they were. */
@@ -249,7 +247,10 @@ static size_t expect_name(char *text, const char *name, size_t length)
             at += (size_t)sprintf(text + at, "\\\"");
         else if (name[i] == '\x1f')
             at += (size_t)sprintf(text + at, "\\u{1f}");
-        else
+        else if (i + 1 < length && memcmp(name + i, "\xc2\xa0", 2) == 0) {
+            at += (size_t)sprintf(text + at, "\\u{a0}");
+            i++;
+        } else
             text[at++] = name[i];
     return at + (size_t)sprintf(text + at, "\": Int8)");
 }
@@ -277,21 +278,53 @@ static int is_refused_whole(const char *name, size_t length)
         && printed == 0 && untouched(room, sizeof room);
 }
 
-/* Names of each length, with an escape at each place. */
+/* Names of each length, with an escape or a character of two bytes at each place. */
 static void printing_names(void)
 {
-    static const char escapes[] = {'\t', '"', '\x1f'};
+    static const char *const odd[] = {"\t", "\"", "\x1f", "\xc2\xa0", "\xc3\xbc", "\xc5\xbf"};
     char name[LONGEST_NAME];
     for (size_t length = 1; length <= LONGEST_NAME; length++)
-        for (size_t place = 0; place < length; place++)
-            for (size_t i = 0; i < sizeof escapes; i++) {
+        for (size_t i = 0; i < sizeof odd / sizeof odd[0]; i++)
+            for (size_t place = 0; place + strlen(odd[i]) <= length; place++) {
                 memset(name, 'n', sizeof name);
                 CHECK(stays_inside(name, length, 0));
-                name[place] = escapes[i];
+                memcpy(name + place, odd[i], strlen(odd[i]));
                 CHECK(stays_inside(name, length, 0));
                 CHECK(stays_inside(name, length, AROUND));
                 CHECK(is_refused_whole(name, length));
             }
+}
+
+/* Whether a Struct of one field whose name has so many bytes prints as another text. */
+static int name_prints(const char *name, size_t length, const char *expected)
+{
+    uint8_t out[40];
+    size_t printed = 99;
+    name_field(&a, name, length);
+    return arrow_types_print(TREE(&a), out, sizeof out, &printed) == 0
+        && printed == strlen(expected) && memcmp(out, expected, printed) == 0;
+}
+
+/* Characters above 127 in double quotes: U+00A1 to U+017F but for U+00AD are themselves, those above are refused. */
+static void characters(void)
+{
+    uint8_t out[40];
+    size_t length = 99;
+    CHECK(name_prints("K\xc3\xbc" "che", 6, "Struct(\"K\xc3\xbc" "che\": Int8)"));
+    CHECK(name_prints("\xc2\xa1", 2, "Struct(\"\xc2\xa1\": Int8)"));
+    CHECK(name_prints("\xc5\xbf", 2, "Struct(\"\xc5\xbf\": Int8)"));
+    CHECK(name_prints("a\xc3\xbf", 3, "Struct(\"a\xc3\xbf\": Int8)"));
+    CHECK(name_prints("\xc2\x80", 2, "Struct(\"\\u{80}\": Int8)"));
+    CHECK(name_prints("\xc2\xa0", 2, "Struct(\"\\u{a0}\": Int8)"));
+    CHECK(name_prints("\xc2\xad", 2, "Struct(\"\\u{ad}\": Int8)"));
+
+    memset(out, 'x', sizeof out);
+    name_field(&a, "\xc6\x80", 2);
+    CHECK(arrow_types_print(TREE(&a), out, sizeof out, &length) == ARROW_TYPES_NOT_LATIN);
+    CHECK(length == 0 && out[0] == 'x');
+    CHECK(read_text(&a, "List(Int8, field: '\xc6\x80')") == 0);
+    CHECK(arrow_types_print(TREE(&a), out, sizeof out, &length) == 0);
+    CHECK(length == 23 && memcmp(out, "List(Int8, field: '\xc6\x80')x", 24) == 0);
 }
 
 /* Whether a text is read and printed as two others, the second with the micro sign, the bytes C2 B5. */
@@ -316,6 +349,7 @@ static void spelling(void)
     CHECK(prints("Time64(\xc2\xb5s)", "Time64(us)", "Time64(\xc2\xb5s)"));
     CHECK(prints("Time64(ns)", "Time64(ns)", "Time64(ns)"));
     CHECK(prints("List(Int8, field: '\xc2\xb5s')", "List(Int8, field: '\xc2\xb5s')", "List(Int8, field: '\xc2\xb5s')"));
+    CHECK(prints("Struct(\"\xc2\xb5s\": Int8)", "Struct(\"\xc2\xb5s\": Int8)", "Struct(\"\xc2\xb5s\": Int8)"));
 
     /* With 13 bytes lent the default fits, and the other does not. */
     uint8_t out[20];
@@ -330,10 +364,10 @@ static void spelling(void)
     CHECK(arrow_types_print_micro(TREE(&a), out, 14, &length) == 0);
     CHECK(length == 14 && memcmp(out, "Timestamp(\xc2\xb5s)xxxxxx", sizeof out) == 0);
 
-    /* The other refusals are those of the default; a name is no unit. */
-    CHECK(read_text(&a, "Struct(\"\xc2\xb5s\": Int8)") == 0);
-    CHECK(arrow_types_print(TREE(&a), out, sizeof out, &length) == ARROW_TYPES_NOT_ASCII);
-    CHECK(arrow_types_print_micro(TREE(&a), out, sizeof out, &length) == ARROW_TYPES_NOT_ASCII);
+    /* The other refusals are those of the default. */
+    CHECK(read_text(&a, "Struct(\"\xc6\x80\": Int8)") == 0);
+    CHECK(arrow_types_print(TREE(&a), out, sizeof out, &length) == ARROW_TYPES_NOT_LATIN);
+    CHECK(arrow_types_print_micro(TREE(&a), out, sizeof out, &length) == ARROW_TYPES_NOT_LATIN);
     a.rows[ARROW_TYPES_WORD_KIND] = 41;
     CHECK(arrow_types_print_micro(TREE(&a), out, sizeof out, &length) == ARROW_TYPES_NOT_SOUND);
     CHECK(length == 0);
@@ -492,6 +526,7 @@ int main(void)
     lending();
     printing();
     printing_names();
+    characters();
     spelling();
     longest();
     judging();

@@ -97,7 +97,7 @@ class Whole(unittest.TestCase):
         self.assertEqual(answers(text), b"no 8 0\nno 8 0\nno 2 0\nno 2 0\nno 8 0\nok 1 1 Int8\n")
 
     def test_printer_refuses(self):
-        self.assertEqual(answers('Struct("ä": Int8)\nInt8\n'.encode()), b"no 18\nok 1 1 Int8\n")
+        self.assertEqual(answers('Struct("ƀ": Int8)\nInt8\n'.encode()), b"no 18\nok 1 1 Int8\n")
 
     def test_depth_and_rows(self):
         deep = b"List(" * 63 + b"Int8" + b")" * 63
@@ -121,9 +121,9 @@ class Units(unittest.TestCase):
 
     def test_names(self):
         # a name is no unit
-        text = "List(Duration(us), field: 'µs')"
-        self.assertEqual(answers(text.encode()), f"ok 2 2 {text}\n".encode())
-        self.assertEqual(answers('Struct("µs": Timestamp(us))\n'.encode()), b"no 18\n")
+        for text in ["List(Duration(us), field: 'µs')", 'Struct("(µs)": Timestamp(us))']:
+            with self.subTest(text=text):
+                self.assertEqual(answers(text.encode()), f"ok 2 2 {text}\n".encode())
 
     def test_longest(self):
         # as `µs` it would have a byte too many
@@ -143,6 +143,37 @@ class Units(unittest.TestCase):
             (port.replace("Struct", "struct"), rust, same.DIFFERENT),
         ]:
             self.assertEqual(same.verdict(one.encode(), other.encode()), expected)
+
+
+class Characters(unittest.TestCase):
+    """Above 127 and in double quotes U+00A1 to U+017F but for U+00AD print as themselves, those below by their number."""
+
+    def test_each(self):
+        # each character in a name, a zone and a list's name
+        for number in range(0x80, 0x184):
+            character = chr(number)
+            printed = "\\u{%x}" % number if number <= 0xA0 or number == 0xAD else character
+            named, zoned = 'Struct("a%sz": Int8)', 'Timestamp(s, "%s")'
+            listed = f"List(Int8, field: '{character}')"
+            expected = ["no 18", "no 18"]
+            if number <= 0x17F:
+                expected = ["ok 2 2 " + named % printed, "ok 1 1 " + zoned % printed]
+            text = "\n".join([named % character, zoned % character, listed])
+            with self.subTest(character=f"U+{number:04X}"):
+                self.assertEqual(answers(text.encode()).decode(), "\n".join([*expected, "ok 2 2 " + listed, ""]))
+
+    def test_refused_first(self):
+        # the text would also be too long
+        text = 'Struct("%sƀ": Int8)' % ("\t" * 9000)
+        self.assertEqual(answers(text.encode()), b"no 18\n")
+
+    def test_longest(self):
+        # a no-break space is two bytes, and six where it is printed
+        text = 'Struct("%s": Int8)' % ("\xa0" * 2728)
+        printed = text.replace("\xa0", "\\u{a0}").encode()
+        self.assertEqual(len(printed), 16384)
+        self.assertEqual(answers(text.encode()), b"ok 2 2 " + printed + b"\n")
+        self.assertEqual(answers(text.replace("\xa0", "\xa0\xa0", 1).encode()), b"no 19\n")
 
 
 class Places(unittest.TestCase):

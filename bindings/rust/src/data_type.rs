@@ -146,17 +146,20 @@ impl DataType {
 
     /// The printed text, in the default spelling: with `us` for microseconds.
     ///
-    /// A type can be refused: with [`Error::NotAscii`] if a name or zone that prints in double quotes holds a byte above
-    /// 127, with [`Error::PrintTooLong`] if the text would be longer than 16,384 bytes.
+    /// A type can be refused: with [`Error::NotLatin`] if a name or zone that prints in double quotes holds a character
+    /// above U+017F, with [`Error::PrintTooLong`] if the text would be longer than 16,384 bytes.
     ///
     /// ```
     /// use arrow_types::{DataType, Error};
     ///
-    /// let list: DataType = "List(Int8, field: 'größe')".parse()?;
-    /// assert_eq!(list.print()?, "List(Int8, field: 'größe')");
+    /// let row: DataType = r#"Struct("Küche":Int8)"#.parse()?;
+    /// assert_eq!(row.print()?, r#"Struct("Küche": Int8)"#);
     ///
-    /// let row: DataType = r#"Struct("größe": Int8)"#.parse()?;
-    /// assert_eq!(row.print(), Err(Error::NotAscii));
+    /// let list: DataType = "List(Int8, field: 'дом')".parse()?;
+    /// assert_eq!(list.print()?, "List(Int8, field: 'дом')");
+    ///
+    /// let row: DataType = r#"Struct("дом": Int8)"#.parse()?;
+    /// assert_eq!(row.print(), Err(Error::NotLatin));
     /// # Ok::<(), Error>(())
     /// ```
     pub fn print(&self) -> Result<String, Error> {

@@ -10,11 +10,11 @@ use std::fmt;
 /// ```
 /// use arrow_types::{DataType, Error};
 ///
-/// let row: DataType = r#"Struct("größe": Int8)"#.parse()?;
+/// let row: DataType = r#"Struct("дом": Int8)"#.parse()?;
 /// let error = row.print().unwrap_err();
-/// assert_eq!(error, Error::NotAscii);
+/// assert_eq!(error, Error::NotLatin);
 /// assert_eq!(error.number(), 18);
-/// assert_eq!(error.to_string(), "a name or zone to print in double quotes is not ASCII");
+/// assert_eq!(error.to_string(), "a name or zone to print in double quotes has a character above U+017F");
 /// # Ok::<(), Error>(())
 /// ```
 #[derive(Clone, Copy, Debug, PartialEq, Eq, PartialOrd, Ord, Hash)]
@@ -54,8 +54,8 @@ pub enum Error {
     TrailingText,
     /// Text and rows are no sound tree.
     NotSound,
-    /// A name or zone that would print in double quotes holds a byte above 127.
-    NotAscii,
+    /// A name or zone that would print in double quotes holds a character above U+017F.
+    NotLatin,
     /// The printed text would be longer than 16,384 bytes.
     PrintTooLong,
 }
@@ -80,7 +80,7 @@ impl Error {
         Error::WrongUnionId,
         Error::TrailingText,
         Error::NotSound,
-        Error::NotAscii,
+        Error::NotLatin,
         Error::PrintTooLong,
     ];
 
@@ -114,7 +114,9 @@ impl Error {
             Error::WrongUnionId => "a union id is negative or used twice",
             Error::TrailingText => "something follows the type",
             Error::NotSound => "text and rows are no sound tree",
-            Error::NotAscii => "a name or zone to print in double quotes is not ASCII",
+            Error::NotLatin => {
+                "a name or zone to print in double quotes has a character above U+017F"
+            }
             Error::PrintTooLong => "the printed text is longer than 16,384 bytes or the buffer",
         }
     }

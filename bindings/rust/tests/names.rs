@@ -1,4 +1,5 @@
-//! Double-quoted names as they are printed: as Rust's `{:?}` writes them, escapes wherever they stand, short names and long.
+//! Double-quoted names as they are printed: as Rust's `{:?}` writes them, escapes and characters of two bytes wherever
+//! they stand, short names and long.
 
 use arrow_types::{DataType, Error, ROW_WORDS};
 
@@ -19,13 +20,14 @@ fn assert_printed(name: &str) {
 }
 
 #[test]
-fn an_escape_at_each_place() {
+fn an_odd_character_at_each_place() {
     for length in 1..=70 {
         for place in 0..length {
-            for escape in [
-                "\0", "\t", "\n", "\r", "\u{1}", "\u{1f}", "\u{7f}", "\"", "\\",
+            for odd in [
+                "\0", "\t", "\n", "\r", "\u{1}", "\u{1f}", "\u{7f}", "\"", "\\", "\u{80}",
+                "\u{a0}", "\u{a1}", "\u{ad}", "ü", "\u{ff}", "\u{17f}",
             ] {
-                assert_printed(&("a".repeat(place) + escape + &"z".repeat(length - place - 1)));
+                assert_printed(&("a".repeat(place) + odd + &"z".repeat(length - place - 1)));
             }
         }
     }
@@ -37,6 +39,8 @@ fn escapes_alone_and_none() {
         assert_printed(&"\u{1f}".repeat(length));
         assert_printed(&"\t".repeat(length));
         assert_printed(&" ~".repeat(length));
+        assert_printed(&"\u{ad}".repeat(length));
+        assert_printed(&"\u{a1}ü".repeat(length));
     }
 }
 
@@ -45,6 +49,7 @@ fn runs_between_escapes() {
     for run in 1..=40 {
         assert_printed(&("\n".to_owned() + &"x".repeat(run)).repeat(50));
         assert_printed(&("x".repeat(run) + "\\\"").repeat(50));
+        assert_printed(&("x".repeat(run) + "\u{a0}¿ü").repeat(50));
     }
 }
 

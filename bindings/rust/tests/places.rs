@@ -117,7 +117,7 @@ fn beside_the_printer() {
     }
     assert_eq!(rewritten("List( Int8 )"), Ok("List(Int8)".to_owned()));
     assert_eq!(rewritten("List(@)"), Err(Error::UnknownWord));
-    assert_eq!(rewritten("Timestamp(s, \"дом\")"), Err(Error::NotAscii));
+    assert_eq!(rewritten("Timestamp(s, \"дом\")"), Err(Error::NotLatin));
 }
 
 #[test]

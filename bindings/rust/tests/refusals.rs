@@ -99,18 +99,18 @@ fn of_parts_that_are_not_sound() {
 }
 
 #[test]
-fn of_a_name_or_zone_that_is_not_ascii() {
+fn of_a_name_or_zone_with_a_character_above_u017f() {
     for text in [
-        "Struct(\"ü\": Int8)",
-        "Timestamp(s, \"ü\")",
-        "Union(Sparse, 1: (\"ü\": Int8))",
+        "Struct(\"ƀ\": Int8)",
+        "Timestamp(s, \"ƀ\")",
+        "Union(Sparse, 1: (\"ƀ\": Int8))",
     ] {
         let read: DataType = text.parse().unwrap();
         assert_eq!(read.print().map_err(Error::number), Err(18));
         let mut shown = String::new();
         assert!(write!(shown, "{read}").is_err());
         assert_eq!(shown, "");
-        assert!(format!("{read:?}").contains('ü'));
+        assert!(format!("{read:?}").contains('ƀ'));
     }
 }
 

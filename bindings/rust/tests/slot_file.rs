@@ -104,6 +104,6 @@ fn texts_that_are_refused() {
         message,
         "nothing is written: column 1: the text is not UTF-8, at byte 0\n | <FF>\n | ^"
     );
-    let message = refusal("not_ascii", "Timestamp(s, \"Zürich\")\n".as_bytes());
-    assert!(message.ends_with("to print in double quotes is not ASCII"));
+    let message = refusal("not_latin", "Timestamp(s, \"дом\")\n".as_bytes());
+    assert!(message.ends_with("to print in double quotes has a character above U+017F"));
 }

@@ -45,7 +45,7 @@ fn units_alone_differ() {
     assert_eq!(read.print_with(Spelling::Micro).unwrap(), micro);
 }
 
-/// A micro sign in a name is no unit: it prints as it is in single quotes, and in double quotes it is not ASCII.
+/// A micro sign in a name is no unit: it prints as it is, in single quotes and in double quotes.
 #[test]
 fn a_micro_sign_in_a_name() {
     let list = read("List(Duration(us), field: 'µs')");
@@ -53,15 +53,20 @@ fn a_micro_sign_in_a_name() {
     let micro = list.print_with(Spelling::Micro).unwrap();
     assert_eq!(micro, "List(Duration(µs), field: 'µs')");
 
-    for text in [
-        "Struct(\"µs\": Timestamp(us))",
-        "Timestamp(us, \"µs\")",
-        "Union(Dense, 0: (\"µs\": Int8))",
+    for (text, micro) in [
+        (
+            "Struct(\"(µs)\": Timestamp(us))",
+            "Struct(\"(µs)\": Timestamp(µs))",
+        ),
+        ("Timestamp(us, \"µs\")", "Timestamp(µs, \"µs\")"),
+        (
+            "Union(Dense, 0: (\"us, µs\": Int8))",
+            "Union(Dense, 0: (\"us, µs\": Int8))",
+        ),
     ] {
         let read = read(text);
-        for spelling in [Spelling::Us, Spelling::Micro] {
-            assert_eq!(read.print_with(spelling), Err(Error::NotAscii));
-        }
+        assert_eq!(read.print_with(Spelling::Us).as_deref(), Ok(text));
+        assert_eq!(read.print_with(Spelling::Micro).as_deref(), Ok(micro));
     }
 }
 

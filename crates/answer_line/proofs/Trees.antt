@@ -19,7 +19,7 @@ use Rattle.subtrees.specs.Levels.{levels_of}
 use Rattle.subtrees.proofs.LevelLaws.{levels_few}
 use Rattle.row_table.proofs.DepthLaws.{sound-levels}
 use Rattle.display_length.specs.Display.{display}
-use Rattle.display_length.specs.PrintedLength.{quoted_ascii}
+use Rattle.display_length.specs.PrintedLength.{quoted_latin}
 use Rattle.datatype_display.specs.Print.{default_spelling, print, length_of, print_answer, written, print_bytes}
 use Rattle.answer_line.specs.Line.{no_line, answer_bytes}
 use Rattle.answer_line.specs.Internal.Steps.{Answers, ok_head, HeadLength, Framed, tree_line, table_line}
@@ -31,7 +31,7 @@ print_room : (text names table : List ℕ) (room : ℕ) → 16384 ≤ room → p
 unfolding print
 print_room text names table room h =
     let e : min room 16384 ≡ min 16384 16384 = omega arith in
-    ap (λ (m : ℕ). if is_sound text names table then (if quoted_ascii (tree_of text names table) then (if leb (length (display default_spelling (tree_of text names table))) m then done (display default_spelling (tree_of text names table)) else refuse 19) else refuse 18) else refuse 17) e
+    ap (λ (m : ℕ). if is_sound text names table then (if quoted_latin (tree_of text names table) then (if leb (length (display default_spelling (tree_of text names table))) m then done (display default_spelling (tree_of text names table)) else refuse 19) else refuse 18) else refuse 17) e
 
 -- A printed text is no longer than that.
 short_of : (a b c : Bool) (s t : List ℕ) → (c ≡ true → length s ≤ 16384) → (if a then (if b then (if c then done s else refuse 19) else refuse 18) else refuse 17) ≡ done t → length t ≤ 16384
@@ -43,7 +43,7 @@ short_of false b c s t h e = absurd (let z : ◌≡◌ {A = ℕ} 0 1 = cc in ome
 print_short : (text names table : List ℕ) (s : List ℕ) → print default_spelling text names table 16384 ≡ done s → length s ≤ 16384
 unfolding print
 print_short text names table s e =
-    short_of (is_sound text names table) (quoted_ascii (tree_of text names table)) (leb (length (display default_spelling (tree_of text names table))) 16384) (display default_spelling (tree_of text names table)) s
+    short_of (is_sound text names table) (quoted_latin (tree_of text names table)) (leb (length (display default_spelling (tree_of text names table))) 16384) (display default_spelling (tree_of text names table)) s
     (λ q. leb→le (length (display default_spelling (tree_of text names table))) 16384 (of_true _ q)) e
 
 -- the bytes of a text that is printed; 0 where it is refused

@@ -1,66 +1,81 @@
 -- Double-quoted strings: what a byte is written as, and what the loops of `escape.rt` hold.
 use mathlib.Core.Path.{◌≡◌, refl, sym, ap, ◌∙◌, subst}
 use mathlib.Core.Bool.{Bool, true, false, not, ◌&&◌, ◌||◌}
-use mathlib.Core.List.{List, [], ◌∷◌, ◌++◌, append_assoc, append-nil}
-use Prim.Native.Nat.{ℕ, suc, ◌+◌, ◌-◌, ◌≤◌, ◌<◌}
+use mathlib.Core.List.{List, [], ◌∷◌, ◌++◌, append_assoc}
+use Prim.Native.Nat.{ℕ, zero, suc, ◌+◌, ◌-◌, ◌≤◌, ◌<◌}
 use native.Mathlib.Omega.{arith}
+use native.Mathlib.Numerals.{add-one}
 use lib.ListN.{length, length-append, get_or, set, take, drop, length-drop, take-append-drop}
 use lib.Seq.{sets, length-sets, drop-cons, take-suc, length-take-le, take_all}
 use lib.Dec.{T}
 use Rattle.std.proofs.lemmas.List.{nil_from_length, drop_all, take_rest}
 use Rattle.std.proofs.lemmas.Bool.Decides.{nat_tests}
 use Rattle.tokenizer.specs.Text.{all}
-use Rattle.tokenizer.proofs.Basics.{of_true, and_l, and_r}
+use Rattle.tokenizer.proofs.Basics.{of_true, is_true, and_l, and_r, both}
 use Rattle.datatype.proofs.Sets.{sets_append}
-use Rattle.display_length.specs.Display.{escape, escaped, quoted}
+use Rattle.display_length.specs.Display.{is_lead, escape, escape_next, escaped_from, escaped, quoted}
 use Rattle.datatype_display.specs.declared.write.Printer.{Printer}
-use Rattle.datatype_display.specs.Internal.Steps.{Fits, Ran, Wrote, is_itself, written}
-use Rattle.datatype_display.proofs.Writes.{written_then, written_none, Left, wrote, left_start, left_as, left_fits, left_step, left_last}
+use Rattle.datatype_display.specs.Internal.Steps.{Fits, Ran, Wrote, is_shown, no_lead, is_itself, written}
+use Rattle.datatype_display.proofs.Writes.{written_then, Left, wrote, left_start, left_as, left_fits, left_step, left_end, left_last}
 
 -- ---- what a string becomes
 
-pub escaped_none : escaped [] ≡ []
-unfolding escaped
-escaped_none = refl
+from_none : escaped_from false [] ≡ []
+unfolding escaped_from
+from_none = refl
 
-pub escaped_append : (s t : List ℕ) → escaped (s ++ t) ≡ escaped s ++ escaped t
-unfolding escaped
-escaped_append [] t = refl
-escaped_append (c ∷ s) t = ap (λ (u : List ℕ). escape c ++ u) (escaped_append s t) ∙ sym (append_assoc (escape c) (escaped s) (escaped t))
+-- whether the last byte is C2, behind one that is or not
+abbrev ends_lead : Bool → List ℕ → Bool
+ends_lead lead [] = lead
+ends_lead lead (c ∷ s) = ends_lead (is_lead c) s
 
-escaped_one : (c : ℕ) → escaped (c ∷ []) ≡ escape c
-unfolding escaped
-escaped_one c = append-nil (escape c)
+from_append : (lead : Bool) (s t : List ℕ) → escaped_from lead (s ++ t) ≡ escaped_from lead s ++ escaped_from (ends_lead lead s) t
+unfolding escaped_from
+from_append lead [] t = refl
+from_append lead (c ∷ s) t =
+    ap (λ (u : List ℕ). escape_next lead c ++ u) (from_append (is_lead c) s t)
+    ∙ sym (append_assoc (escape_next lead c) (escaped_from (is_lead c) s) (escaped_from (ends_lead (is_lead c) s) t))
 
-pub escaped_take : (s : List ℕ) (i : ℕ) → i < length s → escaped (take (i + 1) s) ≡ escaped (take i s) ++ escape (get_or s i 0)
-escaped_take s i h =
-    let n : i + 1 ≡ suc i = omega arith in
-    rw (n, take-suc s i 0 h, escaped_append (take i s) (get_or s i 0 ∷ []), escaped_one (get_or s i 0))
-
--- what is left has room for the next byte
-pub escaped_room : (s : List ℕ) (i : ℕ) → i < length s → length (escaped (take i s)) + length (escape (get_or s i 0)) ≤ length (escaped s)
-escaped_room s i h =
-    let n : i + 1 ≡ suc i = omega arith in
-    let e = ap (λ (l : List ℕ). length l) (escaped_take s i h) in
-    let f = length-append (escaped (take i s)) (escape (get_or s i 0)) in
-    let g = ap (λ (l : List ℕ). length (escaped l)) (take-append-drop (i + 1) s) in
-    let k = ap (λ (l : List ℕ). length l) (escaped_append (take (i + 1) s) (drop (i + 1) s)) in
-    let m = length-append (escaped (take (i + 1) s)) (escaped (drop (i + 1) s)) in
-    omega arith
-
-pub escaped_all : (s : List ℕ) (i : ℕ) → length s ≤ i → escaped (take i s) ≡ escaped s
-escaped_all s i h = ap escaped (take_all i s h)
+ends_last : (lead : Bool) (s : List ℕ) (n : ℕ) → length s ≡ suc n → ends_lead lead s ≡ is_lead (get_or s n 0)
+ends_last lead [] n e = absurd (omega arith)
+ends_last lead (c ∷ []) zero e = refl
+ends_last lead (c ∷ []) (suc n) e = absurd (omega arith)
+ends_last lead (c ∷ d ∷ s) zero e = absurd (omega arith)
+ends_last lead (c ∷ d ∷ s) (suc n) e = ends_last (is_lead c) (d ∷ s) n (omega arith)
 
 escape_itself : (c : ℕ) → T (is_itself c) → escape c ≡ c ∷ []
-unfolding is_itself escape
+unfolding is_shown escape
 escape_itself c t = grind (arith, nat_tests)
 
-escaped_themselves : (s : List ℕ) → T (all is_itself s) → escaped s ≡ s
-unfolding escaped
-escaped_themselves [] t = refl
+itself_leads : (c : ℕ) → T (is_itself c) → is_lead c ≡ false
+itself_leads c t = grind (arith, nat_tests)
+
+from_itself : (c : ℕ) (s : List ℕ) → T (is_itself c) → escaped_from false (c ∷ s) ≡ c ∷ escaped_from false s
+unfolding escaped_from escape_next
+from_itself c s t = rw (escape_itself c t, itself_leads c t) refl
+
+escaped_themselves : (s : List ℕ) → T (all is_itself s) → escaped_from false s ≡ s
+escaped_themselves [] t = from_none
 escaped_themselves (c ∷ s) t =
-    ap (λ (l : List ℕ). l ++ escaped s) (escape_itself c (and_l (is_itself c) (all is_itself s) t))
-    ∙ ap (λ (l : List ℕ). c ∷ l) (escaped_themselves s (and_r (is_itself c) (all is_itself s) t))
+    from_itself c s (and_l (is_itself c) (all is_itself s) t) ∙ ap (λ (l : List ℕ). c ∷ l) (escaped_themselves s (and_r (is_itself c) (all is_itself s) t))
+
+-- ---- byte by byte: what is left to write
+
+module _ {before p : Printer} {whole : List ℕ} (s : List ℕ) (lead : Bool) (i : ℕ) (l : Left before whole (escaped_from lead (drop i s)) p) where
+  module _ (h : i < length s) where
+    next_left : Left before whole (escape_next lead (get_or s i 0) ++ escaped_from (is_lead (get_or s i 0)) (drop (i + 1) s)) p
+    unfolding escaped_from
+    next_left = left_as (rw (drop-cons s i 0 h, add-one i) refl) l
+
+    pub next_fits : Fits p (escape_next lead (get_or s i 0))
+    next_fits = left_fits _ next_left
+
+    pub next_step : {q : Printer} → Wrote p (escape_next lead (get_or s i 0)) q → Left before whole (escaped_from (is_lead (get_or s i 0)) (drop (i + 1) s)) q
+    next_step w = left_step next_left w
+
+  pub next_end : length s ≤ i → Wrote before whole p
+  unfolding escaped_from
+  next_end h = left_end (left_as (ap (λ (t : List ℕ). escaped_from lead t) (drop_all i s h)) l)
 
 -- ---- whether a byte is escaped, of the bytes that were looked at and of those that are left
 
@@ -77,16 +92,45 @@ or_false : (f : Bool) → (f || false) ≡ f
 or_false true = refl
 or_false false = refl
 
-module _ (s : List ℕ) (i : ℕ) (found : Bool) (l : not (all is_itself s) ≡ (found || not (all is_itself (drop i s)))) where
-  pub found-more : i < length s → (b : Bool) → b ≡ not (is_itself (get_or s i 0)) → not (all is_itself s) ≡ ((found || b) || not (all is_itself (drop (i + 1) s)))
-  found-more h b e =
+module _ (test : ℕ → Bool) (s : List ℕ) (i : ℕ) (found : Bool) (l : not (all test s) ≡ (found || not (all test (drop i s)))) where
+  more-found : i < length s → (b : Bool) → b ≡ not (test (get_or s i 0)) → not (all test s) ≡ ((found || b) || not (all test (drop (i + 1) s)))
+  more-found h b e =
       let n : suc i ≡ i + 1 = omega arith in
-      l ∙ ap (λ (t : List ℕ). found || not (all is_itself t)) (drop-cons s i 0 h)
-      ∙ or_both found (is_itself (get_or s i 0)) (all is_itself (drop (suc i) s))
+      l ∙ ap (λ (t : List ℕ). found || not (all test t)) (drop-cons s i 0 h)
+      ∙ or_both found (test (get_or s i 0)) (all test (drop (suc i) s))
       ∙ rw (e, n) refl
 
-  pub found-end : length s ≤ i → found ≡ not (all is_itself s)
-  found-end h = sym (l ∙ ap (λ (t : List ℕ). found || not (all is_itself t)) (drop_all i s h) ∙ or_false found)
+  end-found : length s ≤ i → found ≡ not (all test s)
+  end-found h = sym (l ∙ ap (λ (t : List ℕ). found || not (all test t)) (drop_all i s h) ∙ or_false found)
+
+-- of the two tests that a piece is asked by
+module _ (s : List ℕ) (i : ℕ) (found : Bool) where
+  pub found-more : not (all is_shown s) ≡ (found || not (all is_shown (drop i s))) → i < length s → (b : Bool) → b ≡ not (is_shown (get_or s i 0))
+      → not (all is_shown s) ≡ ((found || b) || not (all is_shown (drop (i + 1) s)))
+  found-more l h b e = more-found is_shown s i found l h b e
+
+  pub found-end : not (all is_shown s) ≡ (found || not (all is_shown (drop i s))) → length s ≤ i → found ≡ not (all is_shown s)
+  found-end l h = end-found is_shown s i found l h
+
+  pub lead-more : not (all no_lead s) ≡ (found || not (all no_lead (drop i s))) → i < length s
+      → not (all no_lead s) ≡ ((found || is_lead (get_or s i 0)) || not (all no_lead (drop (i + 1) s)))
+  lead-more l h = more-found no_lead s i found l h (is_lead (get_or s i 0)) (twice (is_lead (get_or s i 0)))
+    where
+      twice : (b : Bool) → b ≡ not (not b)
+      twice true = refl
+      twice false = refl
+
+  pub lead-end : not (all no_lead s) ≡ (found || not (all no_lead (drop i s))) → length s ≤ i → found ≡ not (all no_lead s)
+  lead-end l h = end-found no_lead s i found l h
+
+both_tests : (s : List ℕ) → all is_shown s ≡ true → all no_lead s ≡ true → T (all is_itself s)
+both_tests [] e f = tt
+both_tests (c ∷ s) e f =
+    let a : T (is_shown c && all is_shown s) = of_true _ e in
+    let b : T (no_lead c && all no_lead s) = of_true _ f in
+    both (is_itself c) (all is_itself s)
+    (both (is_shown c) (no_lead c) (and_l (is_shown c) (all is_shown s) a) (and_l (no_lead c) (all no_lead s) b))
+    (both_tests s (is_true _ (and_r (is_shown c) (all is_shown s) a)) (is_true _ (and_r (no_lead c) (all no_lead s) b)))
 
 -- ---- a run of bytes that are written as they are
 
@@ -103,21 +147,20 @@ module _ (before s : List ℕ) (at : ℕ) where
 
     module _ (h : i < length s) (b : Bool) (is : b ≡ is_itself (get_or s i 0)) (so : b ≡ true) where
       -- the byte's own place
-      here : escaped (drop i s) ≡ get_or s i 0 ∷ escaped (drop (suc i) s)
-      unfolding escaped
-      here = ap escaped (drop-cons s i 0 h) ∙ ap (λ (l : List ℕ). l ++ escaped (drop (suc i) s)) (escape_itself (get_or s i 0) (of_true _ (sym is ∙ so)))
+      here : escaped_from false (drop i s) ≡ get_or s i 0 ∷ escaped_from false (drop (suc i) s)
+      here = ap (λ (l : List ℕ). escaped_from false l) (drop-cons s i 0 h) ∙ from_itself (get_or s i 0) (drop (suc i) s) (of_true _ (sym is ∙ so))
 
-      next : take (suc i) s ++ escaped (drop (suc i) s) ≡ escaped s
+      next : take (suc i) s ++ escaped_from false (drop (suc i) s) ≡ escaped_from false s
       next =
-          ap (λ (l : List ℕ). l ++ escaped (drop (suc i) s)) (take-suc s i 0 h)
-          ∙ append_assoc (take i s) (get_or s i 0 ∷ []) (escaped (drop (suc i) s))
+          ap (λ (l : List ℕ). l ++ escaped_from false (drop (suc i) s)) (take-suc s i 0 h)
+          ∙ append_assoc (take i s) (get_or s i 0 ∷ []) (escaped_from false (drop (suc i) s))
           ∙ ap (λ (l : List ℕ). take i s ++ l) (sym here)
           ∙ r.same
 
-      pub ran-room : at + length (escaped s) ≤ length before → at + i < length out
+      pub ran-room : at + length (escaped_from false s) ≤ length before → at + i < length out
       ran-room f =
           let e = ap (λ (l : List ℕ). length l) r.same in
-          let g = length-append (take i s) (escaped (drop i s)) in
+          let g = length-append (take i s) (escaped_from false (drop i s)) in
           let k = ap (λ (l : List ℕ). length l) here in
           let a = run-size in
           let b = ran-kept in
@@ -145,63 +188,67 @@ module _ (before s : List ℕ) (at : ℕ) where
     rest : take (length s - i) (drop i s) ≡ drop i s
     rest = take_all (length s - i) (drop i s) (let e = length-drop i s in omega arith)
 
-pub ran_then : (p : Printer) (s : List ℕ) (i : ℕ) (out : List ℕ) → Ran p.out.now p.at s i out → (q : Printer)
-    → Wrote (record p { out = record p.out { now = out }; at = p.at + i }) (escaped (take (length s - i) (drop i s))) q → Wrote p (escaped s) q
+pub ran_then : (lead : Bool) (p : Printer) (s : List ℕ) (i : ℕ) (out : List ℕ) → lead ≡ false → Ran p.out.now p.at s i out → (q : Printer)
+    → Wrote (record p { out = record p.out { now = out }; at = p.at + i }) (escaped_from lead (take (length s - i) (drop i s))) q → Wrote p (escaped_from lead s) q
 unfolding written
-ran_then p s i out r q w =
+ran_then lead p s i out first r q w =
     let size : length (take i s) ≡ i = length-take-le i s r.few in
     let here : record p { out = record p.out { now = out }; at = p.at + i } ≡ written p (take i s) = rw (r.stored, size) in
     wrote
     (
-    w.is ∙ ap (λ (o : Printer). written o (escaped (take (length s - i) (drop i s)))) here
-    ∙ ap (λ (t : List ℕ). written (written p (take i s)) (escaped t)) (rest p.out.now s p.at i out r)
-    ∙ written_then p (take i s) (escaped (drop i s))
-    ∙ ap (λ (t : List ℕ). written p t) r.same
+    w.is ∙ ap (λ (o : Printer). written o (escaped_from lead (take (length s - i) (drop i s)))) here
+    ∙ ap (λ (t : List ℕ). written (written p (take i s)) (escaped_from lead t)) (rest p.out.now s p.at i out r)
+    ∙ written_then p (take i s) (escaped_from lead (drop i s))
+    ∙ ap (λ (t : List ℕ). written p t) (rw first r.same)
     )
 
 -- ---- a piece
 
-module _ {s : List ℕ} {b : Bool} (tested : b ≡ not (all is_itself s)) (so : b ≡ false) where
-  themselves : escaped s ≡ s
-  themselves = escaped_themselves s (of_true _ (not_false _ (sym tested ∙ so)))
+module _ {s : List ℕ} {lead a b : Bool} (first : lead ≡ false) (tested : a ≡ not (all is_shown s)) (so : a ≡ false) (asked : b ≡ not (all no_lead s)) (is : b ≡ false) where
+  themselves : escaped_from lead s ≡ s
+  themselves = rw first (escaped_themselves s (both_tests s (not_false _ (sym tested ∙ so)) (not_false _ (sym asked ∙ is))))
 
-  pub itself_fits : {p : Printer} → Fits p (escaped s) → Fits p s
+  pub itself_fits : {p : Printer} → Fits p (escaped_from lead s) → Fits p s
   itself_fits {p} f = subst (λ (t : List ℕ). Fits p t) themselves f
 
-  pub itself_wrote : {p q : Printer} → Wrote p s q → Wrote p (escaped s) q
+  pub itself_wrote : {p q : Printer} → Wrote p s q → Wrote p (escaped_from lead s) q
   itself_wrote {p} {q} w = subst (λ (t : List ℕ). Wrote p t q) (sym themselves) w
 
-module _ {before p : Printer} {whole : List ℕ} (rest tail : List ℕ) (n : ℕ) (l : Left before whole (escaped rest ++ tail) p) where
-  front_left : Left before whole (escaped (take n rest) ++ (escaped (drop n rest) ++ tail)) p
+module _ {before p : Printer} {whole : List ℕ} (lead : Bool) (rest tail : List ℕ) (n : ℕ) (l : Left before whole (escaped_from lead rest ++ tail) p) where
+  front_left : Left before whole (escaped_from lead (take n rest) ++ (escaped_from (ends_lead lead (take n rest)) (drop n rest) ++ tail)) p
   front_left =
       left_as
       (
-      ap (λ (t : List ℕ). escaped t ++ tail) (sym (take-append-drop n rest))
-      ∙ ap (λ (t : List ℕ). t ++ tail) (escaped_append (take n rest) (drop n rest))
-      ∙ append_assoc (escaped (take n rest)) (escaped (drop n rest)) tail
+      ap (λ (t : List ℕ). escaped_from lead t ++ tail) (sym (take-append-drop n rest))
+      ∙ ap (λ (t : List ℕ). t ++ tail) (from_append lead (take n rest) (drop n rest))
+      ∙ append_assoc (escaped_from lead (take n rest)) (escaped_from (ends_lead lead (take n rest)) (drop n rest)) tail
       )
       l
 
-  pub piece_fits : {piece : List ℕ} → piece ≡ take n rest → Fits p (escaped piece)
-  piece_fits e = rw e (left_fits (escaped (drop n rest) ++ tail) front_left)
+  pub piece_fits : {piece : List ℕ} → piece ≡ take n rest → Fits p (escaped_from lead piece)
+  piece_fits e = rw e (left_fits _ front_left)
 
-  pub piece_left : {q : Printer} {piece behind : List ℕ} → piece ≡ take n rest → behind ≡ drop n rest → Wrote p (escaped piece) q → Left before whole (escaped behind ++ tail) q
-  piece_left {q} e f w = rw f (left_step front_left (subst (λ (t : List ℕ). Wrote p (escaped t) q) e w))
+  -- behind a piece the next byte is behind the piece's last
+  pub piece_left : {q : Printer} {piece behind : List ℕ} (m : ℕ) → length piece ≡ suc m → piece ≡ take n rest → behind ≡ drop n rest → Wrote p (escaped_from lead piece) q
+      → Left before whole (escaped_from (is_lead (get_or piece m 0)) behind ++ tail) q
+  piece_left {q} {piece} m k e f w =
+      rw (f, ← ends_last lead piece m k, e)
+      (left_step front_left (subst (λ (t : List ℕ). Wrote p (escaped_from lead t) q) e w))
 
 -- ---- what is left behind a run
 
-module _ {before p : Printer} {whole rest out : List ℕ} {n : ℕ} (tail : List ℕ) (l : Left before whole (escaped rest ++ tail) p) (r : Ran p.out.now p.at rest n out) where
-  pub ran_left : Left before whole (escaped (take (length rest - n) (drop n rest)) ++ tail) (record p { out = record p.out { now = out }; at = p.at + n })
+module _ {before p : Printer} {whole rest out : List ℕ} {n : ℕ} (tail : List ℕ) (l : Left before whole (escaped_from false rest ++ tail) p) (r : Ran p.out.now p.at rest n out) where
+  pub ran_left : Left before whole (escaped_from false (take (length rest - n) (drop n rest)) ++ tail) (record p { out = record p.out { now = out }; at = p.at + n })
   unfolding written
   ran_left =
       let size : length (take n rest) ≡ n = length-take-le n rest r.few in
       rw (take_rest rest n)
       (left_step
-      (left_as (ap (λ (t : List ℕ). t ++ tail) (sym r.same) ∙ append_assoc (take n rest) (escaped (drop n rest)) tail) l)
+      (left_as (ap (λ (t : List ℕ). t ++ tail) (sym r.same) ∙ append_assoc (take n rest) (escaped_from false (drop n rest)) tail) l)
       (wrote {before = p} {s = take n rest} (rw (r.stored, size))))
 
-pub none_left : {before p : Printer} {whole : List ℕ} (rest tail : List ℕ) → Left before whole (escaped rest ++ tail) p → length rest ≡ 0 → Left before whole tail p
-none_left rest tail l e = left_as (ap (λ (t : List ℕ). escaped t ++ tail) (nil_from_length rest e) ∙ ap (λ (t : List ℕ). t ++ tail) escaped_none) l
+pub none_left : {before p : Printer} {whole : List ℕ} (rest tail : List ℕ) → Left before whole (escaped_from false rest ++ tail) p → length rest ≡ 0 → Left before whole tail p
+none_left rest tail l e = left_as (ap (λ (t : List ℕ). escaped_from false t ++ tail) (nil_from_length rest e) ∙ ap (λ (t : List ℕ). t ++ tail) from_none) l
 
 pub none_behind : (s : List ℕ) (n : ℕ) → length s ≤ n → length (take (length s - n) (drop n s)) ≡ 0
 none_behind s n h = rw (take_rest s n) (let e = length-drop n s in omega arith)
@@ -214,11 +261,11 @@ mark_wrote p c = wrote refl
 
 module _ {p : Printer} {s out : List ℕ} {n : ℕ} (f : Fits p (quoted s)) (r : Ran (set p.out.now p.at 34) (p.at + 1) s n out) where
   -- what is left behind the first mark and the run
-  start_left : Left p (quoted s) (escaped (take (length s - n) (drop n s)) ++ (34 ∷ [])) (record p { out = record p.out { now = out }; at = p.at + 1 + n })
-  unfolding quoted
+  start_left : Left p (quoted s) (escaped_from false (take (length s - n) (drop n s)) ++ (34 ∷ [])) (record p { out = record p.out { now = out }; at = p.at + 1 + n })
+  unfolding quoted escaped
   start_left = ran_left (34 ∷ []) (left_step {s = 34 ∷ []} (left_start f) (mark_wrote p 34)) r
 
-  pub quoted_rest : {q : Printer} → Wrote (record p { out = record p.out { now = out }; at = p.at + 1 + n }) (escaped (take (length s - n) (drop n s)) ++ (34 ∷ [])) q → Wrote p (quoted s) q
+  pub quoted_rest : {q : Printer} → Wrote (record p { out = record p.out { now = out }; at = p.at + 1 + n }) (escaped_from false (take (length s - n) (drop n s)) ++ (34 ∷ [])) q → Wrote p (quoted s) q
   quoted_rest w = left_last start_left w
 
   pub quoted_all : length s ≤ n → Wrote p (quoted s) (record p { out = record p.out { now = set out (p.at + 1 + n) 34 }; at = p.at + 1 + n + 1 })
@@ -228,4 +275,4 @@ pub ruleset run_steps = (ran-room, ran-more, ran-end)
 
 pub ruleset found_steps = (found-more, found-end)
 
-pub ruleset bytewise = (escaped_none, escaped_take, escaped_room, escaped_all, written_then, written_none, length-append)
+pub ruleset lead_steps = (lead-more, lead-end)

@@ -15,7 +15,7 @@ use Rattle.datatype.specs.Table.{tree_of}
 use Rattle.row_table.specs.Sound.{is_sound}
 use Rattle.display_length.specs.declared.words.Spelling.{Spelling}
 use Rattle.display_length.specs.Display.{display}
-use Rattle.display_length.specs.PrintedLength.{quoted_ascii, printed_length}
+use Rattle.display_length.specs.PrintedLength.{quoted_latin, printed_length}
 use Rattle.display_length.proofs.PrintedLaws.{Prints as Measured, prints, refuses}
 use Rattle.datatype_display.specs.Print.{print, print_answer, print_bytes}
 use Rattle.datatype_display.specs.Internal.Steps.{Fits, Wrote, written, text_in}
@@ -44,7 +44,7 @@ module _ (spelling : Spelling) (text names table before : List ℕ) where
   unfolding print print_answer print_bytes
   prints-refused n h = go (refuses spelling text names table n h)
     where
-      go : ((n ≡ 17) × (is_sound text names table ≡ false)) ⊎ ((n ≡ 18) × (is_sound text names table ≡ true) × (quoted_ascii (tree_of text names table) ≡ false)) → Prints (refuse n) before
+      go : ((n ≡ 17) × (is_sound text names table ≡ false)) ⊎ ((n ≡ 18) × (is_sound text names table ≡ true) × (quoted_latin (tree_of text names table) ≡ false)) → Prints (refuse n) before
       go (inl e) = (rw (e.0, e.1), rw e.1)
       go (inr e) = (rw (e.0, e.1, e.2), rw (e.1, e.2))
 
@@ -60,7 +60,7 @@ module _ (spelling : Spelling) (text names table before : List ℕ) where
 
     too_long : leb (length printed) (min (length before) 16384) ≡ false → Prints (refuse 19) before
     unfolding print print_answer print_bytes
-    too_long l = (rw (measured.sound, measured.ascii, l), rw (measured.sound, measured.ascii, l))
+    too_long l = (rw (measured.sound, measured.latin, l), rw (measured.sound, measured.latin, l))
 
     prints-19 : min (length before) 16384 < n → Prints (refuse 19) before
     prints-19 l = let k = measured.is in too_long (lt-leb (length printed) (min (length before) 16384) (omega arith))
@@ -78,7 +78,7 @@ module _ (spelling : Spelling) (text names table before : List ℕ) where
 
       pub printed-answer : n ≤ room → done n ≡ print_answer spelling text names table before
       unfolding print print_answer
-      printed-answer l = let k = measured.is in rw (measured.sound, measured.ascii, fits l, k)
+      printed-answer l = let k = measured.is in rw (measured.sound, measured.latin, fits l, k)
 
 -- what the length's answer says of the tree
 pub printed-sound : (spelling : Spelling) (text names table : List ℕ) (n : ℕ) → done n ≡ printed_length spelling text names table → T (is_sound text names table)
@@ -109,7 +109,7 @@ module _ (w : SoundTree) (root : Node) (of : root.whole.now ≡ w) (first : root
       let k = m.is in
       let z : 0 + length text ≡ length text = omega arith in
       let stored : after ≡ sets before 0 (text_in root) = ends ∙ ap (λ (r : Printer). r.out.now) c.is ∙ rw (start, lent) in
-      rw (m.sound, m.ascii, fits w.spelling w.tree.text.now w.tree.names.now w.tree.rows.now before n h room is l)
+      rw (m.sound, m.latin, fits w.spelling w.tree.text.now w.tree.names.now w.tree.rows.now before n h room is l)
       (stored ∙ ap (λ (s : List ℕ). sets before 0 s) (root-text root first w of) ∙ sets-eq text before 0 (omega arith) ∙ ap (λ (i : ℕ). text ++ drop i before) z)
 
 -- what `print_data_type` uses

@@ -7,7 +7,7 @@ use Rattle.row_table.specs.Sound.{is_sound}
 use Rattle.display_length.specs.declared.words.Spelling.{Spelling}
 use Rattle.display_length.specs.declared.words.Spelling.TheVariants.{Us}
 use Rattle.display_length.specs.Display.{display}
-use Rattle.display_length.specs.PrintedLength.{quoted_ascii}
+use Rattle.display_length.specs.PrintedLength.{quoted_latin}
 
 -- The spelling where none is named.
 unfoldable pub default_spelling : Spelling
@@ -19,8 +19,8 @@ print spelling text names table room =
     let tree = tree_of text names table in
     let printed = display spelling tree in
     let fits = if leb (length printed) (min room max_text) then done printed else refuse 19 in
-    let ascii = if quoted_ascii tree then fits else refuse 18 in
-    if is_sound text names table then ascii else refuse 17
+    let latin = if quoted_latin tree then fits else refuse 18 in
+    if is_sound text names table then latin else refuse 17
 
 -- What the printer answers: the printed length, or the refusal.
 abbrev pub length_of : Out (List ℕ) → Out ℕ

@@ -1,10 +1,11 @@
 // Double-quoted strings, written as Rust's `{:?}` writes them.
-ghost use Rattle.std.specs.Prelude.{◌≡◌, not, [], ◌∷◌, ◌++◌, ◌+◌, ◌≤◌, ◌<◌, length};
+ghost use Rattle.std.specs.Prelude.{◌≡◌, not, false, [], ◌∷◌, ◌++◌, ◌+◌, ◌≤◌, ◌<◌, length};
 ghost use Rattle.tokenizer.specs.Text.{all};
-ghost use Rattle.display_length.specs.Display.{hex_digit, hex, escape, escaped, quoted};
-ghost use Rattle.datatype_display.specs.Internal.Steps.{Fits, Wrote, Ran, unicode_text, is_itself};
+ghost use Rattle.display_length.specs.Display.{hex_digit, hex, unicode_text, escape, escape_pair, escape_next, escaped_from, quoted};
+ghost use Rattle.datatype_display.specs.Internal.Steps.{Fits, Wrote, Ran, is_shown, no_lead, is_itself};
 
 use crate::write::Printer;
+use display_length::LEAD;
 
 // A lowercase hex digit: `char::from_digit` answers an `Option` of a character, of which a byte would have to be made.
 fn hex_digit(n: u8) -> u8
@@ -17,14 +18,14 @@ fn hex_digit(n: u8) -> u8
     b'a' - 10 + n
 }
 
-// Whether a byte is written as it is: letters, most of all bytes, are told by the fewest tests. With one `matches!` 700
-// names of ten letters take a seventh more.
-#[tactic(auto, unfolding(crate::specs::Internal::Steps::is_itself))]
+// Whether a byte that is not behind C2 is written as it is: letters, most of all bytes, are told by the fewest tests. With
+// one `matches!` 700 names of ten letters take a seventh more.
+#[tactic(auto, unfolding(crate::specs::Internal::Steps::is_shown))]
 fn is_itself(c: u8) -> bool
     ensures { result ≡ is_itself c }
 {
     if b'\\' < c {
-        return c != 127;
+        return c < 127 || 127 < c && c != LEAD;
     }
     if b'"' < c {
         return c != b'\\';
@@ -36,19 +37,31 @@ fn is_itself(c: u8) -> bool
 const PIECE: usize = 16;
 
 // Whether a byte is written as something else. A piece is asked by this: by `is_itself` its bytes are compared one by one,
-// and a name of 16,000 letters takes three times the instructions to print.
-#[tactic(auto, unfolding(crate::specs::Internal::Steps::is_itself))]
+// and a name of 16,000 letters takes three times the instructions.
+#[tactic(auto, unfolding(crate::specs::Internal::Steps::is_shown))]
 fn is_escaped(c: u8) -> bool
-    ensures { result ≡ not (is_itself c) }
+    ensures { result ≡ not (is_shown c) }
 {
     c < b' ' || c == b'"' || c == b'\\' || c == 127
 }
 
-// Whether a byte of a piece is written as something else: each is looked at, with no early exit, so that all are compared
-// at once.
+// Whether a piece has C2: each byte is looked at, with no early exit, so that all are compared at once. Asked in one loop
+// with the next, a name of 16,000 letters takes half as many instructions more.
+#[tactic(auto, using(crate::proofs::Escapes::lead_steps))]
+fn has_lead(piece: &[u8; PIECE]) -> bool
+    ensures { result ≡ not (all no_lead piece.now) }
+{
+    let mut found = false;
+    for c in piece {
+        found |= *c == LEAD;
+    }
+    found
+}
+
+// Whether a byte of a piece is written as something else, looked at in the same way.
 #[tactic(auto, using(crate::proofs::Escapes::found_steps))]
 fn has_escaped(piece: &[u8; PIECE]) -> bool
-    ensures { result ≡ not (all is_itself piece.now) }
+    ensures { result ≡ not (all is_shown piece.now) }
 {
     let mut found = false;
     for c in piece {
@@ -63,7 +76,7 @@ fn has_escaped(piece: &[u8; PIECE]) -> bool
 // ten letters 8 in 100.
 #[tactic(auto, using(crate::proofs::Escapes::run_steps))]
 fn put_run(out: &mut [u8], at: usize, s: &[u8]) -> usize
-    requires { at + length (escaped s.now) ≤ length out.old }
+    requires { at + length (escaped_from false s.now) ≤ length out.old }
     ensures { Ran out.old at s.now result out.new }
 {
     for (i, c) in s.iter().enumerate() {
@@ -76,10 +89,11 @@ fn put_run(out: &mut [u8], at: usize, s: &[u8]) -> usize
 }
 
 // The same of a string that is shorter than a piece; of a longer one it writes nothing. So a short name is written by one
-// loop in a function that calls no other: without that, 700 names of ten letters take 3 in 100 more.
+// loop in a function that calls no other: with pieces looked for before that loop, 700 names of ten letters take 5 in 100
+// more instructions.
 #[tactic(auto, using(crate::proofs::Escapes::ran_none))]
 fn put_short(out: &mut [u8], at: usize, s: &[u8]) -> usize
-    requires { at + length (escaped s.now) ≤ length out.old }
+    requires { at + length (escaped_from false s.now) ≤ length out.old }
     ensures { Ran out.old at s.now result out.new }
 {
     if PIECE <= s.len() {
@@ -101,8 +115,8 @@ impl<'a> Printer<'a> {
         self.put_mark(hex_digit(c % 16));
     }
 
-    // Writes a control character, by its number in hex digits.
-    #[tactic(auto, using(crate::proofs::Writes::writes), unfolding(crate::specs::Internal::Steps::unicode_text))]
+    // Writes a character by its number in hex digits.
+    #[tactic(auto, using(crate::proofs::Writes::writes), unfolding(display_length::specs::Display::unicode_text))]
     fn put_unicode(&mut self, c: u8)
         requires { Fits self.old (unicode_text c) }
         ensures { Wrote self.old (unicode_text c) self.new }
@@ -112,8 +126,8 @@ impl<'a> Printer<'a> {
         self.put_mark(b'}');
     }
 
-    // Writes one byte between the marks.
-    #[tactic(auto, unfolding(display_length::specs::Display::escape, crate::specs::Internal::Steps::unicode_text))]
+    // Writes what is written at a byte between the marks: at C2 nothing.
+    #[tactic(auto, using(crate::proofs::Writes::written_none), unfolding(display_length::specs::Display::escape))]
     fn put_escape(&mut self, c: u8)
         requires { Fits self.old (escape c) }
         ensures { Wrote self.old (escape c) self.new }
@@ -126,65 +140,104 @@ impl<'a> Printer<'a> {
             b'\r' => self.put(b"\\r"),
             b'\n' => self.put(b"\\n"),
             1..32 | 127 => self.put_unicode(c),
+            LEAD => (),
             _ => self.put_mark(c),
         }
     }
 
-    // Writes a string byte by byte.
-    #[tactic(auto, using(crate::proofs::Escapes::bytewise))]
-    fn put_escaped(&mut self, s: &[u8])
-        requires { Fits self.old (escaped s.now) }
-        ensures { Wrote self.old (escaped s.now) self.new }
+    // Writes what is written at a byte behind C2: the character's number, or both bytes.
+    #[tactic(auto, using(crate::proofs::Writes::writes), unfolding(display_length::specs::Display::escape_pair))]
+    fn put_pair(&mut self, c: u8)
+        requires { Fits self.old (escape_pair c) }
+        ensures { Wrote self.old (escape_pair c) self.new }
     {
-        for c in s {
-            self.put_escape(*c);
+        match c {
+            0x80..=0xA0 | 0xAD => self.put_unicode(c),
+            _ => {
+                self.put_mark(LEAD);
+                self.put_mark(c);
+            }
         }
     }
 
-    // Writes a part of what stands between the marks: a run, then byte by byte.
-    fn put_between(&mut self, s: &[u8])
-        requires { Fits self.old (escaped s.now) }
-        ensures { Wrote self.old (escaped s.now) self.new }
+    // Writes what is written at a byte, behind C2 or not.
+    #[tactic(auto, unfolding(display_length::specs::Display::escape_next))]
+    fn put_next(&mut self, lead: bool, c: u8)
+        requires { Fits self.old (escape_next lead c) }
+        ensures { Wrote self.old (escape_next lead c) self.new }
     {
-        let n = put_run(self.out, self.at, s);
-        self.at = self.at + n;
-        self.put_escaped(&s[n..]);
+        if lead {
+            self.put_pair(c);
+        } else {
+            self.put_escape(c);
+        }
+    }
+
+    // Writes a string byte by byte, behind C2 or not.
+    #[tactic(auto, using(crate::proofs::Writes::left_start))]
+    fn put_escaped(&mut self, lead: bool, s: &[u8])
+        requires { Fits self.old (escaped_from lead s.now) }
+        ensures { Wrote self.old (escaped_from lead s.now) self.new }
+    {
+        let mut behind = lead;
+        for c in s {
+            self.put_next(behind, *c);
+            behind = *c == LEAD;
+        }
+    }
+
+    // Writes a part of what stands between the marks: a run, and byte by byte what follows it.
+    fn put_between(&mut self, lead: bool, s: &[u8])
+        requires { Fits self.old (escaped_from lead s.now) }
+        ensures { Wrote self.old (escaped_from lead s.now) self.new }
+    {
+        if lead {
+            self.put_escaped(lead, s);
+        } else {
+            let n = put_run(self.out, self.at, s);
+            self.at = self.at + n;
+            self.put_escaped(lead, &s[n..]);
+        }
     }
 
     // Writes a piece: at once where nothing in it is escaped.
     #[tactic(auto, using(crate::proofs::Escapes::itself_fits))]
-    fn put_piece(&mut self, piece: &[u8; PIECE])
-        requires { Fits self.old (escaped piece.now) }
-        ensures { Wrote self.old (escaped piece.now) self.new }
+    fn put_piece(&mut self, lead: bool, piece: &[u8; PIECE])
+        requires { Fits self.old (escaped_from lead piece.now) }
+        ensures { Wrote self.old (escaped_from lead piece.now) self.new }
     {
-        if has_escaped(piece) {
-            self.put_between(piece);
+        if lead {
+            self.put_escaped(lead, piece);
+        } else if has_escaped(piece) || has_lead(piece) {
+            self.put_between(lead, piece);
         } else {
             self.put(piece);
         }
     }
 
-    // Writes what is left of a string and the mark behind it: piece by piece, then what is shorter than one. It is no part of
-    // `put_quoted`, or 700 names of ten letters take 2 in 100 more.
+    // Writes what is left of a string and the mark behind it. It is no part of `put_quoted`, or 700 names of ten letters take
+    // 4 in 1,000 more.
     #[inline(never)]
     #[tactic(auto, using(crate::proofs::Writes::left_start))]
     fn put_rest(&mut self, s: &[u8])
-        requires { Fits self.old (escaped s.now ++ (34 ∷ [])) }
-        ensures { Wrote self.old (escaped s.now ++ (34 ∷ [])) self.new }
+        requires { Fits self.old (escaped_from false s.now ++ (34 ∷ [])) }
+        ensures { Wrote self.old (escaped_from false s.now ++ (34 ∷ [])) self.new }
     {
         let mut rest = s;
+        let mut lead = false;
         while let Some((piece, behind)) = rest.split_first_chunk::<PIECE>() {
-            self.put_piece(piece);
+            self.put_piece(lead, piece);
+            lead = piece[PIECE - 1] == LEAD;
             rest = behind;
         }
-        self.put_between(rest);
+        self.put_between(lead, rest);
         self.put_mark(b'"');
     }
 
     // Writes a string in double quotes. It is no part of its callers, or 700 names of ten letters take 9 in 1,000 more; and it
     // holds its place itself, which by `put_mark` would be stored and read again around a short string, for 4 in 1,000 more.
     #[inline(never)]
-    #[tactic(auto, unfolding(display_length::specs::Display::quoted))]
+    #[tactic(auto, unfolding(display_length::specs::Display::quoted, display_length::specs::Display::escaped))]
     pub(crate) fn put_quoted(&mut self, s: &[u8])
         requires { Fits self.old (quoted s.now) }
         ensures { Wrote self.old (quoted s.now) self.new }

@@ -12,7 +12,7 @@ use Rattle.datatype.specs.Tree.{part, name_of, zone_of, name_list}
 use Rattle.row_table.proofs.SoundTree.{sound_tree}
 use Rattle.display_length.specs.declared.nodes.SoundTree.{SoundTree as Whole}
 use Rattle.display_length.specs.Internal.Steps.{is_clean, Clean}
-use Rattle.display_length.proofs.AsciiLaws.{name-all, zone-all}
+use Rattle.display_length.proofs.LatinLaws.{name-all, zone-all}
 
 part_short : (s : List ℕ) (start size : ℕ) → length (part s start size) ≤ length s
 part_short s start size = go (leb (start + size) (length s))

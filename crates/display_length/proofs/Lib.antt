@@ -1,6 +1,7 @@
 pub mod Length
-pub mod AsciiLaws
+pub mod LatinLaws
 pub mod StringLaws
+pub mod CharacterLaws
 pub mod WordLaws
 pub mod LengthLaws
 pub mod NodeLaws

@@ -16,7 +16,7 @@ use Rattle.row_table.specs.Sound.{bare, is_sound}
 use Rattle.row_table.proofs.SoundTree.{SoundTree, sound_tree, sound-labels}
 use Rattle.display_length.specs.declared.words.Spelling.{Spelling}
 use Rattle.display_length.specs.Display.{display, display_length}
-use Rattle.display_length.specs.PrintedLength.{quoted_ascii, printed_length}
+use Rattle.display_length.specs.PrintedLength.{quoted_latin, printed_length}
 use Rattle.display_length.proofs.Length.{display_length_lem}
 
 module _ (spelling : Spelling) (text names table : List ℕ) where
@@ -24,11 +24,11 @@ module _ (spelling : Spelling) (text names table : List ℕ) where
   unfolding printed_length
   printed-17 e = rw e
 
-  pub printed-18 : is_sound text names table ≡ true → (r : Bool) → r ≡ quoted_ascii (tree_of text names table) → r ≡ false → refuse 18 ≡ printed_length spelling text names table
+  pub printed-18 : is_sound text names table ≡ true → (r : Bool) → r ≡ quoted_latin (tree_of text names table) → r ≡ false → refuse 18 ≡ printed_length spelling text names table
   unfolding printed_length
   printed-18 e r is f = rw (e, sym is ∙ f)
 
-  pub printed-length : is_sound text names table ≡ true → (r : Bool) → r ≡ quoted_ascii (tree_of text names table) → r ≡ true → (n : ℕ) → n ≡ display_length spelling (tree_of text names table)
+  pub printed-length : is_sound text names table ≡ true → (r : Bool) → r ≡ quoted_latin (tree_of text names table) → r ≡ true → (n : ℕ) → n ≡ display_length spelling (tree_of text names table)
       → done n ≡ printed_length spelling text names table
   unfolding printed_length
   printed-length e r is f n so = rw (e, sym is ∙ f, so)
@@ -45,30 +45,30 @@ module _ (spelling : Spelling) (text names table : List ℕ) where
   -- what holds where a length is answered
   pub record Prints (n : ℕ) : Type 0 where
     pub sound : is_sound text names table ≡ true
-    pub ascii : quoted_ascii (tree_of text names table) ≡ true
+    pub latin : quoted_latin (tree_of text names table) ≡ true
     pub is : n ≡ length (display spelling (tree_of text names table))
 
 module _ (spelling : Spelling) (text names table : List ℕ) where
   -- both laws go by the two tests
-  means : (sound ascii : Bool) → is_sound text names table ≡ sound → quoted_ascii (tree_of text names table) ≡ ascii
-      → printed_length spelling text names table ≡ (if sound then (if ascii then done (display_length spelling (tree_of text names table)) else refuse 18) else refuse 17)
+  means : (sound latin : Bool) → is_sound text names table ≡ sound → quoted_latin (tree_of text names table) ≡ latin
+      → printed_length spelling text names table ≡ (if sound then (if latin then done (display_length spelling (tree_of text names table)) else refuse 18) else refuse 17)
   unfolding printed_length
-  means sound ascii e f = rw (e, f)
+  means sound latin e f = rw (e, f)
 
   -- where a length is answered
   pub prints : (n : ℕ) → done n ≡ printed_length spelling text names table → Prints spelling text names table n
-  prints n h = go (is_sound text names table) (quoted_ascii (tree_of text names table)) refl refl
+  prints n h = go (is_sound text names table) (quoted_latin (tree_of text names table)) refl refl
     where
-      go : (sound ascii : Bool) → is_sound text names table ≡ sound → quoted_ascii (tree_of text names table) ≡ ascii → Prints spelling text names table n
+      go : (sound latin : Bool) → is_sound text names table ≡ sound → quoted_latin (tree_of text names table) ≡ latin → Prints spelling text names table n
       go true true e f =
           let d : ◌≡◌ {A = Out ℕ} (done n) (done (display_length spelling (tree_of text names table))) = h ∙ means true true e f in
           let k : n ≡ display_length spelling (tree_of text names table) = cc in
-          record { sound = e; ascii = f; is = k ∙ sound-length spelling text names table (of_true _ e) }
+          record { sound = e; latin = f; is = k ∙ sound-length spelling text names table (of_true _ e) }
       go true false e f =
           let d : ◌≡◌ {A = Out ℕ} (done n) (refuse 18) = h ∙ means true false e f in
           let z : ◌≡◌ {A = ℕ} 0 1 = cc in absurd (omega arith)
-      go false ascii e f =
-          let d : ◌≡◌ {A = Out ℕ} (done n) (refuse 17) = h ∙ means false ascii e f in
+      go false latin e f =
+          let d : ◌≡◌ {A = Out ℕ} (done n) (refuse 17) = h ∙ means false latin e f in
           let z : ◌≡◌ {A = ℕ} 0 1 = cc in absurd (omega arith)
 
   -- a refusal's number
@@ -78,17 +78,17 @@ module _ (spelling : Spelling) (text names table : List ℕ) where
 
   -- where a refusal is answered
   pub refuses : (n : ℕ) → refuse n ≡ printed_length spelling text names table
-      → ((n ≡ 17) × (is_sound text names table ≡ false)) ⊎ ((n ≡ 18) × (is_sound text names table ≡ true) × (quoted_ascii (tree_of text names table) ≡ false))
-  refuses n h = go (is_sound text names table) (quoted_ascii (tree_of text names table)) refl refl
+      → ((n ≡ 17) × (is_sound text names table ≡ false)) ⊎ ((n ≡ 18) × (is_sound text names table ≡ true) × (quoted_latin (tree_of text names table) ≡ false))
+  refuses n h = go (is_sound text names table) (quoted_latin (tree_of text names table)) refl refl
     where
-      go : (sound ascii : Bool) → is_sound text names table ≡ sound → quoted_ascii (tree_of text names table) ≡ ascii
-          → ((n ≡ 17) × (is_sound text names table ≡ false)) ⊎ ((n ≡ 18) × (is_sound text names table ≡ true) × (quoted_ascii (tree_of text names table) ≡ false))
+      go : (sound latin : Bool) → is_sound text names table ≡ sound → quoted_latin (tree_of text names table) ≡ latin
+          → ((n ≡ 17) × (is_sound text names table ≡ false)) ⊎ ((n ≡ 18) × (is_sound text names table ≡ true) × (quoted_latin (tree_of text names table) ≡ false))
       go true true e f =
           let d : ◌≡◌ {A = Out ℕ} (refuse n) (done (display_length spelling (tree_of text names table))) = h ∙ means true true e f in
           let z : ◌≡◌ {A = ℕ} 0 1 = cc in absurd (omega arith)
       go true false e f =
           let d : ◌≡◌ {A = Out ℕ} (refuse n) (refuse 18) = h ∙ means true false e f in
           inr (ap number d, e, f)
-      go false ascii e f =
-          let d : ◌≡◌ {A = Out ℕ} (refuse n) (refuse 17) = h ∙ means false ascii e f in
+      go false latin e f =
+          let d : ◌≡◌ {A = Out ℕ} (refuse n) (refuse 17) = h ∙ means false latin e f in
           inl (ap number d, e)

@@ -3,19 +3,23 @@ use Rattle.std.proofs.lemmas.Bool.Decides.{nat_tests}
 use Rattle.tokenizer.proofs.Basics.{of_true}
 use Rattle.datatype.proofs.KindShapes.{shape_by}
 use Rattle.output.proofs.DigitLaws.{digits_few}
-use Rattle.display_length.proofs.AsciiLaws.{clean_greatest, greatest-go, greatest-end, ascii_is, row_ascii_is, pair_none, pair_one, pair_two, tree-clean, tree-ascii}
+use Rattle.display_length.proofs.LatinLaws.{latin_greatest, clean_heaviest, greatest-go, greatest-end, heaviest-go, heaviest-end, row_latin_is, pair_none, pair_one, pair_two, tree-clean, tree-latin}
 use Rattle.display_length.proofs.CleanLaws.{clean_name, clean_zone}
 use Rattle.display_length.proofs.NodeLaws.{root-some, root-nests, role_said, id_said, number_said, scale_said, name_said, zone_said, next-some, next-nests, next-within, next-rest, all_labels, all_nest, all_levels}
 use Rattle.display_length.proofs.PrintedLaws.{printed-17, printed-18, printed-length}
-use Rattle.display_length.proofs.StringLaws.{sum_few, quoted-counted, quoted-clean, quoted_few, zone-none, zone-some, zone_few, list_name_few}
+use Rattle.display_length.proofs.StringLaws.{escaped_few, left_all, left-next, left-none, quoted-counted, quoted-clean, quoted_few, zone-none, zone-some, zone_few, list_name_few}
 use Rattle.display_length.proofs.TreeLaws.{single_length, single_word, tree-length, root_levels}
 use Rattle.display_length.proofs.WordLaws.{word_few, unit_few, interval_few, mode_few, sorted_few, scale_few, comma_few, nullity_few}
 
 -- ---- strings
 
-pub ruleset is_clean_steps = (clean_greatest, greatest-go, greatest-end)
+pub ruleset is_latin_steps = (latin_greatest, greatest-go, greatest-end)
 
-pub ruleset quoted_steps = (quoted-counted, quoted-clean, sum_few)
+pub ruleset is_clean_steps = (clean_heaviest, heaviest-go, heaviest-end)
+
+pub ruleset escaped_steps = (left_all, left-next, left-none)
+
+pub ruleset quoted_steps = (quoted-counted, quoted-clean, escaped_few)
 
 pub ruleset zone_steps = (zone-none, zone-some, quoted_few)
 
@@ -35,9 +39,9 @@ pub ruleset around_steps = (shape_by, nat_tests, role_said, id_said, comma_few, 
 
 pub ruleset pair_steps = (pair_none, pair_one, pair_two)
 
-pub ruleset row_ascii_steps = (zone_said, ascii_is, row_ascii_is)
+pub ruleset row_latin_steps = (zone_said, row_latin_is)
 
-pub ruleset tree_ascii_steps = (ascii_is, tree-clean, tree-ascii, all_labels, all_nest, all_levels)
+pub ruleset tree_latin_steps = (tree-clean, tree-latin, all_labels, all_nest, all_levels)
 
 -- ---- the whole tree
 

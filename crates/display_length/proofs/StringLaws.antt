@@ -1,83 +1,102 @@
 -- The lengths of double-quoted strings: what the functions of `strings.rt` count.
-use Rattle.std.specs.Prelude.{if◌then◌else◌, sum_by}
-use mathlib.Core.Path.{◌≡◌, refl, sym, ◌∙◌, subst}
+use Rattle.std.specs.Prelude.{if◌then◌else◌}
+use mathlib.Core.Path.{◌≡◌, refl, sym, ◌∙◌}
 use mathlib.Core.Bool.{Bool, true, false, not, ◌&&◌, ◌||◌}
 use mathlib.Core.List.{List, [], ◌∷◌, ◌++◌}
-use Prim.Native.Nat.{ℕ, ◌+◌, ◌*◌, ◌/◌, ◌%◌, ◌≤◌}
+use Prim.Native.Nat.{ℕ, suc, ◌+◌, ◌*◌, ◌/◌, ◌%◌, ◌≤◌, ◌<◌}
 use native.Mathlib.Omega.{arith}
-use lib.ListN.{length, length-append}
-use lib.Dec.{T, leb, ltb, eqb, leb→le}
-use borrow.Author.Tests.{le-ltb, eq-eqb, ne_eqb}
+use native.Mathlib.Numerals.{add-one}
+use lib.ListN.{length, length-append, get_or, drop, drop_of_length-le}
+use lib.Seq.{drop-cons}
+use lib.Dec.{T, leb, ltb, eqb}
 use Rattle.std.specs.List.{list_any}
-use Rattle.std.proofs.lemmas.List.Sums.{sum_by-cons}
+use Rattle.std.proofs.lemmas.Bool.Decides.{nat_tests}
 use Rattle.tokenizer.specs.Text.{bytes, all, same}
 use Rattle.tokenizer.proofs.Basics.{and_l, and_r, of_true}
-use Rattle.display_length.specs.Display.{hex_digit, escape, escaped, quoted, zone_text, list_name_text}
+use Rattle.display_length.specs.Display.{hex_digit, unicode_text, is_lead, escape, escape_pair, escape_next, escaped_from, escaped, quoted, zone_text, list_name_text}
 use Rattle.display_length.specs.Internal.Steps.{is_clean, is_no_mark}
 
 -- ---- one byte between the marks
 
 module _ (c : ℕ) where
-  escape_rest : 32 ≤ c → (c ≡ 34 → ⊥) → (c ≡ 92 → ⊥) → (c ≡ 127 → ⊥) → 1 ≡ length (escape c)
-  unfolding escape
-  escape_rest h p q d =
-      rw (ne_eqb c 34 p, ne_eqb c 92 q, ne_eqb c 0 (λ e. omega arith), ne_eqb c 9 (λ e. omega arith), ne_eqb c 13 (λ e. omega arith), ne_eqb c 10 (λ e. omega arith), le-ltb c 32 h, ne_eqb c 127 d)
+  escape_clean : T (is_clean c) → T (is_no_mark c) → escape c ≡ c ∷ []
+  unfolding escape is_clean is_no_mark
+  escape_clean t u = grind (arith, nat_tests)
+
+  clean_leads : T (is_clean c) → is_lead c ≡ false
+  unfolding is_clean
+  clean_leads t = grind (arith, nat_tests)
 
   escape_few : length (escape c) ≤ 6
-  unfolding escape
-  escape_few = go (eqb c 34) (eqb c 92) (eqb c 0) (eqb c 9) (eqb c 13) (eqb c 10) (ltb c 32 || eqb c 127) (ltb c 16)
+  unfolding escape unicode_text
+  escape_few = go (eqb c 34) (eqb c 92) (eqb c 0) (eqb c 9) (eqb c 13) (eqb c 10) (ltb c 32 || eqb c 127) (ltb c 16) (is_lead c)
     where
-      go : (q s z t r n u o : Bool)
-          → length (if q then bytes "\\\"" else if s then bytes "\\\\" else if z then bytes "\\0" else if t then bytes "\\t" else if r then bytes "\\r" else if n then bytes "\\n" else if u then (bytes "\\u{" ++ ((if o then hex_digit c ∷ [] else hex_digit (c / 16) ∷ hex_digit (c % 16) ∷ []) ++ bytes "}")) else c ∷ [])
+      go : (q s z t r n u o l : Bool)
+          → length (if q then bytes "\\\"" else if s then bytes "\\\\" else if z then bytes "\\0" else if t then bytes "\\t" else if r then bytes "\\r" else if n then bytes "\\n" else if u then (bytes "\\u{" ++ ((if o then hex_digit c ∷ [] else hex_digit (c / 16) ∷ hex_digit (c % 16) ∷ []) ++ bytes "}")) else if l then [] else c ∷ [])
           ≤ 6
-      go true s z t r n u o = omega arith
-      go false true z t r n u o = omega arith
-      go false false true t r n u o = omega arith
-      go false false false true r n u o = omega arith
-      go false false false false true n u o = omega arith
-      go false false false false false true u o = omega arith
-      go false false false false false false true true = omega arith
-      go false false false false false false true false = omega arith
-      go false false false false false false false o = omega arith
+      go true s z t r n u o l = omega arith
+      go false true z t r n u o l = omega arith
+      go false false true t r n u o l = omega arith
+      go false false false true r n u o l = omega arith
+      go false false false false true n u o l = omega arith
+      go false false false false false true u o l = omega arith
+      go false false false false false false true true l = omega arith
+      go false false false false false false true false l = omega arith
+      go false false false false false false false o true = omega arith
+      go false false false false false false false o false = omega arith
+
+  pair_few : length (escape_pair c) ≤ 6
+  unfolding escape_pair unicode_text
+  pair_few = go ((leb 0x80 c && leb c 0xA0) || eqb c 0xAD) (ltb c 16)
+    where
+      go : (n o : Bool) → length (if n then (bytes "\\u{" ++ ((if o then hex_digit c ∷ [] else hex_digit (c / 16) ∷ hex_digit (c % 16) ∷ []) ++ bytes "}")) else 0xC2 ∷ c ∷ []) ≤ 6
+      go true true = omega arith
+      go true false = omega arith
+      go false o = omega arith
+
+  next_few : (lead : Bool) → length (escape_next lead c) ≤ 6
+  unfolding escape_next
+  next_few true = pair_few
+  next_few false = escape_few
 
 -- ---- a string
 
--- byte by byte
-escaped_sum : (s : List ℕ) → sum_by (λ c. length (escape c)) s ≡ length (escaped s)
-unfolding escaped
-escaped_sum [] = refl
-escaped_sum (c ∷ s) =
-    let e = length-append (escape c) (escaped s) in
-    let f = escaped_sum s in
-    let g = sum_by-cons (λ c. length (escape c)) c s in
+from_few : (lead : Bool) (s : List ℕ) → length (escaped_from lead s) ≤ 6 * length s
+unfolding escaped_from
+from_few lead [] = omega arith
+from_few lead (c ∷ s) =
+    let a = next_few c lead in
+    let b = from_few (is_lead c) s in
+    let e = length-append (escape_next lead c) (escaped_from (is_lead c) s) in
     omega arith
 
-escaped_few : (s : List ℕ) → length (escaped s) ≤ 6 * length s
+pub escaped_few : (s : List ℕ) → length (escaped s) ≤ 6 * length s
 unfolding escaped
-escaped_few [] = omega arith
-escaped_few (c ∷ s) = let a = escape_few c in let b = escaped_few s in let e = length-append (escape c) (escaped s) in omega arith
+escaped_few s = from_few false s
 
-pub sum_few : (s : List ℕ) → sum_by (λ c. length (escape c)) s ≤ 6 * length s
-sum_few s = let e = escaped_sum s in let f = escaped_few s in omega arith
+-- ---- the bytes that are left, behind C2 or not
 
-differs : (x y : ℕ) → T (not (eqb x y)) → x ≡ y → ⊥
-differs x y t e = subst (λ (b : Bool). T (not b)) (eq-eqb x y e) t
+module _ (s : List ℕ) (i : ℕ) (lead : Bool) where
+  pub left-next : i < length s → length (escaped_from lead (drop i s)) ≡ length (escape_next lead (get_or s i 0)) + length (escaped_from (is_lead (get_or s i 0)) (drop (i + 1) s))
+  unfolding escaped_from
+  left-next h = rw (drop-cons s i 0 h, add-one i) (length-append (escape_next lead (get_or s i 0)) (escaped_from (is_lead (get_or s i 0)) (drop (suc i) s)))
+
+  pub left-none : length s ≤ i → length (escaped_from lead (drop i s)) ≡ 0
+  unfolding escaped_from
+  left-none h = rw (drop_of_length-le s h) refl
+
+pub left_all : (s : List ℕ) → length (escaped s) ≡ length (escaped_from false s)
+unfolding escaped
+left_all s = refl
 
 -- of a clean string without double quotes every byte is written as it is
-escaped_clean : (s : List ℕ) → T (all is_clean s) → T (all is_no_mark s) → length (escaped s) ≡ length s
-unfolding escaped is_clean is_no_mark
+escaped_clean : (s : List ℕ) → T (all is_clean s) → T (all is_no_mark s) → length (escaped_from false s) ≡ length s
+unfolding escaped_from escape_next
 escaped_clean [] t u = refl
 escaped_clean (c ∷ s) t u =
-    let a = leb 32 c in
-    let b = not (eqb c 92) in
-    let d = leb c 126 in
-    let this = and_l (a && b && d) (all is_clean s) t in
-    let low = leb→le 32 c (and_l a b (and_l (a && b) d this)) in
-    let high = leb→le c 126 (and_r (a && b) d this) in
-    let one = escape_rest c low (differs c 34 (and_l (not (eqb c 34)) (all is_no_mark s) u)) (differs c 92 (and_r a b (and_l (a && b) d this))) (λ z. omega arith) in
-    let more = escaped_clean s (and_r (a && b && d) (all is_clean s) t) (and_r (not (eqb c 34)) (all is_no_mark s) u) in
-    let e = length-append (escape c) (escaped s) in
-    omega arith
+    let this = and_l (is_clean c) (all is_clean s) t in
+    let more = escaped_clean s (and_r (is_clean c) (all is_clean s) t) (and_r (is_no_mark c) (all is_no_mark s) u) in
+    rw (clean_leads c this, escape_clean c this (and_l (is_no_mark c) (all is_no_mark s) u), more) refl
 
 quoted_length_lem : (s : List ℕ) → length (quoted s) ≡ 2 + length (escaped s)
 unfolding quoted
@@ -97,13 +116,14 @@ no_mark (c ∷ s) = go (eqb c 34) (no_mark s)
     go false e = e
 
 module _ (s : List ℕ) where
-  pub quoted-counted : 2 + sum_by (λ c. length (escape c)) s ≡ length (quoted s)
-  quoted-counted = let e = escaped_sum s in let f = quoted_length_lem s in omega arith
+  pub quoted-counted : 2 + length (escaped s) ≡ length (quoted s)
+  quoted-counted = sym (quoted_length_lem s)
 
   pub quoted-clean : T (all is_clean s) → (p : Bool) → p ≡ list_any (λ c. eqb c 34) s → p ≡ false → 2 + length s ≡ length (quoted s)
   quoted-clean c p is f =
       let n : all is_no_mark s ≡ true = sym (no_mark s) ∙ rw (← is, f) in
       let g = escaped_clean s c (of_true _ n) in
+      let k = left_all s in
       let h = quoted_length_lem s in
       omega arith
 

@@ -1,5 +1,5 @@
 -- The printed text of a tree, and its length (document 01, 'Printing').
-use Rattle.std.specs.Prelude.{Bool, ◌&&◌, ◌||◌, List, [], ◌∷◌, ◌++◌, map, ℕ, zero, suc, ◌+◌, ◌-◌, ◌/◌, ◌%◌, length, get_or, ltb, eqb, if◌then◌else◌}
+use Rattle.std.specs.Prelude.{Bool, true, false, ◌&&◌, ◌||◌, List, [], ◌∷◌, ◌++◌, map, ℕ, zero, suc, ◌+◌, ◌-◌, ◌/◌, ◌%◌, length, get_or, leb, ltb, eqb, if◌then◌else◌}
 use Rattle.tokenizer.specs.Text.{bytes, same}
 use Rattle.tokenizer.specs.Words.{words, ◌is◌}
 use Rattle.tokenizer.specs.declared.TokenKind.TheVariants.{X}
@@ -56,7 +56,15 @@ hex_digit n = if ltb n 10 then 48 + n else (87 + n)
 abbrev pub hex : ℕ → List ℕ
 hex c = if ltb c 16 then hex_digit c ∷ [] else hex_digit (c / 16) ∷ hex_digit (c % 16) ∷ []
 
--- One byte between the marks.
+-- A character up to U+00FF by its number.
+unfoldable pub unicode_text : ℕ → List ℕ
+unicode_text c = bytes "\\u{" ++ (hex c ++ bytes "}")
+
+-- The byte C2 begins the characters U+0080 to U+00BF, and no others; the byte behind it is the character's number.
+abbrev pub is_lead : ℕ → Bool
+is_lead c = eqb c 0xC2
+
+-- What is written at a byte between the marks: at C2 nothing, since what it becomes is written at the byte behind it.
 unfoldable pub escape : ℕ → List ℕ
 escape c =
     if eqb c 34 then bytes "\\\""
@@ -65,12 +73,25 @@ escape c =
     else if eqb c 9 then bytes "\\t"
     else if eqb c 13 then bytes "\\r"
     else if eqb c 10 then bytes "\\n"
-    else if ltb c 32 || eqb c 127 then (bytes "\\u{" ++ (hex c ++ bytes "}"))
+    else if ltb c 32 || eqb c 127 then unicode_text c
+    else if is_lead c then []
     else c ∷ []
 
+-- What is written at a byte behind C2: U+0080 to U+00A0 and U+00AD are written by their number.
+unfoldable pub escape_pair : ℕ → List ℕ
+escape_pair c = if (leb 0x80 c && leb c 0xA0) || eqb c 0xAD then unicode_text c else 0xC2 ∷ c ∷ []
+
+-- The same of a byte behind C2 or not, and of all bytes of a string.
+unfoldable pub escape_next : Bool → ℕ → List ℕ
+escape_next true c = escape_pair c
+escape_next false c = escape c
+
+unfoldable pub escaped_from : Bool → List ℕ → List ℕ
+escaped_from lead [] = []
+escaped_from lead (c ∷ s) = escape_next lead c ++ escaped_from (is_lead c) s
+
 unfoldable pub escaped : List ℕ → List ℕ
-escaped [] = []
-escaped (c ∷ s) = escape c ++ escaped s
+escaped s = escaped_from false s
 
 unfoldable pub quoted : List ℕ → List ℕ
 quoted s = 34 ∷ (escaped s ++ (34 ∷ []))

@@ -28,23 +28,24 @@ quotes_names run_end_encoded [] = false
 quotes_names run_end_encoded (r ∷ []) = false
 quotes_names run_end_encoded (r ∷ v ∷ ks) = not (default_names r v)
 
--- Bytes up to 127 alone.
-abbrev pub is_ascii : List ℕ → Bool
-is_ascii s = all (λ c. leb c 127) s
+-- Characters up to U+017F alone, which are Unicode's blocks Basic Latin, Latin-1 Supplement and Latin Extended-A: in UTF-8,
+-- bytes up to C5.
+abbrev pub is_latin : List ℕ → Bool
+is_latin s = all (λ c. leb c 0xC5) s
 
-abbrev pub names_ascii : List Label → Bool
-names_ascii [] = true
-names_ascii (l ∷ ls) = is_ascii l.name && names_ascii ls
+abbrev pub names_latin : List Label → Bool
+names_latin [] = true
+names_latin (l ∷ ls) = is_latin l.name && names_latin ls
 
--- No double-quoted name or zone holds a byte above 127.
-unfoldable pub quoted_ascii : Forest Label → Bool
-quoted_ascii ∅ = true
-quoted_ascii (node l kids next) =
-    is_ascii l.zone && (not (quotes_names (shape_of l.kind) (roots kids)) || names_ascii (roots kids)) && quoted_ascii kids && quoted_ascii next
+-- No double-quoted name or zone holds a character above U+017F.
+unfoldable pub quoted_latin : Forest Label → Bool
+quoted_latin ∅ = true
+quoted_latin (node l kids next) =
+    is_latin l.zone && (not (quotes_names (shape_of l.kind) (roots kids)) || names_latin (roots kids)) && quoted_latin kids && quoted_latin next
 
 -- How many bytes a tree prints in a spelling, or the refusal.
 unfoldable pub printed_length : Spelling → List ℕ → List ℕ → List ℕ → Out ℕ
 printed_length spelling text names table =
     let tree = tree_of text names table in
-    let ascii = if quoted_ascii tree then done (display_length spelling tree) else refuse 18 in
-    if is_sound text names table then ascii else refuse 17
+    let latin = if quoted_latin tree then done (display_length spelling tree) else refuse 18 in
+    if is_sound text names table then latin else refuse 17

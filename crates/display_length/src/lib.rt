@@ -13,7 +13,7 @@ use row_table::is_sound;
 use tokenizer::Refusal;
 
 mod around;
-mod ascii;
+mod latin;
 mod names;
 mod nodes;
 mod own;
@@ -23,6 +23,7 @@ mod words;
 
 pub use names::are_default_names;
 pub use nodes::{Node, Nodes, SoundTree};
+pub use strings::LEAD;
 pub use words::{Spelling, interval_word, kind_word, mode_word, sorted_word, unit_word};
 
 // How many bytes a tree prints in a spelling.
@@ -38,8 +39,8 @@ pub fn printed_length(spelling: Spelling, tree: Tree<'_>) -> Result<usize, Refus
         spelling,
         clean: is_clean(tree.text),
     };
-    if !whole.is_ascii() {
-        return Err(Refusal::NotAscii);
+    if !whole.is_latin() {
+        return Err(Refusal::NotLatin);
     }
     Ok(whole.root().type_length(MAX_LEVELS))
 }

@@ -1,22 +1,45 @@
-// Strings: whether they are clean, and the lengths of those in double quotes, which are written as Rust's `{:?}` writes
-// them.
-ghost use Rattle.std.specs.Prelude.{◌≡◌, ◌<◌, ◌^◌, length, sum_by};
+// Strings: whether they are Latin and clean, and the lengths of those in double quotes, which are written as Rust's `{:?}`
+// writes them.
+ghost use Rattle.std.specs.Prelude.{◌≡◌, ◌<◌, ◌^◌, length};
 ghost use Rattle.tokenizer.specs.Text.{all};
-ghost use Rattle.display_length.specs.Display.{escape, quoted, zone_text, list_name_text};
+ghost use Rattle.display_length.specs.Display.{escape, escape_pair, escape_next, escaped, quoted, zone_text, list_name_text};
+ghost use Rattle.display_length.specs.PrintedLength.{is_latin};
 ghost use Rattle.display_length.specs.Internal.Steps.{is_clean, clean_weight, Clean};
 
 use datatype::{Field, equal_bytes};
 
-// A byte's weight: at most 126 where it is clean.
+// The first byte of U+0080 to U+00BF; behind it stands the character's number.
+pub const LEAD: u8 = 0xC2;
+
+// The greatest byte of characters up to U+017F.
+const LATIN_TOP: u8 = 0xC5;
+
+// Whether all bytes are of characters up to U+017F: every byte is looked at, with no early exit, so that many are compared
+// at once.
+#[tactic(auto, using(crate::proofs::Rules::is_latin_steps))]
+pub(crate) fn is_latin(s: &[u8]) -> bool
+    ensures { result ≡ is_latin s.now }
+{
+    let mut top = 0u8;
+    for &c in s {
+        top = c.max(top);
+    }
+    top <= LATIN_TOP
+}
+
+// A byte's weight: at most that of a Latin byte where it is clean.
 fn clean_weight(c: u8) -> u8
     ensures { result ≡ clean_weight c }
 {
-    if c < 32 || c == b'\\' { 255 } else { c }
+    if c < 32 || c == b'\\' || c == 127 || c == LEAD {
+        255
+    } else {
+        c
+    }
 }
 
-// Whether all bytes are printable ASCII but for the backslash: every byte is looked at, with no early exit, so that many
-// are compared at once. By `fold` they are compared one by one, and the length of 700 fields takes a third more
-// instructions.
+// Whether all bytes are Latin and none but the double quote is escaped, looked at in the same way. By `fold` they are
+// compared one by one, and the length of 700 fields takes a third more instructions.
 #[tactic(auto, using(crate::proofs::Rules::is_clean_steps))]
 pub(crate) fn is_clean(s: &[u8]) -> bool
     ensures { result ≡ all is_clean s.now }
@@ -25,11 +48,11 @@ pub(crate) fn is_clean(s: &[u8]) -> bool
     for &c in s {
         top = clean_weight(c).max(top);
     }
-    top <= 126
+    top <= LATIN_TOP
 }
 
-// How many bytes a byte becomes between the marks.
-#[tactic(auto, unfolding(crate::specs::Display::escape))]
+// How many bytes are written at a byte between the marks.
+#[tactic(auto, unfolding(crate::specs::Display::escape, crate::specs::Display::unicode_text))]
 fn escape_length(c: u8) -> usize
     ensures { result ≡ length (escape c) }
 {
@@ -37,16 +60,47 @@ fn escape_length(c: u8) -> usize
         b'"' | b'\\' | 0 | b'\t' | b'\r' | b'\n' => b"\\n".len(),
         1..=15 => b"\\u{f}".len(),
         16..=31 | 127 => b"\\u{1f}".len(),
+        LEAD => 0,
         _ => 1,
     }
 }
 
-// How long a string is between the marks, byte by byte.
-fn escaped_length(s: &[u8]) -> usize
-    requires { sum_by (λ c. length (escape c)) s.now < 2 ^ 64 }
-    ensures { result ≡ sum_by (λ c. length (escape c)) s.now }
+// How many bytes are written at a byte behind C2.
+#[tactic(auto, unfolding(crate::specs::Display::escape_pair, crate::specs::Display::unicode_text))]
+fn pair_length(c: u8) -> usize
+    ensures { result ≡ length (escape_pair c) }
 {
-    s.iter().map(|c| escape_length(*c)).sum()
+    match c {
+        0x80..=0xA0 | 0xAD => b"\\u{a0}".len(),
+        _ => b"\xC2\xA1".len(),
+    }
+}
+
+// How many bytes are written at a byte, behind C2 or not.
+#[tactic(auto, unfolding(crate::specs::Display::escape_next))]
+fn next_length(lead: bool, c: u8) -> usize
+    ensures { result ≡ length (escape_next lead c) }
+{
+    if lead {
+        pair_length(c)
+    } else {
+        escape_length(c)
+    }
+}
+
+// How long a string is between the marks, byte by byte.
+#[tactic(auto, using(crate::proofs::Rules::escaped_steps))]
+fn escaped_length(s: &[u8]) -> usize
+    requires { length (escaped s.now) < 2 ^ 64 }
+    ensures { result ≡ length (escaped s.now) }
+{
+    let mut total = 0;
+    let mut lead = false;
+    for &c in s {
+        total += next_length(lead, c);
+        lead = c == LEAD;
+    }
+    total
 }
 
 // A part of the text or of the name list, and whether it is known to be clean. No `Option`: its bytes count either way.

@@ -1,5 +1,5 @@
 // The walk: a row's type is its own bytes and its children's types. What is known of the level stands in each contract, here
-// and in ascii.rt: it is a number of the walk and not of the node, and another at each call.
+// and in latin.rt: it is a number of the walk and not of the node, and another at each call.
 ghost use Rattle.std.specs.Prelude.{◌≡◌, ◌+◌, ◌*◌, ◌≤◌, ◌<◌};
 ghost use Rattle.datatype.specs.Table.{rows_at};
 ghost use Rattle.display_length.specs.Internal.Nodes.{levels_below, length_in};

@@ -6,7 +6,7 @@ use mathlib.Core.List.{List, [], ◌∷◌, ◌++◌, append_assoc}
 use Prim.Native.Nat.{ℕ, suc, ◌+◌, ◌≤◌}
 use lib.ListN.{drop}
 use lib.Dec.{T}
-use Rattle.tokenizer.specs.Text.{bytes, all, same}
+use Rattle.tokenizer.specs.Text.{bytes, same}
 use Rattle.tokenizer.specs.Answer.{Out, done}
 use Rattle.tokenizer.specs.Words.{words}
 use Rattle.tokenizer.specs.Token.{Standing, is_separator, is_digit, token_at, sort_of, double_quoted, single_quoted, comma, field_word}
@@ -17,7 +17,7 @@ use Rattle.row_table.specs.Sound.{is_name}
 use Rattle.parser.specs.Parse.{Name, Tree, item, text_name, field_row, role_at, after_role, list_name_at, field_at, default_field, list_field}
 use Rattle.display_length.specs.Display.{Shown, quoted, nullity_text, field_text, list_name_text, list_field_text, type_text, shown}
 use Rattle.display_length.specs.declared.words.Spelling.{Spelling}
-use Rattle.round_trip.specs.Plain.{is_plain}
+use Rattle.round_trip.specs.Plain.{is_plain_text}
 use Rattle.round_trip.proofs.Tokens.{Stop, is_listed_word, is_word_of, word_is}
 use Rattle.round_trip.proofs.PlainRows.{FieldRow, bare_label}
 use Rattle.round_trip.proofs.Pieces.{Look, look-space, need-comma, need-colon, rparen-stands, comma-stands, Found, found_word, need-found, Quoted, need-quoted, double-read, single-read}
@@ -120,7 +120,7 @@ module _ (spelling : Spelling) (text : List ℕ) (type : ℕ → ℕ → Out Tre
         after = q.after;
       }
 
-  name-read : (name : List ℕ) (at : ℕ) (rest : List ℕ) → T (is_name name) → T (all is_plain name)
+  name-read : (name : List ℕ) (at : ℕ) (rest : List ℕ) → T (is_name name) → T (is_plain_text name)
       → drop at text ≡ 32 ∷ (bytes "field: '" ++ (name ++ (39 ∷ rest))) → NameRead name at rest
   unfolding is_word_of is_listed_word words is_separator is_digit
   name-read name at rest h pl e =

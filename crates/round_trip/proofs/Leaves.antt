@@ -8,7 +8,7 @@ use native.Mathlib.Omega.{arith}
 use lib.ListN.{length, drop, length-drop}
 use lib.Dec.{T, ltb}
 use borrow.Author.Tests.{ltb-true, ltb-false}
-use Rattle.tokenizer.specs.Text.{bytes, all}
+use Rattle.tokenizer.specs.Text.{bytes}
 use Rattle.tokenizer.specs.Answer.{Out, done, refuse_at}
 use Rattle.tokenizer.specs.Words.{words}
 use Rattle.tokenizer.specs.Token.{is_separator, is_digit, value_of, time_unit, interval_unit, double_quoted, rparen, none_word, some_word}
@@ -21,7 +21,7 @@ use Rattle.output.specs.Digits.{digits}
 use Rattle.display_length.specs.Display.{microsecond_text, unit_text, interval_text, scale_text, zone_text, quoted, shape_text, shown}
 use Rattle.display_length.specs.declared.words.Spelling.{Spelling}
 use Rattle.display_length.specs.declared.words.Spelling.TheVariants.{Us, Micro}
-use Rattle.round_trip.specs.Plain.{is_plain}
+use Rattle.round_trip.specs.Plain.{is_plain_text}
 use Rattle.tokenizer.proofs.Numbers.{abs_signed, below_signed}
 use Rattle.round_trip.proofs.Tokens.{Stop, mark_stop, comma_stop, is_listed_word, is_word_of, WordOf, word_is}
 use Rattle.round_trip.proofs.PlainRows.{ShapeRow, bare_label, no_zone}
@@ -246,7 +246,7 @@ module _ (text : List ℕ) where
         after = skip 1 q.token.next text (41 ∷ rest) q.after;
       }
 
-  zone-read : (z : List ℕ) (at : ℕ) (rest : List ℕ) → T (zone_fits true z) → T (all is_plain z) → drop at text ≡ zone_text z ++ (41 ∷ rest) → ZoneRead z at rest
+  zone-read : (z : List ℕ) (at : ℕ) (rest : List ℕ) → T (zone_fits true z) → T (is_plain_text z) → drop at text ≡ zone_text z ++ (41 ∷ rest) → ZoneRead z at rest
   unfolding zone_text zone_fits
   zone-read [] at rest u h e = zone-empty at rest e
   zone-read (c ∷ z) at rest u h e =

@@ -1,5 +1,6 @@
 pub mod Decimals
 pub mod Tokens
+pub mod PlainCharacters
 pub mod PlainRows
 pub mod Pieces
 pub mod Types

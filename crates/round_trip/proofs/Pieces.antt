@@ -10,7 +10,6 @@ use lib.Seq.{take-append_seam}
 use lib.Dec.{T, eqb}
 use borrow.Author.Tests.{le-leb}
 use lib.IntN.{pos}
-use Rattle.tokenizer.specs.Text.{all}
 use Rattle.tokenizer.specs.Answer.{Out, done}
 use Rattle.tokenizer.specs.Words.{words, find}
 use Rattle.tokenizer.specs.Token.{Standing, token, sort_of, value_of, lparen, rparen, comma, colon, integer, double_quoted, single_quoted, string_token, token_from, token_at, signed}
@@ -23,7 +22,7 @@ use Rattle.parser.specs.Parse.{need, stands, number_in, close_at}
 use Rattle.parser.proofs.TokenLaws.{here}
 use Rattle.output.specs.Digits.{digits}
 use Rattle.display_length.specs.Display.{quoted}
-use Rattle.round_trip.specs.Plain.{is_plain}
+use Rattle.round_trip.specs.Plain.{is_plain_text}
 use Rattle.tokenizer.proofs.Numbers.{abs_signed, below_signed}
 use Rattle.round_trip.proofs.Tokens.{Stop, WordOf, listed_token, number_token_lem, minus_token, until_double, until_single, escaped_plain}
 
@@ -179,12 +178,12 @@ module _ (text : List ℕ) where
         after = skip 1 (p + 1 + suc (length w)) text (q ∷ s) (skip_word (p + 1) text (c ∷ w) (q ∷ s) e₁);
       }
 
-  pub double-read : (at p : ℕ) (name s : List ℕ) → T (is_name name) → T (all is_plain name) → Look at p (quoted name ++ s) → Quoted double_quoted at name s
+  pub double-read : (at p : ℕ) (name s : List ℕ) → T (is_name name) → T (is_plain_text name) → Look at p (quoted name ++ s) → Quoted double_quoted at name s
   unfolding quoted token_from
   double-read at p name s h pl l =
       let e : quoted name ++ s ≡ 34 ∷ (name ++ (34 ∷ s)) = rw (escaped_plain name pl) (ap (λ (r : List ℕ). 34 ∷ r) (append_assoc name (34 ∷ []) s)) in
       string-read DoubleQuotedString double_quoted 34 at p name s refl h (rw e at l) (rw (until_double name s pl))
 
-  pub single-read : (at p : ℕ) (name s : List ℕ) → T (is_name name) → T (all is_plain name) → Look at p (39 ∷ (name ++ (39 ∷ s))) → Quoted single_quoted at name s
+  pub single-read : (at p : ℕ) (name s : List ℕ) → T (is_name name) → T (is_plain_text name) → Look at p (39 ∷ (name ++ (39 ∷ s))) → Quoted single_quoted at name s
   unfolding token_from
   single-read at p name s h pl l = string-read SingleQuotedString single_quoted 39 at p name s refl h l (rw (until_single name s pl))

@@ -6,20 +6,20 @@ use mathlib.Core.List.{List, [], ◌∷◌}
 use Prim.Native.Nat.{ℕ, ◌<◌}
 use lib.ListN.{length}
 use lib.Dec.{T, eqb, ltb→lt, eqb→eq}
-use Rattle.tokenizer.specs.Text.{all, is_empty}
+use Rattle.tokenizer.specs.Text.{is_empty}
 use Rattle.datatype.specs.Kind.{Shape, kinds, shape_of}
 use Rattle.datatype.specs.Tree.{Forest, ∅, node, roots, Label}
 use Rattle.row_table.specs.Sound.{Standing, bare, field, union_field, arity_fits, role_fits, id_fits, is_name, name_fits, rules_of, zone_fits, shape_fits, rows_fit}
 use native.Mathlib.Omega.{arith}
 use Rattle.std.proofs.lemmas.Bool.Decides.{nat_tests}
 use Rattle.row_table.proofs.SoundTree.{RowFits, rules_at, rows_fit_lem}
-use Rattle.round_trip.specs.Plain.{is_plain, all_plain}
+use Rattle.round_trip.specs.Plain.{is_plain_text, all_plain}
 
 -- one row that stands in a place, over its children
 pub record PlainRow (place : Standing) (l : Label) (kids : Forest Label) : Type 0 where
   pub fits : RowFits place l kids
-  pub name : T (all is_plain l.name)
-  pub zone : T (all is_plain l.zone)
+  pub name : T (is_plain_text l.name)
+  pub zone : T (is_plain_text l.zone)
 
 -- every row of a run
 abbrev pub PlainRows : Standing → Forest Label → Type 0
@@ -27,7 +27,7 @@ PlainRows place ∅ = Unit {0}
 PlainRows place (node l kids next) = PlainRow place l kids × PlainRows (rules_at l).below kids × PlainRows place next
 
 pub plain_parts : (l : Label) (kids next : Forest Label) → T (all_plain (node l kids next))
-    → T (all is_plain l.name) × T (all is_plain l.zone) × T (all_plain kids) × T (all_plain next)
+    → T (is_plain_text l.name) × T (is_plain_text l.zone) × T (all_plain kids) × T (all_plain next)
 unfolding all_plain
 plain_parts l kids next p = (grind (arith, nat_tests), grind (arith, nat_tests), grind (arith, nat_tests), grind (arith, nat_tests))
 
@@ -36,7 +36,7 @@ abbrev pub In : Label → Forest Label → Type 0
 In l ∅ = ⊥
 In l (node m kids next) = (l ≡ m) ⊎ (In l kids ⊎ In l next)
 
-pub rows_plain : (f : Forest Label) → ((l : Label) → In l f → T (all is_plain l.name) × T (all is_plain l.zone)) → T (all_plain f)
+pub rows_plain : (f : Forest Label) → ((l : Label) → In l f → T (is_plain_text l.name) × T (is_plain_text l.zone)) → T (all_plain f)
 unfolding all_plain
 rows_plain ∅ h = tt
 rows_plain (node l kids next) h =
@@ -58,7 +58,7 @@ pub record ShapeRow (s : Shape) (l : Label) (kids : Forest Label) : Type 0 where
   pub number : l.number < (rules_of s).params
   pub scale : l.scale < (rules_of s).scales
   pub zone : T (zone_fits (rules_of s).zoned l.zone)
-  pub plain : T (all is_plain l.zone)
+  pub plain : T (is_plain_text l.zone)
   pub shape : T (shape_fits s l kids)
   pub below : PlainRows (rules_of s).below kids
 
@@ -79,7 +79,7 @@ pub record FieldRow (l : Label) : Type 0 where
   pub kind : l.kind < kinds
   pub role : T (eqb l.role 1 || eqb l.role 2)
   pub name : T (is_name l.name)
-  pub plain : T (all is_plain l.name)
+  pub plain : T (is_plain_text l.name)
 
 pub field_row_lem : (l : Label) (kids : Forest Label) → PlainRow field l kids → FieldRow l
 unfolding role_fits name_fits

@@ -15,7 +15,6 @@ use lib.ListN.{length}
 use lib.Dec.{T}
 use borrow.Author.Tests.{le-leb}
 use Rattle.std.proofs.lemmas.Bool.Decides.{nat_tests}
-use Rattle.tokenizer.specs.Text.{all}
 use Rattle.tokenizer.specs.Answer.{Out, done}
 use Rattle.tokenizer.specs.Utf8.{is_utf8}
 use Rattle.tokenizer.proofs.Basics.{is_true}
@@ -33,10 +32,10 @@ use Rattle.datatype_parse.proofs.MoreRows.{more_rows}
 use Rattle.datatype_parse.proofs.ReadSound.{read_sound}
 use Rattle.display_length.specs.declared.words.Spelling.{Spelling}
 use Rattle.display_length.specs.Display.{display}
-use Rattle.display_length.specs.PrintedLength.{quoted_ascii}
+use Rattle.display_length.specs.PrintedLength.{quoted_latin}
 use Rattle.datatype_display.specs.Print.{print}
 use Rattle.datatype_display.proofs.PrintedUtf8.{display_utf8}
-use Rattle.round_trip.specs.Plain.{is_plain, all_plain, is_plain_tree, printed, in_demand3}
+use Rattle.round_trip.specs.Plain.{is_plain_text, all_plain, is_plain_tree, printed, in_demand3}
 use Rattle.round_trip.proofs.PlainRows.{PlainRows, In, rows_plain, plain_rows}
 use Rattle.round_trip.proofs.ReadBack.{WholeRead, whole_read}
 use Rattle.round_trip.proofs.Printed.{plain_quoted}
@@ -67,7 +66,7 @@ conditions spelling text names table h =
 -- the other way round, and no more is asked: a sound tree, names and zones that are plain, row by row, and a printed text
 -- that is not too long
 pub in_demand3_lem : (spelling : Spelling) (text names table : List ℕ) → T (is_sound text names table)
-    → ((l : Label) → In l (tree_of text names table) → T (all is_plain l.name) × T (all is_plain l.zone))
+    → ((l : Label) → In l (tree_of text names table) → T (is_plain_text l.name) × T (is_plain_text l.zone))
     → length (printed spelling text names table) ≤ 16384 → T (in_demand3 spelling text names table)
 unfolding in_demand3 is_plain_tree
 in_demand3_lem spelling text names table s p l = let r = rows_plain (tree_of text names table) p in grind (arith, nat_tests)
@@ -85,7 +84,7 @@ module _ (spelling : Spelling) (text names table : List ℕ) (c : Conditions spe
   tree-utf8 : T (is_utf8 (printed spelling text names table))
   tree-utf8 =
       let f : Forest Label = tree_of text names table in
-      display_utf8 spelling bare f (subst (λ (g : Forest Label). T (rows_fit bare g)) (sym says) c.tree.fits) (plain_quoted f c.plain)
+      display_utf8 spelling bare f (subst (λ (g : Forest Label). T (rows_fit bare g)) (sym says) c.tree.fits)
 
   pub plain-tree : PlainTree (tree_of text names table)
   unfolding labels
@@ -172,7 +171,7 @@ prints spelling text names table room h fits = go (conditions spelling text name
         let l : length (printed spelling text names table) ≤ 16384 = c.short in
         rw (
           is_true (is_sound text names table) c.is_sound,
-          is_true (quoted_ascii (tree_of text names table)) (plain_quoted (tree_of text names table) c.plain),
+          is_true (quoted_latin (tree_of text names table)) (plain_quoted (tree_of text names table) c.plain),
           le-leb (length (printed spelling text names table)) (min room 16384) (omega arith),
         )
 

@@ -10,7 +10,7 @@ use lib.Dec.{T, leb, eqb}
 use borrow.Author.Tests.{le-leb}
 use lib.IntN.{pos}
 use Rattle.std.proofs.lemmas.Bool.Decides.{nat_tests}
-use Rattle.tokenizer.specs.Text.{all}
+use Rattle.tokenizer.specs.Text.{all, same}
 use Rattle.tokenizer.specs.Words.{words, find}
 use Rattle.tokenizer.specs.Token.{token, sort_of, value_of, type_word, is_separator, word_of, is_digit, word_kind, until_quote, token_from, signed}
 use Rattle.tokenizer.specs.Answer.{done}
@@ -18,9 +18,10 @@ use Rattle.tokenizer.specs.declared.TokenKind.TheVariants.{Integer}
 use Rattle.tokenizer.proofs.Basics.{and_l, and_r, is_true, is_false}
 use Rattle.datatype.specs.Kind.{kinds}
 use Rattle.datatype.proofs.Tests.{below_at}
+use Rattle.tokenizer.proofs.Listed.{same_path}
 use Rattle.output.specs.Digits.{digits}
-use Rattle.display_length.specs.Display.{kind_word, escape, escaped}
-use Rattle.round_trip.specs.Plain.{is_plain}
+use Rattle.display_length.specs.Display.{kind_word, escaped}
+use Rattle.round_trip.specs.Plain.{is_plain_byte, is_plain_text}
 use Rattle.round_trip.proofs.Decimals.{Spelled, digits_spell}
 
 -- ---- words
@@ -104,41 +105,39 @@ minus_token at n s h k = minus_spelled at n (digits n) s (digits_spell n) h k
 -- ---- quoted strings of plain bytes
 
 pub record PlainByte (c : ℕ) : Type 0 where
-  pub least : leb 32 c ≡ true
-  pub most : leb c 126 ≡ true
+  pub most : leb c 0xC5 ≡ true
   pub double : eqb c 34 ≡ false
   pub single : eqb c 39 ≡ false
   pub backslash : eqb c 92 ≡ false
 
-pub plain_byte : (c : ℕ) → T (is_plain c) → PlainByte c
-unfolding is_plain
-plain_byte c h = record { least = grind (arith, nat_tests); most = grind (arith, nat_tests); double = grind (arith, nat_tests); single = grind (arith, nat_tests); backslash = grind (arith, nat_tests) }
+pub plain_byte : (c : ℕ) → T (is_plain_byte c) → PlainByte c
+unfolding is_plain_byte
+plain_byte c h = record { most = grind (arith, nat_tests); double = grind (arith, nat_tests); single = grind (arith, nat_tests); backslash = grind (arith, nat_tests) }
+
+-- the two parts of what is asked
+pub plain_bytes : (s : List ℕ) → T (is_plain_text s) → T (all is_plain_byte s)
+unfolding is_plain_text
+plain_bytes s k = and_l (all is_plain_byte s) (same (escaped s) s) k
+
+-- plain names and zones are printed as they are
+pub escaped_plain : (s : List ℕ) → T (is_plain_text s) → escaped s ≡ s
+unfolding is_plain_text
+escaped_plain s k = same_path (escaped s) s (and_r (all is_plain_byte s) (same (escaped s) s) k)
 
 -- the mark that ends a string of bytes that are no such mark and no backslash
-pub until_quote_lem : (quote : ℕ) (name s : List ℕ) → eqb quote quote ≡ true → ((c : ℕ) → T (is_plain c) → eqb c quote ≡ false) → T (all is_plain name)
+until_quote_lem : (quote : ℕ) (name s : List ℕ) → eqb quote quote ≡ true → ((c : ℕ) → T (is_plain_byte c) → eqb c quote ≡ false) → T (all is_plain_byte name)
     → until_quote quote false (name ++ (quote ∷ s)) ≡ some (length name)
 unfolding until_quote
 until_quote_lem quote [] s e f k = rw e
 until_quote_lem quote (c ∷ name) s e f k =
-    let h : T (is_plain c) = and_l (is_plain c) (all is_plain name) k in
-    rw (f c h, (plain_byte c h).backslash, until_quote_lem quote name s e f (and_r (is_plain c) (all is_plain name) k))
+    let h : T (is_plain_byte c) = and_l (is_plain_byte c) (all is_plain_byte name) k in
+    rw (f c h, (plain_byte c h).backslash, until_quote_lem quote name s e f (and_r (is_plain_byte c) (all is_plain_byte name) k))
 
-pub until_double : (name s : List ℕ) → T (all is_plain name) → until_quote 34 false (name ++ (34 ∷ s)) ≡ some (length name)
-until_double name s k = until_quote_lem 34 name s refl (λ c h. (plain_byte c h).double) k
+pub until_double : (name s : List ℕ) → T (is_plain_text name) → until_quote 34 false (name ++ (34 ∷ s)) ≡ some (length name)
+until_double name s k = until_quote_lem 34 name s refl (λ c h. (plain_byte c h).double) (plain_bytes name k)
 
-pub until_single : (name s : List ℕ) → T (all is_plain name) → until_quote 39 false (name ++ (39 ∷ s)) ≡ some (length name)
-until_single name s k = until_quote_lem 39 name s refl (λ c h. (plain_byte c h).single) k
-
--- plain bytes are printed as they are
-escape_plain : (c : ℕ) → PlainByte c → escape c ≡ c ∷ []
-unfolding escape
-escape_plain c p = grind (arith, nat_tests)
-
-pub escaped_plain : (name : List ℕ) → T (all is_plain name) → escaped name ≡ name
-unfolding escaped
-escaped_plain [] k = refl
-escaped_plain (c ∷ name) k =
-    rw (escape_plain c (plain_byte c (and_l (is_plain c) (all is_plain name) k)), escaped_plain name (and_r (is_plain c) (all is_plain name) k))
+pub until_single : (name s : List ℕ) → T (is_plain_text name) → until_quote 39 false (name ++ (39 ∷ s)) ≡ some (length name)
+until_single name s k = until_quote_lem 39 name s refl (λ c h. (plain_byte c h).single) (plain_bytes name k)
 
 -- ---- the words of the kinds
 

@@ -1,6 +1,9 @@
--- Demand 3's conditions can be met, by computation: the bytes that they allow are the 92 that the demand says, and a tree
--- that has every one of the 41 kinds, and names and a zone of all these bytes, meets them.
+-- Demand 3's conditions can be met, by computation: the characters that they allow are the 314 that the demand says, and a
+-- tree that has every one of the 41 kinds, and names and a zone of all these characters, meets them.
 use Rattle.std.specs.Prelude.{◌≡◌, refl, Bool, true, false, ◌&&◌, ◌||◌, List, [], ◌∷◌, ◌++◌, ℕ, zero, suc, length, eqb, if◌then◌else◌}
+use Prim.Native.Char.{code}
+use Prim.Native.String.{String}
+use Prim.Native.String as S
 use Rattle.tokenizer.specs.Text.{bytes}
 use Rattle.tokenizer.specs.Answer.{Out, refused, done}
 use Rattle.datatype.specs.Limits.{max_rows}
@@ -12,35 +15,45 @@ use Rattle.datatype_parse.specs.Parse.{parse}
 use Rattle.datatype_display.specs.Internal.Computed as printer
 use Rattle.display_length.specs.declared.words.Spelling.{Spelling}
 use Rattle.display_length.specs.declared.words.Spelling.TheVariants.{Us, Micro}
-use Rattle.round_trip.specs.Plain.{is_plain, all_plain, is_plain_tree, in_demand3}
+use Rattle.round_trip.specs.Plain.{is_plain, is_plain_byte, is_plain_text, all_plain, is_plain_tree, in_demand3}
 
--- ---- the bytes
+-- ---- the characters
 
--- Printable ASCII without quote marks and the backslash, written out.
-abbrev pub plain_text : List ℕ
-plain_text = bytes " !#$%&()*+,-./0123456789:;<=>?@ABCDEFGHIJKLMNOPQRSTUVWXYZ[]^_`abcdefghijklmnopqrstuvwxyz{|}~"
+-- Printable ASCII without quote marks and the backslash, and what is plain above it, written out.
+abbrev pub plain_ascii : String
+plain_ascii = " !#$%&()*+,-./0123456789:;<=>?@ABCDEFGHIJKLMNOPQRSTUVWXYZ[]^_`abcdefghijklmnopqrstuvwxyz{|}~"
 
-pub plain_count : length plain_text ≡ 92
-plain_count = refl
+abbrev pub plain_latin : String
+plain_latin = "¡¢£¤¥¦§¨©ª«¬®¯°±²³´µ¶·¸¹º»¼½¾¿ÀÁÂÃÄÅÆÇÈÉÊËÌÍÎÏÐÑÒÓÔÕÖ×ØÙÚÛÜÝÞßàáâãäåæçèéêëìíîïðñòóôõö÷øùúûüýþÿĀāĂăĄąĆćĈĉĊċČčĎďĐđĒēĔĕĖėĘęĚěĜĝĞğĠġĢģĤĥĦħĨĩĪīĬĭĮįİıĲĳĴĵĶķĸĹĺĻļĽľĿŀŁłŃńŅņŇňŉŊŋŌōŎŏŐőŒœŔŕŖŗŘřŚśŜŝŞşŠšŢţŤťŦŧŨũŪūŬŭŮůŰűŲųŴŵŶŷŸŹźŻżŽžſ"
 
--- The plain bytes among the n from c on.
+abbrev pub codes : String → List ℕ
+codes S.[] = []
+codes (S.◌∷◌ c s) = code c ∷ codes s
+
+pub plain_count : (length (codes plain_ascii) ≡ 92) × (length (codes plain_latin) ≡ 222)
+plain_count = (refl, refl)
+
+-- The plain characters among the n from c on.
 abbrev pub plain_from : ℕ → ℕ → List ℕ
 plain_from zero c = []
 plain_from (suc n) c = let rest = plain_from n (suc c) in if is_plain c then c ∷ rest else rest
 
--- Of all bytes these are plain, and no others.
-pub plain_bytes : plain_from 256 0 ≡ plain_text
+-- Of all characters up to U+03FF these are plain, and no others.
+pub plain_characters : plain_from 0x400 0 ≡ codes plain_ascii ++ codes plain_latin
 unfolding is_plain
-plain_bytes = refl
+plain_characters = refl
 
 -- ---- a tree
+
+abbrev pub plain_text : List ℕ
+plain_text = bytes plain_ascii ++ bytes plain_latin
 
 abbrev pub joined : List (List ℕ) → List ℕ
 joined [] = []
 joined (s ∷ ss) = s ++ joined ss
 
 -- A text with every kind, both forms of RunEndEncoded, names `item`, `run_ends` and `values` in both homes, and every
--- plain byte in the names of fields of Struct, List, Union, Map and RunEndEncoded and in a zone.
+-- plain character in the names of fields of Struct, List, Union, Map and RunEndEncoded and in a zone.
 abbrev pub text : List ℕ
 text =
     joined (
@@ -64,7 +77,7 @@ meets_conditions spelling (refused r) = false
 meets_conditions spelling (done f) = in_demand3 spelling text name_list (table_of f)
 
 pub conditions_met : (spelling : Spelling) → meets_conditions spelling (parse text max_rows) ≡ true
-unfolding parser.computed printer.computed is_plain all_plain is_plain_tree in_demand3
+unfolding parser.computed printer.computed is_plain_byte is_plain_text all_plain is_plain_tree in_demand3
 conditions_met Us = refl
 conditions_met Micro = refl
 

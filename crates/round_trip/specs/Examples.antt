@@ -15,12 +15,14 @@ use Rattle.display_length.specs.declared.words.Spelling.TheVariants.{Micro}
 use Rattle.datatype_display.specs.Internal.Computed as printer
 use Rattle.datatype_display.specs.Print.{default_spelling, print}
 
--- What is expected of a text: a number of rows, a refusal, or a printed text, in the default spelling or in another.
+-- What is expected of a text: a number of rows, a refusal of the reader, a printed text, in the default spelling or in
+-- another, or a refusal of the printer.
 pub data Expected : Type 0 where
   rows : ℕ → Expected
   refusal : ℕ → Expected
   prints : String → Expected
   prints_in : Spelling → String → Expected
+  unprintable : ℕ → Expected
 
 pub record Example : Type 0 where
   pub text : String
@@ -35,15 +37,22 @@ abbrev pub prints_as : Out (List ℕ) → List ℕ → Bool
 prints_as (refused r) s = false
 prints_as (done t) s = same t s
 
+-- The printer refuses with this number.
+abbrev pub refuses_with : Out (List ℕ) → ℕ → Bool
+refuses_with (refused r) n = eqb r.number n
+refuses_with (done t) n = false
+
 abbrev pub meets : List ℕ → Out (Forest Row) → Expected → Bool
 meets text (refused r) (rows n) = false
 meets text (refused r) (refusal n) = eqb r.number n
 meets text (refused r) (prints s) = false
 meets text (refused r) (prints_in spelling s) = false
+meets text (refused r) (unprintable n) = false
 meets text (done f) (rows n) = eqb (count f) n
 meets text (done f) (refusal n) = false
 meets text (done f) (prints s) = prints_as (print default_spelling text name_list (table_of f) max_text) (bytes s)
 meets text (done f) (prints_in spelling s) = prints_as (print spelling text name_list (table_of f) max_text) (bytes s)
+meets text (done f) (unprintable n) = refuses_with (print default_spelling text name_list (table_of f) max_text) n
 
 abbrev pub all_meet : List Example → Bool
 all_meet [] = true
@@ -107,6 +116,12 @@ further =
     ∷ "Timestamp(s, Some('a'))" gives refusal 9
     ∷ "Timestamp(s, Some(''))" gives refusal 7
     ∷ "Struct(\"\\a\" b\": Int8)" gives prints "Struct(\"\\\\a\\\" b\": Int8)"
+    ∷ "Struct(\"Küche\": Int8)" gives prints "Struct(\"Küche\": Int8)"
+    ∷ "Timestamp(s, \"Zürich\")" gives prints "Timestamp(s, \"Zürich\")"
+    ∷ "Struct(\"¡ſ\": Int8, \"ÿ\": Int8)" gives prints "Struct(\"¡ſ\": Int8, \"ÿ\": Int8)"
+    ∷ "Struct(\"\u{80}\u{a0}\u{ad}\": Int8)" gives prints "Struct(\"\\u{80}\\u{a0}\\u{ad}\": Int8)"
+    ∷ "Struct(\"ƀ\": Int8)" gives unprintable 18
+    ∷ "List(Int8, field: 'ƀ')" gives prints "List(Int8, field: 'ƀ')"
     ∷ []
 
 pub further_texts : all_meet further ≡ true

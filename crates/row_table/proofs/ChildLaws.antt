@@ -10,7 +10,7 @@ use lib.Dec.{leb, eqb, eqb→eq, eqb-suc-suc}
 use borrow.Author.Tests.{eq-eqb, ne_eqb}
 use Rattle.std.specs.Prelude.{if◌then◌else◌, is_ok, Result, Ok, Err}
 use Rattle.tokenizer.specs.declared.refusal.Refusal as R
-use Rattle.tokenizer.specs.declared.refusal.Refusal.TheVariants.{TextTooLong, NotUtf8, TooDeep, TooManyRows, TextEnds, StringNeverEnds, StringEmpty, UnknownWord, UnexpectedToken, NumberOutOfRange, WrongTimeUnit, WrongDecimal, MustBeNonNull, WrongMapEntries, WrongUnionId, TrailingText, NotSound, NotAscii, PrintTooLong}
+use Rattle.tokenizer.specs.declared.refusal.Refusal.TheVariants.{TextTooLong, NotUtf8, TooDeep, TooManyRows, TextEnds, StringNeverEnds, StringEmpty, UnknownWord, UnexpectedToken, NumberOutOfRange, WrongTimeUnit, WrongDecimal, MustBeNonNull, WrongMapEntries, WrongUnionId, TrailingText, NotSound, NotLatin, PrintTooLong}
 use Rattle.tokenizer.specs.Answer.{number_of}
 use Rattle.tokenizer.proofs.Basics.{is_true, of_true}
 use Rattle.datatype.specs.Kind.{ids_fit}
@@ -52,7 +52,7 @@ numbered WrongMapEntries = refl
 numbered WrongUnionId = refl
 numbered TrailingText = refl
 numbered NotSound = refl
-numbered NotAscii = refl
+numbered NotLatin = refl
 numbered PrintTooLong = refl
 
 pub ok_is : {A : Type 0} (r : Result A R.Refusal) → is_ok r ≡ eqb (refused_with r) 0

@@ -3,7 +3,7 @@ use Rattle.std.specs.Prelude.{Option, Some, None, ℕ}
 use Rattle.std.specs.declared.result.Result.{Result}
 use Rattle.std.specs.declared.result.Result.TheVariants.{Ok, Err}
 use Rattle.tokenizer.specs.declared.refusal.Refusal as R
-use Rattle.tokenizer.specs.declared.refusal.Refusal.TheVariants.{TextTooLong, NotUtf8, TooDeep, TooManyRows, TextEnds, StringNeverEnds, StringEmpty, UnknownWord, UnexpectedToken, NumberOutOfRange, WrongTimeUnit, WrongDecimal, MustBeNonNull, WrongMapEntries, WrongUnionId, TrailingText, NotSound, NotAscii, PrintTooLong}
+use Rattle.tokenizer.specs.declared.refusal.Refusal.TheVariants.{TextTooLong, NotUtf8, TooDeep, TooManyRows, TextEnds, StringNeverEnds, StringEmpty, UnknownWord, UnexpectedToken, NumberOutOfRange, WrongTimeUnit, WrongDecimal, MustBeNonNull, WrongMapEntries, WrongUnionId, TrailingText, NotSound, NotLatin, PrintTooLong}
 
 -- A refusal, by its number; where in a text it was met, if it was met in one (document 02, [2]).
 pub record Refusal : Type 0 where
@@ -49,7 +49,7 @@ number_of WrongMapEntries = 14
 number_of WrongUnionId = 15
 number_of TrailingText = 16
 number_of NotSound = 17
-number_of NotAscii = 18
+number_of NotLatin = 18
 number_of PrintTooLong = 19
 
 -- What a `Result` says: the value, or the refusal by its number.

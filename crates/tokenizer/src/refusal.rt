@@ -23,7 +23,7 @@ pub enum Refusal {
     TrailingText = 16, // something follows the type
     // Of the printer, in this order.
     NotSound = 17, // text and rows are no sound tree
-    NotAscii = 18, // a name or zone to print in double quotes is not ASCII
+    NotLatin = 18, // a name or zone to print in double quotes has a character above U+017F
     PrintTooLong = 19, // the printed text is longer than 16,384 bytes or the buffer
 }
 

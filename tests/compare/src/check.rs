@@ -1,8 +1,8 @@
 //! The comparisons. Every text goes to the model, to the Rust where it has a say, and to the port
 //! if it is there; every tree goes to their printers.
 
-use crate::generate::Random;
 use crate::generate::trees::{self, Letters, Tree};
+use crate::generate::{Random, places};
 use crate::model::{
     self, Limits, MOST_BYTES, MOST_LEVELS, MOST_ROWS, NAME_LIST, Refused, Row, Spelling, WORDS,
     refusal,
@@ -33,6 +33,8 @@ pub struct Check<'s> {
     pub printed: usize,
     /// Trees whose texts in the two spellings differ, in their units of microseconds alone.
     pub spelled: usize,
+    /// Printed texts of trees with plain names and zones, which must read back equal.
+    pub read_back: usize,
     /// Tables whose parents the port set.
     pub parented: usize,
     /// Refusals of the port whose number and place were compared with the model's.
@@ -49,6 +51,7 @@ impl<'s> Check<'s> {
             by_rust: 0,
             printed: 0,
             spelled: 0,
+            read_back: 0,
             parented: 0,
             placed: 0,
             counts: [0; 20],
@@ -199,22 +202,18 @@ impl<'s> Check<'s> {
 
     /// Prints a sound tree in a spelling and reads the printed text, which must give an equal tree if its
     /// names and zones are plain. Answers the printed text.
-    pub fn round_trip(
-        &mut self,
-        spelling: Spelling,
-        tree: &Tree,
-        letters: Letters,
-    ) -> Option<Vec<u8>> {
+    pub fn round_trip(&mut self, spelling: Spelling, tree: &Tree) -> Option<Vec<u8>> {
         let Tree { text, list, words } = tree;
         let printed = model::print(spelling, text, list, words, MOST_BYTES).ok()?;
-        if letters == Letters::Plain {
-            let rows = model::from_words(&tree.words);
+        let rows = model::from_words(words);
+        if rows.iter().all(|row| is_plain(tree, row)) {
+            self.read_back += 1;
             let back = model::read(&printed, Limits::lent(MOST_ROWS));
             let same = back.as_ref().is_ok_and(|back| {
                 let printed = (printed.as_slice(), NAME_LIST, back.as_slice());
-                model::equal((&tree.text, &tree.list, &rows), printed)
+                model::equal((text, list, &rows), printed)
             });
-            let data_type = oracle::data_type(&tree.text, &tree.list, &tree.words);
+            let data_type = oracle::data_type(text, list, words);
             if !same || data_type.to_string().parse().ok() != Some(data_type) {
                 self.differ_tree(tree, &format!("does not read back: {}", shown(&printed)));
             }
@@ -392,6 +391,12 @@ impl<'s> Check<'s> {
     }
 }
 
+/// Whether a row's name and zone are plain.
+fn is_plain(tree: &Tree, row: &Row) -> bool {
+    let plain = |part| str::from_utf8(part).is_ok_and(|part| part.chars().all(trees::is_plain));
+    plain(model::row_name(&tree.text, &tree.list, row)) && plain(model::row_zone(&tree.text, row))
+}
+
 /// What the model prints of a tree in each spelling.
 fn in_both(tree: &Tree) -> [Printed; 2] {
     let Tree { text, list, words } = tree;
@@ -538,6 +543,18 @@ fn said(printed: &Printed) -> String {
     }
 }
 
+/// The tree of each text that places::characters makes, compared and read back.
+pub fn each_character(check: &mut Check) {
+    places::characters(&mut |text| {
+        let rows = model::read(text, Limits::lent(MOST_ROWS)).expect("a type");
+        let tree = trees::tree(text, &rows);
+        check.sound_tree(&tree);
+        for spelling in Spelling::BOTH {
+            let _ = check.round_trip(spelling, &tree);
+        }
+    });
+}
+
 /// Trees of one sort, made and compared.
 pub fn random_tree(check: &mut Check, random: &mut Random, letters: Letters) {
     let rows = match random.below(200) {
@@ -548,7 +565,7 @@ pub fn random_tree(check: &mut Check, random: &mut Random, letters: Letters) {
     let tree = trees::sound(random, letters, rows);
     check.sound_tree(&tree);
     for spelling in Spelling::BOTH {
-        if let Some(printed) = check.round_trip(spelling, &tree, letters)
+        if let Some(printed) = check.round_trip(spelling, &tree)
             && random.one_in(4)
         {
             // The printed text is a text like any other.

@@ -227,6 +227,9 @@ fn run(settings: &BTreeMap<String, u64>) -> Result<ExitCode, String> {
     report.line("escapes", 1, |check| {
         places::escapes(&mut |text| drop(check.text(text)))
     });
+    report.line("characters", 1, |check| {
+        places::characters(&mut |text| drop(check.text(text)))
+    });
     report.line("levels", 1, |check| {
         limits::levels(&mut random, text_count / 100, &mut |text| {
             drop(check.text(text))
@@ -274,17 +277,19 @@ fn run(settings: &BTreeMap<String, u64>) -> Result<ExitCode, String> {
     );
 
     report.heading("trees", 17, 19);
-    for (name, letters, share) in [
-        ("plain", Letters::Plain, 4),
+    for (name, letters, quarters) in [
+        ("plain", Letters::Plain, 1),
         ("ASCII", Letters::Ascii, 2),
-        ("Unicode", Letters::Any, 4),
+        ("Latin", Letters::Latin, 3),
+        ("Unicode", Letters::Any, 1),
     ] {
         report.line(name, 17, |check| {
-            for _ in 0..tree_count / share {
+            for _ in 0..tree_count / 4 * quarters {
                 check::random_tree(check, &mut random, letters);
             }
         });
     }
+    report.line("characters", 17, |check| check::each_character(check));
     report.line("lengths", 17, |check| {
         for _ in 0..tree_count / 500 {
             let length = random.between(MOST_BYTES - 2, MOST_BYTES + 2);
@@ -328,6 +333,10 @@ fn run(settings: &BTreeMap<String, u64>) -> Result<ExitCode, String> {
 
     println!("\ntrees printed by port and Rust: {}", report.check.printed);
     println!("trees whose two spellings differ: {}", report.check.spelled);
+    println!(
+        "printed texts that must read back: {}",
+        report.check.read_back
+    );
     println!(
         "tables whose parents the port set: {}",
         report.check.parented

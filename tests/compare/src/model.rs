@@ -65,7 +65,7 @@ pub mod refusal {
     pub const UNION_ID: u32 = 15;
     pub const LEFT_OVER: u32 = 16;
     pub const NOT_SOUND: u32 = 17;
-    pub const ABOVE_127: u32 = 18;
+    pub const NOT_LATIN: u32 = 18;
     pub const NO_ROOM: u32 = 19;
 }
 
@@ -927,11 +927,11 @@ pub fn print(
         text,
         list,
         out: Vec::new(),
-        above_127: false,
+        above_latin: false,
     };
     printer.data_type(&root);
-    if printer.above_127 {
-        return Err(ABOVE_127);
+    if printer.above_latin {
+        return Err(NOT_LATIN);
     }
     if printer.out.len() > room.min(MOST_BYTES) {
         return Err(NO_ROOM);
@@ -944,7 +944,8 @@ struct Printer<'a> {
     text: &'a [u8],
     list: &'a [u8],
     out: Vec<u8>,
-    above_127: bool,
+    /// Whether a name or zone in double quotes has a character above U+017F.
+    above_latin: bool,
 }
 
 impl Printer<'_> {
@@ -952,20 +953,23 @@ impl Printer<'_> {
         self.out.extend_from_slice(words.as_bytes());
     }
 
+    /// A name or zone of a sound tree in double quotes (document 02, [11]).
     fn quoted(&mut self, bytes: &[u8]) {
         self.say("\"");
-        for &byte in bytes {
-            match byte {
-                b'"' => self.say("\\\""),
-                b'\\' => self.say("\\\\"),
-                0 => self.say("\\0"),
-                b'\t' => self.say("\\t"),
-                b'\r' => self.say("\\r"),
-                b'\n' => self.say("\\n"),
-                1..=31 | 127 => self.say(&format!("\\u{{{byte:x}}}")),
+        for character in str::from_utf8(bytes).expect("UTF-8").chars() {
+            match character {
+                '"' => self.say("\\\""),
+                '\\' => self.say("\\\\"),
+                '\0' => self.say("\\0"),
+                '\t' => self.say("\\t"),
+                '\r' => self.say("\\r"),
+                '\n' => self.say("\\n"),
+                '\u{1}'..='\u{1f}' | '\u{7f}'..='\u{a0}' | '\u{ad}' => {
+                    self.say(&format!("\\u{{{:x}}}", u32::from(character)));
+                }
                 _ => {
-                    self.above_127 |= byte > 127;
-                    self.out.push(byte);
+                    self.above_latin |= character > '\u{17f}';
+                    self.say(character.encode_utf8(&mut [0; 4]));
                 }
             }
         }

@@ -334,8 +334,8 @@ pub fn levels(rows: &[Row]) -> impl Iterator<Item = usize> {
 /// What the printer must answer where that many output bytes are lent: the Rust's text, with the
 /// two refusals that the port adds.
 pub fn print(data_type: &DataType, room: usize) -> Result<Vec<u8>, u32> {
-    if above_127(data_type) {
-        return Err(refusal::ABOVE_127);
+    if above_latin(data_type) {
+        return Err(refusal::NOT_LATIN);
     }
     let text = data_type.to_string();
     if text.len() > room.min(MOST_BYTES) {
@@ -344,23 +344,28 @@ pub fn print(data_type: &DataType, room: usize) -> Result<Vec<u8>, u32> {
     Ok(text.into_bytes())
 }
 
-/// Whether a name or zone that prints in double quotes holds a byte above 127.
-fn above_127(data_type: &DataType) -> bool {
-    let field = |field: &Field| !field.name().is_ascii() || above_127(field.data_type());
+/// Whether a name or zone that prints in double quotes has a character above U+017F.
+fn above_latin(data_type: &DataType) -> bool {
+    let field = |field: &Field| !is_latin(field.name()) || above_latin(field.data_type());
     match data_type {
-        DataType::Timestamp(_, Some(zone)) => !zone.is_ascii(),
+        DataType::Timestamp(_, Some(zone)) => !is_latin(zone),
         DataType::List(inner)
         | DataType::ListView(inner)
         | DataType::LargeList(inner)
         | DataType::LargeListView(inner)
-        | DataType::FixedSizeList(inner, _) => above_127(inner.data_type()),
+        | DataType::FixedSizeList(inner, _) => above_latin(inner.data_type()),
         DataType::Struct(fields) => fields.iter().any(|inner| field(inner)),
         DataType::Union(fields, _) => fields.iter().any(|(_, inner)| field(inner)),
-        DataType::Dictionary(key, value) => above_127(key) || above_127(value),
+        DataType::Dictionary(key, value) => above_latin(key) || above_latin(value),
         DataType::Map(entries, _) => field(entries),
         DataType::RunEndEncoded(run_ends, values) => field(run_ends) || field(values),
         _ => false,
     }
+}
+
+/// Whether all characters are up to U+017F.
+pub fn is_latin(text: &str) -> bool {
+    text.chars().all(|character| character <= '\u{17f}')
 }
 
 /// The layout verdict: yes (`None`) or the first row that breaks a rule.

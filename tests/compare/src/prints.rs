@@ -37,6 +37,7 @@ pub fn prints(file: &str, seed: u64) -> Result<ExitCode, String> {
     prints.read(500)?;
     prints.sound(Letters::Plain, 200)?;
     prints.sound(Letters::Ascii, 600)?;
+    prints.sound(Letters::Latin, 300)?;
     prints.sound(Letters::Any, 300)?;
     prints.characters()?;
     prints.defaults()?;
@@ -180,7 +181,17 @@ impl<'s> Prints<'s> {
     fn characters(&mut self) -> Result<(), String> {
         let others = [
             '\u{80}',
+            '\u{9f}',
+            '\u{a0}',
+            '\u{a1}',
+            '\u{ac}',
+            '\u{ad}',
+            '\u{ae}',
+            '\u{bf}',
             'ü',
+            '\u{ff}',
+            '\u{17f}',
+            '\u{180}',
             '\u{7ff}',
             '\u{800}',
             '\u{ffff}',

@@ -30,6 +30,7 @@ fn generate(seed: u64, count: u64, visit: Visit) {
     places::words(visit);
     places::numbers(visit);
     places::escapes(visit);
+    places::characters(visit);
     limits::rows(visit);
     for _ in 0..count {
         let rows = random.between(1, 20);
@@ -77,7 +78,7 @@ fn trees(read: &DataType, rust: &arrow_schema::DataType, rows: &[Row]) -> Result
     let plain = printed_by_default(read)?;
     let printed = match (read.print_with(Spelling::Micro), rust.to_string()) {
         (Ok(printed), other) if printed == other => printed,
-        (Err(Error::NotAscii), _) if !rows.iter().all(is_ascii) => return Ok(true),
+        (Err(Error::NotLatin), _) if !rows.iter().all(is_latin) => return Ok(true),
         (Err(Error::PrintTooLong), other) if other.len() > MAX_TEXT => return Ok(true),
         (printed, other) => return Err(format!("prints {printed:?}, and the Rust {other}")),
     };
@@ -109,8 +110,10 @@ fn printed_by_default(read: &DataType) -> Result<Result<String, Error>, String> 
         .ok_or_else(|| format!("prints {printed:?} by default, and the model {model:?}"))
 }
 
-fn is_ascii(row: &Row) -> bool {
-    row.name.is_ascii() && row.zone.is_ascii()
+/// Whether all characters of a row's name and zone are up to U+017F.
+fn is_latin(row: &Row) -> bool {
+    let latin = |part: &[u8]| str::from_utf8(part).is_ok_and(oracle::is_latin);
+    latin(&row.name) && latin(&row.zone)
 }
 
 /// A field as a row of the Rust's tree, through every function of its view; the home is not shown.

@@ -148,6 +148,11 @@ pub fn texts() -> Vec<(&'static str, String)> {
         .map(|field| [field / 676, field / 26, field].map(letter))
         .map(|[a, b, c]| format!("\"letters{a}{b}{c}\": Int8"))
         .collect();
+    // the same with an umlaut for a letter
+    let umlauts: Vec<String> = names
+        .iter()
+        .map(|name| name.replace("letters", "lettürs"))
+        .collect();
     let long: Vec<String> = (0..350)
         .map(|field| [field / 676, field / 26, field].map(letter))
         .map(|[a, b, c]| format!("\"flow_temperature_setpoint_{a}{b}{c}\": Int8"))
@@ -160,6 +165,10 @@ pub fn texts() -> Vec<(&'static str, String)> {
         (
             "700 ten-letter names",
             format!("Struct({})", names.join(", ")),
+        ),
+        (
+            "700 names with umlauts",
+            format!("Struct({})", umlauts.join(", ")),
         ),
         ("350 long names", format!("Struct({})", long.join(", "))),
         (

@@ -233,13 +233,45 @@ fn a_length_is_that_of_the_spelling() {
 #[test]
 fn a_name_is_no_unit() {
     for spelling in Spelling::BOTH {
-        let printed = |text| printed(spelling, text, MOST_BYTES);
-        for text in ["List(Int8, field: '(µs)')", "Struct(\"(us)\": Int8)"] {
-            assert_eq!(printed(text), Ok(text.into()));
+        for text in [
+            "List(Int8, field: '(µs)')",
+            "Struct(\"(us)\": Int8)",
+            "Struct(\"(µs)\": Time64(ns))",
+            "Timestamp(s, \"(µs, )\")",
+        ] {
+            assert_eq!(printed(spelling, text, MOST_BYTES), Ok(text.into()));
         }
-        assert_eq!(printed("Struct(\"µs\": Timestamp(us))"), Err(18));
-        assert_eq!(printed("Timestamp(us, \"µs\")"), Err(18));
     }
+}
+
+/// Characters above 127 in double quotes (document 02, [11]).
+#[test]
+fn characters_above_127() {
+    let printed = |text: &str| printed(Spelling::Us, text, MOST_BYTES);
+    for text in [
+        "Struct(\"Küche\": Int8)",
+        "Timestamp(s, \"Zürich\")",
+        "Struct(\"\u{a1}\": Int8, \"\u{17f}\": Int8)",
+        "Struct(\"a\u{ff}\": Int8)",
+        "List(Int8, field: '\u{180}')",
+    ] {
+        assert_eq!(printed(text), Ok(text.into()));
+    }
+    for (text, expected) in [
+        ("Struct(\"\u{80}\": Int8)", r#"Struct("\u{80}": Int8)"#),
+        ("Struct(\"\u{a0}\": Int8)", r#"Struct("\u{a0}": Int8)"#),
+        ("Timestamp(s, \"a\u{ad}z\")", r#"Timestamp(s, "a\u{ad}z")"#),
+    ] {
+        assert_eq!(printed(text), Ok(expected.into()));
+    }
+    assert_eq!(printed("Struct(\"\u{180}\": Int8)"), Err(18));
+    let long = format!("Struct(\"{}\u{180}\": Int8)", "\t".repeat(9_000));
+    assert_eq!(printed(&long), Err(18));
+
+    let spaces = |count| format!("Struct(\"{}\": Int8)", "\u{a0}".repeat(count));
+    let longest = printed(&spaces(2_728));
+    assert_eq!(longest.map(|text| text.len()), Ok(MOST_BYTES));
+    assert_eq!(printed(&spaces(2_729)), Err(19));
 }
 
 #[test]
@@ -315,6 +347,10 @@ enum Fault {
     MicroMeasuredAsUs,
     SoundnessUnasked,
     OneByteOfRoomMissing,
+    SoftHyphenAsItself,
+    NoBreakSpaceAsItself,
+    U0180LetThrough,
+    U017fRefused,
 }
 
 /// The model as a port, with a fault.
@@ -352,6 +388,23 @@ impl Port {
             _ => same(spelling),
         }
     }
+
+    /// A character of two bytes that the port prints as it prints the other.
+    fn taken_for(&self) -> Option<(&'static str, &'static str)> {
+        match self.0 {
+            Fault::SoftHyphenAsItself => Some(("\u{ad}", "\u{ae}")),
+            Fault::NoBreakSpaceAsItself => Some(("\u{a0}", "\u{a1}")),
+            Fault::U0180LetThrough => Some(("\u{180}", "\u{17f}")),
+            Fault::U017fRefused => Some(("\u{17f}", "\u{180}")),
+            _ => None,
+        }
+    }
+}
+
+/// A text with one character in the place of another; none if it has that one already.
+fn replaced(text: &[u8], from: &str, to: &str) -> Option<Vec<u8>> {
+    let text = str::from_utf8(text).ok()?;
+    (!text.contains(to)).then(|| text.replace(from, to).into_bytes())
 }
 
 /// How far behind a mark's or a word's first byte the next token stands, or the end.
@@ -411,6 +464,15 @@ impl Subject for Port {
         rows: &[u32],
         out: &mut [u8],
     ) -> Result<usize, u32> {
+        let taken = self.taken_for();
+        if let Some((character, other)) = taken
+            && let Some(text) = replaced(text, character, other)
+        {
+            let printed = model::print(spelling, &text, list, rows, out.len())?;
+            let printed = replaced(&printed, other, character).unwrap_or(printed);
+            out[..printed.len()].copy_from_slice(&printed);
+            return Ok(printed.len());
+        }
         let room = match self.0 {
             Fault::OneByteOfRoomMissing => out.len().saturating_sub(1),
             _ => out.len(),
@@ -461,12 +523,13 @@ fn short_run(port: &Port) -> usize {
         let read = check.text(text.as_bytes()).map(|rows| rows.len());
         check.expect(text.as_bytes(), &read, &expected);
     }
+    check::each_character(&mut check);
     for _ in 0..300 {
         let rows = random.between(1, 10);
         let tokens = texts::random(&mut random, rows, 20);
         let _ = check.text(&texts::join(&mut random, &tokens));
         let _ = check.text(&damage::damaged(&mut random, &tokens));
-        for letters in [Letters::Plain, Letters::Ascii, Letters::Any] {
+        for letters in [Letters::Plain, Letters::Ascii, Letters::Latin, Letters::Any] {
             check::random_tree(&mut check, &mut random, letters);
         }
         let tree = trees::sound(&mut random, Letters::Ascii, 12);
@@ -513,6 +576,10 @@ fn ports_with_faults_are_caught() {
         Fault::MicroMeasuredAsUs,
         Fault::SoundnessUnasked,
         Fault::OneByteOfRoomMissing,
+        Fault::SoftHyphenAsItself,
+        Fault::NoBreakSpaceAsItself,
+        Fault::U0180LetThrough,
+        Fault::U017fRefused,
     ] {
         assert!(short_run(&Port(fault)) > 0, "{fault:?} is not caught");
     }

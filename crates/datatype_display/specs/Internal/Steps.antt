@@ -5,7 +5,7 @@ use Rattle.std.proofs.lemmas.List.Edits.{sets}
 use Rattle.tokenizer.specs.Text.{bytes}
 use Rattle.datatype.specs.Kind.{Shape}
 use Rattle.output.specs.Digits.{digits}
-use Rattle.display_length.specs.Display.{hex, escaped, quoted, Shown, nullity_text, field_text, shape_text, type_text, shown}
+use Rattle.display_length.specs.Display.{is_lead, escaped_from, quoted, Shown, nullity_text, field_text, shape_text, type_text, shown}
 use Rattle.display_length.specs.declared.nodes.Node.{Node}
 use Rattle.display_length.specs.declared.nodes.Nodes.{Nodes}
 use Rattle.display_length.specs.Internal.Nodes.{label_in, children_in, levels_below, labels_in}
@@ -29,19 +29,22 @@ pub record Wrote (before : Printer) (s : List ℕ) (after : Printer) : Type 0 wh
 
 -- ---- strings
 
--- A byte that is written as it is between double quotes.
-unfoldable pub is_itself : ℕ → Bool
-is_itself c = leb 32 c && not (eqb c 34) && not (eqb c 92) && not (eqb c 127)
+-- A byte that is not escaped between double quotes, where it is not behind C2.
+unfoldable pub is_shown : ℕ → Bool
+is_shown c = leb 32 c && not (eqb c 34) && not (eqb c 92) && not (eqb c 127)
+
+abbrev pub no_lead : ℕ → Bool
+no_lead c = not (is_lead c)
+
+-- Such a byte is written as it is, but for C2, at which nothing is written.
+abbrev pub is_itself : ℕ → Bool
+is_itself c = is_shown c && no_lead c
 
 -- The first n bytes of s stand at a place as they are, and nothing else has changed.
 pub record Ran (before : List ℕ) (at : ℕ) (s : List ℕ) (n : ℕ) (after : List ℕ) : Type 0 where
   pub few : n ≤ length s
   pub stored : after ≡ sets before at (take n s)
-  pub same : take n s ++ escaped (drop n s) ≡ escaped s
-
--- A control character, by its number in hex digits.
-unfoldable pub unicode_text : ℕ → List ℕ
-unicode_text c = bytes "\\u{" ++ (hex c ++ bytes "}")
+  pub same : take n s ++ escaped_from false (drop n s) ≡ escaped_from false s
 
 -- ---- kinds
 

@@ -8,9 +8,9 @@ use Rattle.datatype.specs.Tree.{Forest, ∅, node, roots, depth, Label, label_of
 use Rattle.datatype.specs.Table.{rows_at}
 use Rattle.subtrees.specs.Internal.Run.{row_at, forest_at}
 use Rattle.output.specs.Digits.{digits}
-use Rattle.display_length.specs.Display.{kind_text, unit_text, interval_text, mode_text, sorted_text, scale_text, quoted, list_name_text, zone_text}
+use Rattle.display_length.specs.Display.{kind_text, unit_text, interval_text, mode_text, sorted_text, scale_text, is_lead, quoted, list_name_text, zone_text}
 use Rattle.display_length.specs.declared.words.Spelling.{Spelling}
-use Rattle.display_length.specs.PrintedLength.{quotes_names, is_ascii, names_ascii}
+use Rattle.display_length.specs.PrintedLength.{quotes_names, is_latin, names_latin}
 
 -- ---- rows
 
@@ -31,22 +31,22 @@ depth_below table i = depth (forest_at table (i + 1) (i + rows_at table i - (i +
 
 -- ---- refusal 18
 
--- What a row prints in double quotes, its zone and its children's names, is ASCII.
-unfoldable pub row_ascii : Label → List Label → Bool
-row_ascii l kids = is_ascii l.zone && (not (quotes_names (shape_of l.kind) kids) || names_ascii kids)
+-- What a row prints in double quotes, its zone and its children's names, is Latin.
+unfoldable pub row_latin : Label → List Label → Bool
+row_latin l kids = is_latin l.zone && (not (quotes_names (shape_of l.kind) kids) || names_latin kids)
 
 -- ---- strings
 
--- Printable ASCII but for the backslash: of these bytes only the double quote is escaped.
+-- Latin bytes of which only the double quote is escaped.
 unfoldable pub is_clean : ℕ → Bool
-is_clean c = leb 32 c && not (eqb c 92) && leb c 126
+is_clean c = leb 32 c && not (eqb c 92) && not (eqb c 127) && not (is_lead c) && leb c 0xC5
 
 unfoldable pub is_no_mark : ℕ → Bool
 is_no_mark c = not (eqb c 34)
 
--- A byte's weight, at most 126 where it is clean.
+-- A byte's weight, at most C5 where it is clean.
 abbrev pub clean_weight : ℕ → ℕ
-clean_weight c = if ltb c 32 || eqb c 92 then 255 else c
+clean_weight c = if ltb c 32 || eqb c 92 || eqb c 127 || is_lead c then 255 else c
 
 -- Bytes no longer than a text, and clean ones where the code takes them to be.
 pub record Clean (clean : Bool) (s : List ℕ) : Type 0 where

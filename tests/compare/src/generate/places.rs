@@ -1,4 +1,5 @@
-//! Every word, every number near a bound and every short escape in every place that could take it.
+//! Every word, every number near a bound, every short escape and every character above 127 up to U+0183 in every place
+//! that could take it.
 
 use super::Visit;
 use crate::model::{KINDS, OTHER_WORDS};
@@ -10,6 +11,24 @@ fn put(templates: &[&str], filling: &str, visit: Visit) {
         visit(template.replace('~', filling).as_bytes());
         visit(format!("{before}{filling}").as_bytes());
         visit(format!("{before}{filling} ").as_bytes());
+    }
+}
+
+/// Every character from U+0080 to U+0183 in a field's name, a list's and a zone, alone and between others.
+pub fn characters(visit: Visit) {
+    const PLACES: [&str; 3] = [
+        "Struct(\"~\": Int8)",
+        "List(Int8, field: '~')",
+        "Timestamp(us, \"~\")",
+    ];
+    const AROUND: [&str; 5] = ["~", "a~", "~z", "a~z", "ü~\u{ff}"];
+    for character in '\u{80}'..='\u{183}' {
+        for around in AROUND {
+            let name = around.replace('~', &character.to_string());
+            for place in PLACES {
+                visit(place.replace('~', &name).as_bytes());
+            }
+        }
     }
 }
 

@@ -33,12 +33,27 @@ pub fn tree(text: &[u8], rows: &[Row]) -> Tree {
 /// What the text, and so the names and zones, are made of.
 #[derive(Clone, Copy, PartialEq, Eq)]
 pub enum Letters {
-    /// Printable ASCII without quote marks and backslashes: what reads back.
+    /// What reads back.
     Plain,
     /// All of ASCII.
     Ascii,
+    /// Up to U+0183, most of it above 127: the last four are refused in double quotes.
+    Latin,
     /// All of Unicode.
     Any,
+}
+
+/// Whether names and zones of such characters read back: printable ASCII and what is above 127 and prints as itself,
+/// without quote marks and backslashes.
+pub fn is_plain(character: char) -> bool {
+    let itself = matches!(character, ' '..='~' | '\u{a1}'..='\u{17f}') && character != '\u{ad}';
+    itself && !"\"'\\".contains(character)
+}
+
+/// A random character of a range.
+fn between(random: &mut Random, least: char, most: char) -> char {
+    let number = random.between(least as usize, most as usize);
+    char::from_u32(number as u32).expect("a character")
 }
 
 pub fn text(random: &mut Random, letters: Letters, length: usize) -> String {
@@ -51,14 +66,21 @@ pub fn text(random: &mut Random, letters: Letters, length: usize) -> String {
             3 => text += random.pick(&["Int8", "UTC", "+01:00", ", field: ", "non-null "]),
             _ => text.push(match letters {
                 Letters::Plain => loop {
-                    let byte = random.between(32, 126) as u8;
-                    if !b"\"'\\".contains(&byte) {
-                        break char::from(byte);
+                    let (least, most) = [(' ', '~'), ('\u{a1}', '\u{17f}')][random.below(2)];
+                    let character = between(random, least, most);
+                    if is_plain(character) {
+                        break character;
                     }
                 },
                 Letters::Ascii => match random.below(3) {
                     0 => char::from(b"\"'\\\0\t\r\n\x01\x1f\x7f"[random.below(10)]),
                     _ => char::from(random.below(128) as u8),
+                },
+                Letters::Latin => match random.below(200) {
+                    0 => between(random, '\u{180}', '\u{183}'),
+                    1..=40 => between(random, '\0', '\u{7f}'),
+                    41..=100 => between(random, '\u{80}', '\u{bf}'),
+                    _ => between(random, '\u{c0}', '\u{17f}'),
                 },
                 Letters::Any => random.character(),
             }),

@@ -1,9 +1,9 @@
 use Rattle.std.proofs.Common.{◌≡◌, ◌||◌, not}
 use lib.ListN.{drop}
 use Rattle.tokenizer.specs.Text.{all}
-use Rattle.datatype_display.specs.Internal.Steps.{is_itself}
+use Rattle.datatype_display.specs.Internal.Steps.{is_shown}
 use Rattle.datatype_display.proofs.escape.has_escaped.Given as goal
 
 -- What was found, or is to be found among the bytes that are left.
 abbrev pub invariant-loop-c : goal.invariant-loop-c
-invariant-loop-c l = not (all is_itself l.piece) ≡ (l.found || not (all is_itself (drop l.c-index l.piece)))
+invariant-loop-c l = not (all is_shown l.piece) ≡ (l.found || not (all is_shown (drop l.c-index l.piece)))

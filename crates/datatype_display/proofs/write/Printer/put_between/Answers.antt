@@ -2,5 +2,5 @@
 use Rattle.datatype_display.proofs.Escapes.{ran_then}
 use Rattle.datatype_display.proofs.write.Printer.put_between.Goals as goal
 
-pub returns : goal.returns
-returns c = ran_then _ _ _ _ c.put_run-n.ensures _ c.put_escaped.ensures
+pub returns-else-lead : goal.returns-else-lead
+returns-else-lead c = ran_then _ _ _ _ _ c.if-lead.false c.put_run-n.ensures _ c.put_escaped-else-lead.ensures

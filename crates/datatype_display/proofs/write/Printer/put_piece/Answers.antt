@@ -1,6 +1,13 @@
--- The law takes the test's answer, which the goal does not show.
+-- The law takes the tests' answers, which the goal does not show.
+use mathlib.Core.Path.{sym, ◌∙◌}
+use mathlib.Core.Bool.{false≢true}
 use Rattle.datatype_display.proofs.Escapes.{itself_wrote}
 use Rattle.datatype_display.proofs.write.Printer.put_piece.Goals as goal
+use Rattle.datatype_display.proofs.write.Printer.put_piece.Goals.{then-has_escaped, else-has_escaped}
 
-pub returns-else-has_escaped : goal.returns-else-has_escaped
-returns-else-has_escaped c = itself_wrote c.has_escaped.ensures c.if-has_escaped.false c.put.ensures
+pub returns-else-has_lead : goal.returns-else-has_lead
+returns-else-has_lead c =
+    elim c.if-has_escaped.branch [
+      | then-has_escaped w ↦ absurd (false≢true (sym c.if-has_lead.false ∙ w.value-is ∙ w.if-has_escaped.true))
+      | else-has_escaped w ↦ itself_wrote c.if-lead.false c.has_escaped.ensures w.if-has_escaped.false w.has_lead.ensures (sym w.value-is ∙ c.if-has_lead.false) c.put.ensures
+    ]

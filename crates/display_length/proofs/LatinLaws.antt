@@ -1,23 +1,20 @@
--- Bytes that are clean and bytes that are ASCII, which names print in double quotes, and whether these are ASCII: what
--- `is_clean` and the functions of `names.rt` and `ascii.rt` answer.
+-- Bytes that are clean and bytes that are Latin, which names print in double quotes, and whether these are Latin: what
+-- `is_clean` and the functions of `names.rt` and `latin.rt` answer.
 use Rattle.std.specs.Prelude.{if◌then◌else◌}
 use Rattle.std.specs.declared.option.Option.{Option}
 use Rattle.std.specs.declared.option.Option.TheVariants.{Some}
 use mathlib.Core.Path.{◌≡◌, refl, sym, ap, ◌∙◌}
-use mathlib.Core.Bool.{Bool, true, false, not, ◌&&◌, ◌||◌, and-true, or-true, false≢true}
+use mathlib.Core.Bool.{Bool, true, false, not, ◌&&◌, ◌||◌, and-true, or-true}
 use mathlib.Core.List.{List, [], ◌∷◌}
 use Prim.Native.Nat.{ℕ, zero, suc, ◌+◌, ◌-◌, ◌/◌, ◌≤◌, ◌<◌, max}
 use native.Mathlib.Decide.{dec_lt}
 use native.Mathlib.Omega.{arith}
-use lib.ListN.{length, get_or, get_or-eq_default, take, drop, drop_of_length-le}
+use lib.ListN.{length, get_or, take, drop, drop_of_length-le}
 use lib.Seq.{drop-cons}
 use native.Mathlib.Numerals.{add-one}
 use lib.Dec.{T, leb, eqb, leb→le, le→leb}
 use borrow.Author.Tests.{le-leb, lt-leb, lt-ltb, le-ltb}
-use Rattle.std.specs.Bool.{MatchBool}
-use Rattle.std.specs.Str.{IsAscii, IsNotAscii}
 use Rattle.std.specs.List.{fold}
-use Rattle.std.proofs.lemmas.List.Recursion.{and_is}
 use Rattle.tokenizer.specs.Text.{all, same, bytes}
 use Rattle.tokenizer.proofs.Basics.{and_l, and_r, both, is_true, of_true, all_take, all_drop}
 use Rattle.datatype.specs.Kind.{run_end_encoded, shape_of}
@@ -27,13 +24,13 @@ use Rattle.row_table.specs.Sound.{is_sound}
 use Rattle.subtrees.specs.Internal.Run.{row_at, forest_at}
 use Rattle.datatype.proofs.Tests.{iff_eq}
 use Rattle.row_table.proofs.SoundTree.{sound_tree}
-use Rattle.display_length.specs.PrintedLength.{quotes_names, is_ascii, names_ascii, quoted_ascii}
+use Rattle.display_length.specs.PrintedLength.{quotes_names, is_latin, names_latin, quoted_latin}
 use Rattle.display_length.specs.declared.nodes.Node.{Node}
 use Rattle.display_length.specs.declared.nodes.Nodes.{Nodes}
-use Rattle.display_length.specs.Internal.Steps.{row_ascii, is_clean, clean_weight}
+use Rattle.display_length.specs.Internal.Steps.{row_latin, is_clean, clean_weight}
 use Rattle.display_length.specs.Nodes.{IsFirst, GivesNode}
 use Rattle.display_length.specs.Internal.Nodes.{label_in, children_in, labels_in}
-use Rattle.display_length.specs.Display.{default_names}
+use Rattle.display_length.specs.Display.{is_lead, default_names}
 use Rattle.display_length.proofs.NodeLaws.{none-left, first_labels, given, all_labels}
 
 -- ---- bytes
@@ -56,28 +53,37 @@ greatest_of test weight limit so (c ∷ s) top =
     swap false true d = refl
     swap false false d = refl
 
-clean-by-weight : (c : ℕ) → leb (clean_weight c) 126 ≡ is_clean c
+clean-by-weight : (c : ℕ) → leb (clean_weight c) 0xC5 ≡ is_clean c
 unfolding is_clean
 clean-by-weight c =
     elim (dec_lt c 32) [
       | yes h ↦ rw (lt-ltb c 32 h, lt-leb 32 c h)
-      | no h ↦ rw (le-ltb c 32 (omega arith), le-leb 32 c (omega arith)) (go (eqb c 92))
+      | no h ↦ rw (le-ltb c 32 (omega arith), le-leb 32 c (omega arith)) (go (eqb c 92) (eqb c 127) (is_lead c))
     ]
   where
-    go : (b : Bool) → leb (if b then 255 else c) 126 ≡ (not b && leb c 126)
-    go true = refl
-    go false = refl
+    go : (b d l : Bool) → leb (if b || d || l then 255 else c) 0xC5 ≡ (not b && not d && not l && leb c 0xC5)
+    go true d l = refl
+    go false true l = refl
+    go false false true = refl
+    go false false false = refl
 
--- the greatest weight of bytes, behind a number
+-- the greatest byte, behind a number, and the greatest weight
 unfoldable pub greatest : ℕ → List ℕ → ℕ
-greatest top s = fold (λ t c. max (clean_weight c) t) top s
+greatest top s = fold (λ t c. max c t) top s
 
-pub clean_greatest : (s : List ℕ) → leb (greatest 0 s) 126 ≡ all is_clean s
+unfoldable pub heaviest : ℕ → List ℕ → ℕ
+heaviest top s = fold (λ t c. max (clean_weight c) t) top s
+
+pub latin_greatest : (s : List ℕ) → leb (greatest 0 s) 0xC5 ≡ is_latin s
 unfolding greatest
-clean_greatest s = greatest_of is_clean clean_weight 126 clean-by-weight s 0
+latin_greatest s = greatest_of (λ c. leb c 0xC5) (λ c. c) 0xC5 (λ c. refl) s 0
+
+pub clean_heaviest : (s : List ℕ) → leb (heaviest 0 s) 0xC5 ≡ all is_clean s
+unfolding heaviest
+clean_heaviest s = greatest_of is_clean clean_weight 0xC5 clean-by-weight s 0
 
 module _ (s : List ℕ) (top i : ℕ) where
-  pub greatest-go : i < length s → greatest top (drop i s) ≡ greatest (max (clean_weight (get_or s i 0)) top) (drop (i + 1) s)
+  pub greatest-go : i < length s → greatest top (drop i s) ≡ greatest (max (get_or s i 0) top) (drop (i + 1) s)
   unfolding greatest
   greatest-go h = rw (drop-cons s i 0 h, add-one i) refl
 
@@ -85,21 +91,21 @@ module _ (s : List ℕ) (top i : ℕ) where
   unfolding greatest
   greatest-end h = rw (drop_of_length-le s h) refl
 
--- what `is_ascii` of std answers
-pub ascii_is : (s : List ℕ) (r : Bool) → MatchBool r (IsAscii s) (IsNotAscii s) → r ≡ is_ascii s
-ascii_is s true h = and_is is_ascii (λ c. leb c 127) refl (λ _ _. refl) s 0 true (λ _ i l. le-leb (get_or s i 0) 127 (omega (arith, h i))) (λ e. absurd (false≢true (sym e)))
-ascii_is s false h = and_is is_ascii (λ c. leb c 127) refl (λ _ _. refl) s 0 false (λ e. absurd (false≢true e)) (λ _. (h.0, inside, lt-leb (get_or s h.0 0) 127 (omega (arith, h.1))))
-  where
-    inside : h.0 < length s
-    inside = elim (dec_lt h.0 (length s)) [ yes l ↦ l | no l ↦ absurd (omega (arith, h.1, get_or-eq_default s 0 {n = h.0} (omega arith))) ]
+  pub heaviest-go : i < length s → heaviest top (drop i s) ≡ heaviest (max (clean_weight (get_or s i 0)) top) (drop (i + 1) s)
+  unfolding heaviest
+  heaviest-go h = rw (drop-cons s i 0 h, add-one i) refl
+
+  pub heaviest-end : length s ≤ i → heaviest top (drop i s) ≡ top
+  unfolding heaviest
+  heaviest-end h = rw (drop_of_length-le s h) refl
 
 -- ---- nodes
 
 -- what a node prints itself, and its children's names
 module _ (n : Node) (kids : List Label) where
-  pub row_ascii_is : row_ascii (label_in n) kids ≡ (is_ascii (label_in n).zone && (not (quotes_names (shape_of (label_in n).kind) kids) || names_ascii kids))
-  unfolding row_ascii
-  row_ascii_is = refl
+  pub row_latin_is : row_latin (label_in n) kids ≡ (is_latin (label_in n).zone && (not (quotes_names (shape_of (label_in n).kind) kids) || names_latin kids))
+  unfolding row_latin
+  row_latin_is = refl
 
 -- a node's name, by the row's words
 abbrev pub name_in : Node → List ℕ
@@ -111,11 +117,11 @@ module _ (ns : Nodes) where
   unfolding quotes_names
   pair_none e = rw (none-left ns e)
 
-  pub names_none : ns.start ≡ ns.end → names_ascii (roots (labels_in ns)) ≡ true
+  pub names_none : ns.start ≡ ns.end → names_latin (roots (labels_in ns)) ≡ true
   names_none e = rw (none-left ns e)
 
-  pub quoted_none : ns.start ≡ ns.end → quoted_ascii (labels_in ns) ≡ true
-  unfolding quoted_ascii
+  pub quoted_none : ns.start ≡ ns.end → quoted_latin (labels_in ns) ≡ true
+  unfolding quoted_latin
   quoted_none e = rw (none-left ns e)
 
   module _ (r : Option Node) (left : Nodes) (g : GivesNode ns r left) (n : Node) (is : r ≡ Some n) where
@@ -128,20 +134,20 @@ module _ (ns : Nodes) where
     unfolding quotes_names default_names label_of row_at
     pair_two q more h m so s t e f d k = rw (first_labels ns n left (given ns r left g n is), first_labels left m more (given left q more h m so), k, e, f)
 
-    -- a name tells that not all are ASCII, or the others tell
-    module _ (all : Bool) (so : all ≡ names_ascii (roots (labels_in ns))) (s : List ℕ) (name : s ≡ name_in n) (b : Bool) (test : MatchBool b (IsAscii s) (IsNotAscii s)) where
-      names_first : all ≡ (b && names_ascii (roots (labels_in left)))
+    -- a name tells that not all are Latin, or the others tell
+    module _ (all : Bool) (so : all ≡ names_latin (roots (labels_in ns))) (s : List ℕ) (name : s ≡ name_in n) (b : Bool) (test : b ≡ is_latin s) where
+      names_first : all ≡ (b && names_latin (roots (labels_in left)))
       unfolding label_of row_at
-      names_first = rw (so, first_labels ns n left (given ns r left g n is), ascii_is s b test, name)
+      names_first = rw (so, first_labels ns n left (given ns r left g n is), test, name)
 
       pub names-no : b ≡ false → false ≡ all
       names-no e = rw (names_first, e)
 
-      pub names-rest : b ≡ true → all ≡ names_ascii (roots (labels_in left))
+      pub names-rest : b ≡ true → all ≡ names_latin (roots (labels_in left))
       names-rest e = rw (names_first, e)
 
-  pub quoted_first : (n : Node) (left : Nodes) → IsFirst ns n left → quoted_ascii (labels_in ns) ≡ (row_ascii (label_in n) (roots (children_in n)) && quoted_ascii (children_in n) && quoted_ascii (labels_in left))
-  unfolding quoted_ascii row_ascii
+  pub quoted_first : (n : Node) (left : Nodes) → IsFirst ns n left → quoted_latin (labels_in ns) ≡ (row_latin (label_in n) (roots (children_in n)) && quoted_latin (children_in n) && quoted_latin (labels_in left))
+  unfolding quoted_latin row_latin
   quoted_first n left f = rw (first_labels ns n left f)
 
 -- ---- a text whose bytes all pass a test
@@ -167,36 +173,35 @@ module _ (test : ℕ → Bool) where
   zone-all text a start size = part-all text start size a
 
 -- so is what a tree over it says
-module _ (text names : List ℕ) (a : T (is_ascii text)) (b : T (is_ascii names)) where
-  roots-ascii : (f : Forest Row) → names_ascii (roots (labels text names f)) ≡ true
+module _ (text names : List ℕ) (a : T (is_latin text)) (b : T (is_latin names)) where
+  roots-latin : (f : Forest Row) → names_latin (roots (labels text names f)) ≡ true
   unfolding labels label_of
-  roots-ascii ∅ = refl
-  roots-ascii (node r k n) = rw (name-all (λ c. leb c 127) text names a b r.home r.name_start r.name_length) (roots-ascii n)
+  roots-latin ∅ = refl
+  roots-latin (node r k n) = rw (name-all (λ c. leb c 0xC5) text names a b r.home r.name_start r.name_length) (roots-latin n)
 
-  quoted-ascii : (f : Forest Row) → quoted_ascii (labels text names f) ≡ true
-  unfolding quoted_ascii labels label_of
-  quoted-ascii ∅ = refl
-  quoted-ascii (node r k n) =
+  quoted-latin : (f : Forest Row) → quoted_latin (labels text names f) ≡ true
+  unfolding quoted_latin labels label_of
+  quoted-latin ∅ = refl
+  quoted-latin (node r k n) =
       let q = not (quotes_names (shape_of r.kind) (roots (labels text names k))) in
-      rw (zone-all (λ c. leb c 127) text a r.zone_start r.zone_length, roots-ascii k, or-true q, quoted-ascii k) (quoted-ascii n)
+      rw (zone-all (λ c. leb c 0xC5) text a r.zone_start r.zone_length, roots-latin k, or-true q, quoted-latin k) (quoted-latin n)
 
--- what is clean is ASCII
-clean_ascii : (s : List ℕ) → T (all is_clean s) → T (is_ascii s)
+-- what is clean is Latin
+clean_latin : (s : List ℕ) → T (all is_clean s) → T (is_latin s)
 unfolding is_clean
-clean_ascii [] t = tt
-clean_ascii (c ∷ s) t =
-    let a = leb 32 c && not (eqb c 92) in
-    let one = leb→le c 126 (and_r a (leb c 126) (and_l (a && leb c 126) (all is_clean s) t)) in
-    both (leb c 127) (is_ascii s) (le→leb c 127 (omega arith)) (clean_ascii s (and_r (a && leb c 126) (all is_clean s) t))
+clean_latin [] t = tt
+clean_latin (c ∷ s) t =
+    let low = leb 32 c && not (eqb c 92) && not (eqb c 127) && not (is_lead c) in
+    both (leb c 0xC5) (is_latin s) (and_r low (leb c 0xC5) (and_l (low && leb c 0xC5) (all is_clean s) t)) (clean_latin s (and_r (low && leb c 0xC5) (all is_clean s) t))
 
 -- ---- the whole tree
 
 module _ (text names table : List ℕ) (sound : T (is_sound text names table)) where
-  pub tree-ascii : (r : Bool) → r ≡ is_ascii text → r ≡ true → true ≡ quoted_ascii (tree_of text names table)
-  tree-ascii r e f =
+  pub tree-latin : (r : Bool) → r ≡ is_latin text → r ≡ true → true ≡ quoted_latin (tree_of text names table)
+  tree-latin r e f =
       let s = sound_tree text names table sound in
-      let n : T (is_ascii names) = rw s.listed tt in
-      sym (ap quoted_ascii (all_labels text names table sound) ∙ quoted-ascii text names (of_true _ (sym e ∙ f)) n (forest_at table 0 (length table / row_words - 0)))
+      let n : T (is_latin names) = rw s.listed tt in
+      sym (ap quoted_latin (all_labels text names table sound) ∙ quoted-latin text names (of_true _ (sym e ∙ f)) n (forest_at table 0 (length table / row_words - 0)))
 
-  pub tree-clean : (clean : Bool) → (clean ≡ true → T (all is_clean text)) → clean ≡ true → true ≡ quoted_ascii (tree_of text names table)
-  tree-clean clean c e = tree-ascii true (sym (is_true _ (clean_ascii text (c e)))) refl
+  pub tree-clean : (clean : Bool) → (clean ≡ true → T (all is_clean text)) → clean ≡ true → true ≡ quoted_latin (tree_of text names table)
+  tree-clean clean c e = tree-latin true (sym (is_true _ (clean_latin text (c e)))) refl
