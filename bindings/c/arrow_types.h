@@ -1,8 +1,13 @@
 /*
  * The functions of the proved library arrow_types, for C and C++ on x86-64.
  *
- * `bash tests/build library` writes it to target/staticlib/libarrow_types.a. It keeps no state and allocates nothing,
- * and works in what is lent to it and on the stack.
+ * `bash tests/build library` writes it to target/staticlib/libarrow_types.a. It keeps no state and allocates nothing, works
+ * in what is lent to it and on the stack, and calls nothing but what clears, copies and compares memory (memset and its
+ * like). So every function is reentrant and thread-safe: any number of threads may call it at once, each with its own
+ * buffers to write to, and read the same texts and rows.
+ *
+ * A call takes at most 64 KiB of stack, ARROW_TYPES_MAX_STACK: reading a text of 64 levels takes the most, and anything
+ * else less than half of that. bindings/c/stack.c measures it. Rows for every text are 48 KiB more: keep them off a small stack.
  *
  * A slice is lent as a pointer and the number of its elements. What the caller owes:
  * - no pointer is null, also where the length is 0, and each points at as many elements as its length says;
@@ -25,6 +30,12 @@
 extern "C" {
 #endif
 
+/* The version of the library and of this header. */
+#define ARROW_TYPES_VERSION "0.2.0"
+#define ARROW_TYPES_VERSION_MAJOR 0
+#define ARROW_TYPES_VERSION_MINOR 2
+#define ARROW_TYPES_VERSION_PATCH 0
+
 /* Words to a row. */
 #define ARROW_TYPES_ROW_WORDS 12
 
@@ -33,6 +44,9 @@ extern "C" {
 
 /* The most bytes of a text, read or printed. */
 #define ARROW_TYPES_MAX_TEXT 16384
+
+/* The most bytes of stack that a call takes. */
+#define ARROW_TYPES_MAX_STACK 65536
 
 /* The name list, the three names that stand in no text, end to end, and how many bytes it has. */
 #define ARROW_TYPES_NAMES "itemrun_endsvalues"
@@ -63,6 +77,53 @@ enum arrow_types_refusal {
     ARROW_TYPES_NOT_LATIN = 18,          /* a name or zone to print in double quotes has a character above U+017F */
     ARROW_TYPES_PRINT_TOO_LONG = 19      /* the printed text is longer than 16,384 bytes or the buffer */
 };
+
+/* The sentence of a refusal, for a person: what the enum says of its number. 0 and other numbers are no refusal. */
+static inline const char *arrow_types_sentence(uint32_t number)
+{
+    switch (number) {
+    case ARROW_TYPES_TEXT_TOO_LONG:
+        return "the text is longer than 16,384 bytes";
+    case ARROW_TYPES_NOT_UTF8:
+        return "the text is not UTF-8";
+    case ARROW_TYPES_TOO_DEEP:
+        return "types are nested deeper than 64 levels";
+    case ARROW_TYPES_TOO_MANY_ROWS:
+        return "there are more types in the text than rows for them";
+    case ARROW_TYPES_TEXT_ENDS:
+        return "the text ends where more is needed";
+    case ARROW_TYPES_STRING_NEVER_ENDS:
+        return "a quoted string never ends";
+    case ARROW_TYPES_STRING_EMPTY:
+        return "a quoted string is empty";
+    case ARROW_TYPES_UNKNOWN_WORD:
+        return "a word is neither known nor a number of 64 bits";
+    case ARROW_TYPES_UNEXPECTED_TOKEN:
+        return "a token stands where one of another sort is needed";
+    case ARROW_TYPES_NUMBER_OUT_OF_RANGE:
+        return "a number is outside its range";
+    case ARROW_TYPES_WRONG_TIME_UNIT:
+        return "Time32 takes s or ms, and Time64 takes us or ns";
+    case ARROW_TYPES_WRONG_DECIMAL:
+        return "a decimal's precision or scale is not one that it may have";
+    case ARROW_TYPES_MUST_BE_NON_NULL:
+        return "Map entries, Map keys and run ends must be non-null";
+    case ARROW_TYPES_WRONG_MAP_ENTRIES:
+        return "Map entries must be a Struct of two fields";
+    case ARROW_TYPES_WRONG_UNION_ID:
+        return "a union id is negative or used twice";
+    case ARROW_TYPES_TRAILING_TEXT:
+        return "something follows the type";
+    case ARROW_TYPES_NOT_SOUND:
+        return "text and rows are no sound tree";
+    case ARROW_TYPES_NOT_LATIN:
+        return "a name or zone to print in double quotes has a character above U+017F";
+    case ARROW_TYPES_PRINT_TOO_LONG:
+        return "the printed text is longer than 16,384 bytes or the buffer";
+    default:
+        return "this is no refusal";
+    }
+}
 
 /* The words of a row. Rows stand parent first, children in order. Words that a kind does not use are 0. */
 enum arrow_types_word {

@@ -519,6 +519,27 @@ static void eleven_words(void)
     CHECK(all(b.rows, WORDS, 7));
 }
 
+/* Every number has a sentence of its own, and no other number has one. */
+static void sentences(void)
+{
+    const char *none = arrow_types_sentence(0);
+    for (uint32_t number = 1; number <= ARROW_TYPES_PRINT_TOO_LONG; number++) {
+        CHECK(strcmp(arrow_types_sentence(number), none) != 0);
+        for (uint32_t other = 1; other < number; other++)
+            CHECK(strcmp(arrow_types_sentence(number), arrow_types_sentence(other)) != 0);
+    }
+    CHECK(strcmp(arrow_types_sentence(ARROW_TYPES_PRINT_TOO_LONG + 1), none) == 0);
+    CHECK(strcmp(arrow_types_sentence(UINT32_MAX), none) == 0);
+    CHECK(strcmp(arrow_types_sentence(ARROW_TYPES_NOT_UTF8), "the text is not UTF-8") == 0);
+}
+
+static void version(void)
+{
+    char text[40];
+    sprintf(text, "%d.%d.%d", ARROW_TYPES_VERSION_MAJOR, ARROW_TYPES_VERSION_MINOR, ARROW_TYPES_VERSION_PATCH);
+    CHECK(strcmp(text, ARROW_TYPES_VERSION) == 0);
+}
+
 int main(void)
 {
     reading();
@@ -534,6 +555,8 @@ int main(void)
     naming();
     parents();
     eleven_words();
+    sentences();
+    version();
     printf("%u checks, %u failed\n", checks, failures);
     return failures != 0;
 }

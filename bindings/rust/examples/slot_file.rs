@@ -5,9 +5,14 @@
 //!
 //! It reports the zones of each column before and after and writes the new head to OUTPUT. If a text is refused, a type
 //! does not read back as the same one or a zone is lost, it says so, writes nothing and ends with the status 1. Of a text
-//! that is refused it shows where.
+//! that is refused it shows where. OUTPUT, which may be INPUT, is replaced at one stroke: where writing fails it is as it
+//! was.
+
+mod replace_file;
 
 use arrow_types::{DataType, Field, ReadError, Spelling};
+use replace_file::replace_file;
+use std::path::Path;
 use std::process::ExitCode;
 
 fn main() -> ExitCode {
@@ -22,7 +27,7 @@ fn main() -> ExitCode {
             ExitCode::SUCCESS
         }
         Err(message) => {
-            println!("nothing is written: {message}");
+            println!("{message}");
             ExitCode::FAILURE
         }
     }
@@ -30,17 +35,20 @@ fn main() -> ExitCode {
 
 /// Rewrites a head: how many columns it has.
 fn rewrite_file(input: &str, output: &str) -> Result<usize, String> {
-    let head = std::fs::read(input).map_err(|error| format!("{input}: {error}"))?;
+    let head =
+        std::fs::read(input).map_err(|error| format!("nothing is written: {input}: {error}"))?;
     let head = head.strip_suffix(b"\n").unwrap_or(&head);
     let mut rewritten = String::new();
     let mut columns = 0;
     for text in head.split(|byte| *byte == b'\n') {
         columns += 1;
-        let line = rewrite(columns, text).map_err(|error| format!("column {columns}: {error}"))?;
+        let line = rewrite(columns, text)
+            .map_err(|error| format!("nothing is written: column {columns}: {error}"))?;
         rewritten += &line;
         rewritten += "\n";
     }
-    std::fs::write(output, rewritten).map_err(|error| format!("{output}: {error}"))?;
+    replace_file(Path::new(output), rewritten.as_bytes())
+        .map_err(|error| format!("{output}: {error}"))?;
     Ok(columns)
 }
 

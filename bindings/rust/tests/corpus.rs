@@ -5,6 +5,7 @@
 //! the rows that they need and printed with 16,384 bytes, and there is one name list, so there cases that lend less or
 //! have another list are held to what they imply, or left out; the counts say of how many. The last case of each sample
 //! is wrong on purpose.
+#![cfg(repository)]
 
 use std::panic::{AssertUnwindSafe, catch_unwind};
 

@@ -1,6 +1,7 @@
-//! The C header says the same as this crate: refusals with their sentences, kinds, and the limits.
+//! The C header says the same as this crate: refusals with their sentences, kinds, the version and the limits.
+#![cfg(repository)]
 
-use arrow_types::{Error, Kind, MAX_ROWS, MAX_TEXT, ROW_WORDS};
+use arrow_types::{Error, Kind, MAX_ROWS, MAX_STACK, MAX_TEXT, ROW_WORDS};
 
 const HEADER: &str = include_str!("../../c/arrow_types.h");
 
@@ -55,6 +56,35 @@ fn refusals() {
     assert_eq!(constants("arrow_types_refusal"), expected);
 }
 
+/// The header's function says what the enum says.
+#[test]
+fn sentences() {
+    let (_, body) = HEADER
+        .split_once("const char *arrow_types_sentence(")
+        .unwrap();
+    let (body, _) = body.split_once("default:").unwrap();
+    let cases: Vec<&str> = body.split("    case ").skip(1).collect();
+    let expected = Error::ALL.map(|error| {
+        let name = upper(&format!("{error:?}"));
+        format!("ARROW_TYPES_{name}:\n        return \"{error}\";\n")
+    });
+    let cases: Vec<&str> = cases
+        .iter()
+        .map(|case| case.trim_end_matches(' '))
+        .collect();
+    assert_eq!(cases, expected);
+}
+
+/// Header, pkg-config file and crate have one version.
+#[test]
+fn version() {
+    let version = env!("CARGO_PKG_VERSION");
+    let line = format!("#define ARROW_TYPES_VERSION \"{version}\"\n");
+    assert!(HEADER.contains(&line), "{line}");
+    let package = include_str!("../../c/arrow_types.pc.in");
+    assert!(package.contains(&format!("\nVersion: {version}\n")));
+}
+
 #[test]
 fn kinds() {
     let expected = Kind::ALL.map(|kind| Constant {
@@ -72,6 +102,7 @@ fn limits() {
         ("MAX_ROWS", MAX_ROWS),
         ("MAX_TEXT", MAX_TEXT),
         ("NAMES_LENGTH", 18),
+        ("MAX_STACK", MAX_STACK),
     ] {
         let line = format!("#define ARROW_TYPES_{name} {value}\n");
         assert!(HEADER.contains(&line), "{line}");

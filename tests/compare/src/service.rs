@@ -1,5 +1,5 @@
-//! The crate that services use, in bindings/rust, beside the Rust: reading, every field's view, printing as `µs` and
-//! equality; beside the model number and place of a refused text, and printing in the default spelling.
+//! The crate that services use, in bindings/rust, beside the Rust: reading, every field's view, the classes of types,
+//! printing as `µs` and equality; beside the model number and place of a refused text, and printing in the default spelling.
 
 use crate::generate::{Random, Visit, damage, limits, places, texts};
 use crate::model::{self, Limits, MOST_BYTES, MOST_ROWS, NAME_LIST};
@@ -74,6 +74,10 @@ fn trees(read: &DataType, rust: &arrow_schema::DataType, rows: &[Row]) -> Result
     let mut fields = read.root().subtree().zip(rows);
     if read.row_count() != rows.len() || fields.any(|(field, row)| row != &seen(field, row)) {
         return Err(format!("{read:?} with other rows than the Rust's"));
+    }
+    let classes = [read.is_nested(), read.is_numeric(), read.is_temporal()];
+    if classes != [rust.is_nested(), rust.is_numeric(), rust.is_temporal()] {
+        return Err(format!("{read:?} nested, numeric, temporal: {classes:?}"));
     }
     let plain = printed_by_default(read)?;
     let printed = match (read.print_with(Spelling::Micro), rust.to_string()) {
