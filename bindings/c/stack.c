@@ -22,11 +22,12 @@ static size_t length;
 static uint32_t rows[WORDS];
 static size_t words;
 static uint8_t out[ARROW_TYPES_MAX_TEXT];
+static uint32_t back[WORDS];
 static uint32_t status;
 
 /* What is written besides. */
-static size_t size, place;
-static uint32_t yes;
+static size_t size, count, place;
+static uint32_t yes, number;
 
 /* The calls, each with the tree that was read last. */
 static void nothing(void)
@@ -42,6 +43,11 @@ static void read_text(void)
 static void print(void)
 {
     status = arrow_types_print(TREE, out, sizeof out, &size);
+}
+
+static void rewrite(void)
+{
+    status = arrow_types_rewrite(text, length, rows, WORDS, out, sizeof out, back, WORDS, &size, &count, &number, &place);
 }
 
 static void is_sound(void)
@@ -79,6 +85,7 @@ static struct call {
 } calls[] = {
     {"arrow_types_read", read_text, 0, ""},
     {"arrow_types_print", print, 0, ""},
+    {"arrow_types_rewrite", rewrite, 0, ""},
     {"arrow_types_is_sound", is_sound, 0, ""},
     {"arrow_types_depth", depth, 0, ""},
     {"arrow_types_equal", equal, 0, ""},

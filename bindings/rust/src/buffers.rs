@@ -1,5 +1,6 @@
 //! The rows and bytes that each thread keeps and lends to its reads and prints.
 
+use crate::ffi::Room;
 use crate::{MAX_ROWS, MAX_TEXT, ROW_WORDS};
 use std::cell::Cell;
 use std::thread::LocalKey;
@@ -7,6 +8,7 @@ use std::thread::LocalKey;
 thread_local! {
     static ROWS: Cell<Vec<u32>> = const { Cell::new(Vec::new()) };
     static OUT: Cell<Vec<u8>> = const { Cell::new(Vec::new()) };
+    static BACK: Cell<Vec<u32>> = const { Cell::new(Vec::new()) };
 }
 
 /// Lends rows for every text. They are not cleared between reads: only what is filled is looked at.
@@ -17,6 +19,17 @@ pub fn with_rows<T>(work: impl FnOnce(&mut [u32]) -> T) -> T {
 /// Lends room for every text that is printed.
 pub fn with_out<T>(work: impl FnOnce(&mut [u8]) -> T) -> T {
     lend(&OUT, MAX_TEXT, work)
+}
+
+/// Lends all that a rewrite works in.
+pub fn with_room<T>(work: impl FnOnce(Room) -> T) -> T {
+    with_rows(|rows| {
+        with_out(|out| {
+            lend(&BACK, MAX_ROWS * ROW_WORDS, |back| {
+                work(Room { rows, out, back })
+            })
+        })
+    })
 }
 
 /// Lends what the thread keeps. It keeps nothing before its first call, nor while its thread-locals are destroyed: then

@@ -79,7 +79,7 @@ fn a_zone_that_would_be_lost() {
     let message = refusal("lost", b"Int8\nTimestamp(s, \"C\\\"ET\")\nInt8\n");
     assert_eq!(
         message,
-        r#"nothing is written: column 2: a zone is lost in Timestamp(s, "C\\\"ET")"#
+        "nothing is written: column 2: what is printed reads back as another type"
     );
 }
 
@@ -88,16 +88,14 @@ fn names_that_would_not_stay() {
     let message = refusal("another", b"Struct(\"a\\\"b\": Int8)\n");
     assert_eq!(
         message,
-        r#"nothing is written: column 1: Struct("a\\\"b": Int8) reads back as another type"#
+        "nothing is written: column 1: what is printed reads back as another type"
     );
     // A tab prints as `\t`, and that backslash keeps the closing mark.
     let message = refusal("unread", b"Struct(\"a\tb\": Int8)\n");
-    let expected = [
-        "nothing is written: column 1: what is printed does not read back: a quoted string never ends, at byte 7",
-        r#" | Struct("a\tb": Int8)"#,
-        r#" |        ^"#,
-    ];
-    assert_eq!(message, expected.join("\n"));
+    assert_eq!(
+        message,
+        "nothing is written: column 1: what is printed does not read back: a quoted string never ends, at byte 7"
+    );
 }
 
 #[test]

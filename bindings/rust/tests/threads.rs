@@ -1,6 +1,6 @@
-//! Reading and printing in threads: while a thread's own values are destroyed, and on a small stack.
+//! Reading, printing and rewriting in threads: while a thread's own values are destroyed, and on a small stack.
 
-use arrow_types::{DataType, MAX_STACK};
+use arrow_types::{DataType, MAX_STACK, rewrite};
 use std::cell::RefCell;
 use std::sync::mpsc::{Sender, channel};
 use std::thread;
@@ -10,7 +10,9 @@ struct AtTheEnd(Sender<String>);
 
 impl Drop for AtTheEnd {
     fn drop(&mut self) {
-        let read: DataType = "Timestamp(Second, Some(\"CET\"))".parse().unwrap();
+        let text = "Timestamp(Second, Some(\"CET\"))";
+        let read: DataType = text.parse().unwrap();
+        assert_eq!(rewrite(text), Ok(read.to_string()));
         self.0.send(read.to_string()).unwrap();
     }
 }
@@ -87,6 +89,7 @@ fn the_deepest_types_on_a_small_stack() {
             assert_eq!(read.depth(), 64);
             let printed = read.print().unwrap();
             assert_eq!(printed.parse::<DataType>().unwrap(), read);
+            assert_eq!(rewrite(&text), Ok(printed.clone()));
             let (text, rows) = read.into_parts();
             assert!(DataType::from_parts(text, rows).is_ok());
             let deeper = format!("List({printed})");
