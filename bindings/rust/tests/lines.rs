@@ -114,10 +114,11 @@ fn help_and_version() {
         &["-h"],
         &["lines", "--help"],
         &["explain", "-h"],
+        &["rewrite", "--help"],
     ] {
         let (status, help, errors) = outcome(&mut arrow_types(arguments));
         assert_eq!((status, errors.as_str()), (Some(0), ""));
-        for command in ["lines", "explain TEXT", "explain FILE"] {
+        for command in ["lines", "explain TEXT", "explain FILE", "rewrite FILE"] {
             assert!(help.contains(&format!("arrow-types {command} ")), "{help}");
         }
         assert!(help.contains("exit status"));
@@ -138,6 +139,9 @@ fn other_commands() {
         &["explain"],
         &["explain", "--text"],
         &["explain", "a", "b"],
+        &["rewrite"],
+        &["rewrite", "--micro"],
+        &["rewrite", "a", "b"],
     ] {
         let (status, output, errors) = outcome(&mut arrow_types(arguments));
         assert_eq!((status, output.as_str()), (Some(2), ""), "{arguments:?}");

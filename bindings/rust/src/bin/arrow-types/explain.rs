@@ -1,6 +1,7 @@
 //! A text explained to a person: its tree, or why and where it is refused.
 
 use crate::failure::{Failure, written};
+use crate::hints::hints;
 use crate::paint::Paint;
 use crate::tree::tree;
 use arrow_types::DataType;
@@ -89,17 +90,4 @@ fn explain(text: &[u8], paint: Paint) -> Result<String, String> {
             Err(format!("{tree}{}\n", paint.refusal(&head)))
         }
     }
-}
-
-/// What files from other systems bring along.
-fn hints(text: &[u8]) -> String {
-    let mut hints = String::new();
-    if text.starts_with(b"\xef\xbb\xbf") {
-        hints += "The text begins with a byte order mark, which is no part of a type.\n";
-    }
-    if text.ends_with(b"\r") {
-        hints +=
-            "The text ends with a carriage return, which is no space; `tr -d '\\r'` removes it.\n";
-    }
-    hints
 }
