@@ -251,7 +251,7 @@ static inline const char *arrow_types_step_sentence(uint32_t step)
  *    behind them are as they were; *number and *place are 0.
  * 1: *number is 1 to 16, and *place is where in the text, as arrow_types_read says; rows are all 0, out and back are as
  *    they were.
- * 2: *number is 17 to 19, and *place is 0; the rows of the text stand in rows, out and back are as they were.
+ * 2: *number is 18 or 19, and *place is 0; the rows of the text stand in rows, out and back are as they were.
  * 3: *number is 1 to 16, and *place is where in the printed text; out and back are all 0. arrow_types_print prints that text
  *    anew, from the rows.
  * 4: *number and *place are 0; out is all 0, and back holds the rows that were read back.

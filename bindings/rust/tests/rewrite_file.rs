@@ -110,7 +110,7 @@ fn refusal(name: &str, contents: &str) -> String {
     assert_eq!(fs::read_to_string(&path).unwrap(), contents);
     assert_eq!(fs::metadata(&path).unwrap().ino(), before.ino());
     assert_eq!(files_beside(&path), ["head"]);
-    let start = format!("{}: nothing is written: ", path.display());
+    let start = format!("arrow-types: {}: nothing is written: ", path.display());
     errors.strip_prefix(&start).expect("the start").to_owned()
 }
 

@@ -29,7 +29,10 @@ pub fn run(path: &Path, spelling: Spelling, output: &mut impl Write) -> Result<b
 /// Where standard error can't be written, the status is left.
 fn say_refusal(path: &Path, refusal: &str) {
     let path = path.display();
-    let _ = writeln!(io::stderr(), "{path}: nothing is written: {refusal}");
+    let _ = writeln!(
+        io::stderr(),
+        "arrow-types: {path}: nothing is written: {refusal}"
+    );
 }
 
 fn report(path: &Path, rewritten: &Rewritten, output: &mut impl Write) -> io::Result<()> {
