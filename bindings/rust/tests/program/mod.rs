@@ -41,15 +41,17 @@ pub fn outcome(command: &mut Command) -> Outcome {
 
 /// What a program does whose standard output nobody reads: status and standard error.
 pub fn unread(command: &mut Command) -> (Option<i32>, String) {
-    let mut child = command
-        .stdout(Stdio::piped())
-        .stderr(Stdio::piped())
-        .spawn()
-        .expect("the program runs");
-    drop(child.stdout.take());
-    let output = child.wait_with_output().expect("the program ends");
-    let errors = String::from_utf8(output.stderr).expect("UTF-8");
-    (output.status.code(), errors)
+    let (status, _, errors) = outcome(command.stdout(unread_pipe()));
+    (status, errors)
+}
+
+/// A pipe whose reader has ended.
+fn unread_pipe() -> Stdio {
+    let mut reader = Command::new("true");
+    let mut reader = reader.stdin(Stdio::piped()).spawn().expect("true");
+    let pipe = reader.stdin.take().expect("a pipe");
+    reader.wait().expect("its end");
+    pipe.into()
 }
 
 /// A device that takes no byte.
