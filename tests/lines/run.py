@@ -106,6 +106,30 @@ class Whole(unittest.TestCase):
         self.assertEqual(answers(wide), b"ok 1024 2 " + wide + b"\n")
 
 
+class Arguments(unittest.TestCase):
+    """With an argument the program says that it takes none, and ends: it reads nothing and prints nothing."""
+
+    LINE = b"type_lines: takes no argument; the lines come from standard input, as in: type_lines < FILE\n"
+
+    def test_arguments(self):
+        for arguments in [["FILE"], [""], ["-"], ["--help"], ["a", "b"], ["", "b"], [b"\xff"], ["a" * 100_000]]:
+            with self.subTest(arguments=arguments[0][:8], count=len(arguments)):
+                self.assertEqual(self.started(arguments), (b"", self.LINE, SAMPLE))
+
+    def started(self, arguments):
+        """What it prints, what it says, and what it leaves in a pipe that stays open."""
+        near, far = os.pipe()
+        try:
+            os.write(far, SAMPLE)
+            done = subprocess.run([PROGRAM, *arguments], stdin=near, capture_output=True, timeout=SECONDS)
+            os.write(far, b".")
+            left = os.read(near, len(SAMPLE) + 2)
+        finally:
+            os.close(near)
+            os.close(far)
+        return done.stdout, done.stderr, left[:-1]
+
+
 class Units(unittest.TestCase):
     """Microseconds are printed as `us`, however the line spells them; the Rust's answers are respelled to compare."""
 
