@@ -43,7 +43,7 @@ def run(text, **options):
 
 
 def answers(text):
-    """What is printed for an input, with nothing on standard error."""
+    """What is printed for an input, be it refused, with the status 0 and nothing on standard error."""
     done = run(text)
     if done.stderr or done.returncode != 0:
         raise AssertionError(f"status {done.returncode}, {done.stderr!r}")
@@ -107,17 +107,23 @@ class Whole(unittest.TestCase):
 
 
 class Arguments(unittest.TestCase):
-    """With an argument the program says that it takes none, and ends: it reads nothing and prints nothing."""
+    """With an argument the program says that it takes none, and ends with the status 2: it reads nothing and prints nothing."""
 
     LINE = b"type_lines: takes no argument; the lines come from standard input, as in: type_lines < FILE\n"
 
     def test_arguments(self):
         for arguments in [["FILE"], [""], ["-"], ["--help"], ["a", "b"], ["", "b"], [b"\xff"], ["a" * 100_000]]:
             with self.subTest(arguments=arguments[0][:8], count=len(arguments)):
-                self.assertEqual(self.started(arguments), (b"", self.LINE, SAMPLE))
+                self.assertEqual(self.started(arguments), (2, b"", self.LINE, SAMPLE))
+
+    @unittest.skipUnless(os.path.exists("/dev/full"), "no /dev/full")
+    def test_not_told(self):
+        with open("/dev/full", "wb") as full:
+            done = subprocess.run([PROGRAM, "FILE"], input=SAMPLE, stdout=subprocess.PIPE, stderr=full, timeout=SECONDS)
+        self.assertEqual((done.returncode, done.stdout), (2, b""))
 
     def started(self, arguments):
-        """What it prints, what it says, and what it leaves in a pipe that stays open."""
+        """Its status, what it prints, what it says, and what it leaves in a pipe that stays open."""
         near, far = os.pipe()
         try:
             os.write(far, SAMPLE)
@@ -127,7 +133,7 @@ class Arguments(unittest.TestCase):
         finally:
             os.close(near)
             os.close(far)
-        return done.stdout, done.stderr, left[:-1]
+        return done.returncode, done.stdout, done.stderr, left[:-1]
 
 
 class Units(unittest.TestCase):
@@ -383,14 +389,37 @@ class Waiting(unittest.TestCase):
 
 
 class Failures(unittest.TestCase):
-    """A read or a write that fails is told on standard error. The program's exit status is 0 all the same, so it is not asked for."""
+    """A read or a write that fails is told on standard error, and the status is 2."""
+
+    def assert_failed(self, done, line):
+        self.assertEqual((done.returncode, done.stderr), (2, b"type_lines: " + line + b"\n"))
 
     @unittest.skipUnless(os.path.exists("/dev/full"), "no /dev/full")
     def test_output_full(self):
         for text in [SAMPLE, SAMPLE * 5000]:
             with open("/dev/full", "wb") as full:
                 done = subprocess.run([PROGRAM], input=text, stdout=full, stderr=subprocess.PIPE, timeout=SECONDS)
-            self.assertEqual(done.stderr, b"type_lines: writing standard output: No space left on device\n")
+            self.assert_failed(done, b"writing standard output: No space left on device")
+
+    @unittest.skipUnless(os.path.exists("/dev/full"), "no /dev/full")
+    def test_page(self):
+        # README.md's command for a script: it does not say `success`, and does where the output can be written
+        page = (ROOT / "README.md").read_text(encoding="utf8")
+        (line,) = re.findall(r"^    (target/bin/type_lines < .* > /dev/full && echo success)$", page, re.M)
+        for command, said in [(line, b""), (line.replace("/dev/full", "/dev/null"), b"success\n")]:
+            done = subprocess.run(["bash", "-c", command], cwd=ROOT, capture_output=True, timeout=SECONDS)
+            self.assertEqual(done.stdout, said)
+
+    def test_output_closed(self):
+        # a pipe that nobody reads: the write fails, whether the signal of it was ignored before or not
+        for restored in [True, False]:
+            near, far = os.pipe()
+            os.close(near)
+            with open(far, "wb") as pipe:
+                done = subprocess.run(
+                    [PROGRAM], input=SAMPLE, stdout=pipe, stderr=subprocess.PIPE, timeout=SECONDS, restore_signals=restored
+                )
+            self.assert_failed(done, b"writing standard output: Broken pipe")
 
     def test_folder(self):
         self.assert_read_fails(os.open(ROOT, os.O_RDONLY), b"", b"Is a directory")
@@ -413,7 +442,7 @@ class Failures(unittest.TestCase):
         finally:
             os.close(source)
         self.assertEqual(done.stdout, answered)
-        self.assertEqual(done.stderr, b"type_lines: reading standard input: " + why + b"\n")
+        self.assert_failed(done, b"reading standard input: " + why)
 
 
 if __name__ == "__main__":

@@ -1,5 +1,5 @@
--- What the program does first: it looks for an argument, and takes none.
-use Rattle.std.specs.Prelude.{◌≡◌, List, ℕ, Option, Result, Ok, Err, OnOk}
+-- What the program does first: it looks for an argument, and takes none. And the status that it ends with.
+use Rattle.std.specs.Prelude.{◌≡◌, List, ℕ, Option, Some, None, Result, Ok, Err, OnOk}
 use Rattle.std.specs.Io.KnownBytes.{Appends}
 use Rattle.std.specs.declared.env.FillError.{FillError}
 use Rattle.std.specs.declared.env.FillError.TheVariants.{NotPresent, TooLong}
@@ -28,3 +28,11 @@ abbrev pub Starts : {I O : Type 0} → Result ℕ FillError → Ending → List 
 Starts (Err NotPresent) e out stdin stdin' stdout stdout' stderr stderr' = AnswersLines e out stderr stderr'
 Starts (Err TooLong) e out stdin stdin' stdout stdout' stderr stderr' = TakesNone e stdin stdin' stdout stdout' stderr stderr'
 Starts (Ok n) e out stdin stdin' stdout stdout' stderr stderr' = TakesNone e stdin stdin' stdout stdout' stderr stderr'
+
+-- The exit status: 0 if the input was read to its end and every answer was written. Else 2: after an argument, whatever became
+-- of its line, after a read or a write that failed, and after so many turns that there is no more.
+abbrev pub status_of : Ending → ℕ
+status_of (Lines (Ok (Some n))) = 0
+status_of (Lines (Ok None)) = 2
+status_of (Lines (Err e)) = 2
+status_of (Argument w) = 2

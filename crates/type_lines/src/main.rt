@@ -1,12 +1,13 @@
 // The line program: standard input has a type text on each line, standard output gets an answer for each. Answers are
 // written before each read, so that whoever waits for one before it writes the next line gets it. A read or a write
-// that fails ends the program with a message, and so does an argument; its exit status is 0 all the same.
+// that fails ends the program with a message and the exit status 2, and so does an argument.
 
 #![tactic(auto)]
 
-ghost use Rattle.std.specs.Prelude.{◌<◌, ◌≤◌, length};
+ghost use Rattle.std.specs.Prelude.{◌≡◌, ◌<◌, ◌≤◌, length};
+ghost use Rattle.std.specs.Process.{exit_status};
 ghost use Rattle.type_lines.specs.Run.{Unfinished};
-ghost use Rattle.type_lines.specs.Start.{Starts};
+ghost use Rattle.type_lines.specs.Start.{Starts, status_of};
 ghost use Rattle.type_lines.specs.Turns.{Handed, ReadOn, Running, GoesOn, LastLine, Ran};
 
 use answer_line::ANSWER_BYTES;
@@ -15,6 +16,7 @@ use std::env::{Env, FillError};
 use std::io;
 use std::io::{Cursor, Read, Write};
 use std::ops::ControlFlow;
+use std::process::ExitCode;
 
 mod lines;
 
@@ -223,7 +225,18 @@ fn start<I: Read, O: Write, E: Write>(
     }
 }
 
-fn main(rt: HostRuntime) {
+// The status that the program ends with: 0 where the input was read to its end and every answer was written, and else 2. A
+// refused line is an answer too.
+fn status_of(ending: &Ending) -> ExitCode
+    ensures { exit_status result ≡ status_of ending.now }
+{
+    match ending {
+        Ending::Lines(Ok(Some(_))) => ExitCode::SUCCESS,
+        _ => ExitCode::from(2),
+    }
+}
+
+fn main(rt: HostRuntime) -> ExitCode {
     let mut input = [0; BUFFER_BYTES];
     let mut output = Output::new();
     // no byte of an argument is asked for, only whether there is one
@@ -236,7 +249,9 @@ fn main(rt: HostRuntime) {
         &mut input,
         &mut output,
     );
+    let status = status_of(&ending);
     if let Ending::Lines(Err(failure)) = ending {
         let _ = report(&rt, failure);
     }
+    status
 }
