@@ -12,7 +12,6 @@ import random
 import re
 import subprocess
 import sys
-import tempfile
 import threading
 import tty
 import unittest
@@ -48,12 +47,12 @@ def run(text, **options):
 
 
 def status_of(answers):
-    """The exit status that goes with answers: `arrow-types` has 1 where a line was refused, the language has none."""
+    """The exit status that goes with answers: that of `arrow-types` is 1 where a line was refused, else it is 0."""
     return int(IS_SERVICE and any(line.startswith(b"no ") for line in answers.split(b"\n")))
 
 
 def answers(text):
-    """What is printed for an input, with nothing on standard error."""
+    """What is printed for an input, be it refused, with the status 0 and nothing on standard error."""
     done = run(text)
     if done.stderr or done.returncode != status_of(done.stdout):
         raise AssertionError(f"status {done.returncode}, {done.stderr!r}")
@@ -114,6 +113,37 @@ class Whole(unittest.TestCase):
         self.assertEqual(answers(deep), b"ok 64 64 " + deep + b"\n")
         wide = b"Struct(" + b", ".join([b'"a": Int8'] * 1023) + b")"
         self.assertEqual(answers(wide), b"ok 1024 2 " + wide + b"\n")
+
+
+@unittest.skipIf(IS_SERVICE, "arrow-types takes arguments")
+class Arguments(unittest.TestCase):
+    """With an argument the program says that it takes none, and ends with the status 2: it reads nothing and prints nothing."""
+
+    LINE = b"type_lines: takes no argument; the lines come from standard input, as in: type_lines < FILE\n"
+
+    def test_arguments(self):
+        for arguments in [["FILE"], [""], ["-"], ["--help"], ["a", "b"], ["", "b"], [b"\xff"], ["a" * 100_000]]:
+            with self.subTest(arguments=arguments[0][:8], count=len(arguments)):
+                self.assertEqual(self.started(arguments), (2, b"", self.LINE, SAMPLE))
+
+    @unittest.skipUnless(os.path.exists("/dev/full"), "no /dev/full")
+    def test_not_told(self):
+        with open("/dev/full", "wb") as full:
+            done = subprocess.run([PROGRAM, "FILE"], input=SAMPLE, stdout=subprocess.PIPE, stderr=full, timeout=SECONDS)
+        self.assertEqual((done.returncode, done.stdout), (2, b""))
+
+    def started(self, arguments):
+        """Its status, what it prints, what it says, and what it leaves in a pipe that stays open."""
+        near, far = os.pipe()
+        try:
+            os.write(far, SAMPLE)
+            done = subprocess.run([PROGRAM, *arguments], stdin=near, capture_output=True, timeout=SECONDS)
+            os.write(far, b".")
+            left = os.read(near, len(SAMPLE) + 2)
+        finally:
+            os.close(near)
+            os.close(far)
+        return done.returncode, done.stdout, done.stderr, left[:-1]
 
 
 class Units(unittest.TestCase):
@@ -242,19 +272,8 @@ class Page(unittest.TestCase):
                     self.assertEqual(answers(text + b"\n").decode().split(), ["no", number, *place.replace(",", "").split()])
 
 
-class Script(unittest.TestCase):
-    """README.md's line by which a script notices that not every line has its answer, and its texts that change."""
-
-    @unittest.skipIf(IS_SERVICE, "it has an exit status")
-    def test_line(self):
-        page = (ROOT / "README.md").read_text(encoding="utf8")
-        (line,) = re.findall(r"^    (target/bin/type_lines < in > out .*)$", page, re.M)
-        line = line.replace("target/bin/type_lines", str(PROGRAM))
-        for text in [SAMPLE, SAMPLE[:-1], b"\n\n", b""]:
-            self.assertEqual(self.status(line, text), 0)
-        for wrong in [line.replace("< in", "< ."), line.replace(f"{PROGRAM} < in", "head -n 2 in")]:
-            self.assertNotEqual(self.status(wrong, SAMPLE), 0)
-        self.assertNotEqual(self.status("ln -s /dev/full out; " + line, SAMPLE), 0)
+class Changes(unittest.TestCase):
+    """README.md's texts that change each time that they are rewritten."""
 
     def test_changes(self):
         # each of the three texts that are said to become one another
@@ -263,11 +282,6 @@ class Script(unittest.TestCase):
         self.assertEqual(len(texts), 3)
         for text, next_text in zip(texts, texts[1:]):
             self.assertEqual(answers(text.encode()), f"ok 2 2 {next_text}\n".encode())
-
-    def status(self, line, text):
-        with tempfile.TemporaryDirectory() as folder:
-            (pathlib.Path(folder) / "in").write_bytes(text)
-            return subprocess.run(["bash", "-c", line], cwd=folder, timeout=SECONDS).returncode
 
 
 class Long(unittest.TestCase):
@@ -397,13 +411,13 @@ class Waiting(unittest.TestCase):
 
 
 class Failures(unittest.TestCase):
-    """A read or a write that fails is told on standard error. The line program's exit status is 0 all the same; that of `arrow-types` is 2."""
+    """A read or a write that fails is told on standard error, and the status is 2."""
 
     def assert_failed(self, done, doing, why):
         """Standard error has a line that says what failed and why, and the number of the error at most."""
         start = f"{COMMAND[0].name}: {doing}: {why}".encode()
         self.assertRegex(done.stderr, re.escape(start) + rb"( \(os error \d+\))?\n\Z")
-        self.assertEqual(done.returncode, 2 if IS_SERVICE else 0)
+        self.assertEqual(done.returncode, 2)
 
     @unittest.skipUnless(os.path.exists("/dev/full"), "no /dev/full")
     def test_output_full(self):
@@ -411,6 +425,27 @@ class Failures(unittest.TestCase):
             with open("/dev/full", "wb") as full:
                 done = subprocess.run(COMMAND, input=text, stdout=full, stderr=subprocess.PIPE, timeout=SECONDS)
             self.assert_failed(done, "writing standard output", "No space left on device")
+
+    @unittest.skipIf(IS_SERVICE, "the page runs type_lines")
+    @unittest.skipUnless(os.path.exists("/dev/full"), "no /dev/full")
+    def test_page(self):
+        # README.md's command for a script: it does not say `success`, and does where the output can be written
+        page = (ROOT / "README.md").read_text(encoding="utf8")
+        (line,) = re.findall(r"^    (target/bin/type_lines < .* > /dev/full && echo success)$", page, re.M)
+        for command, said in [(line, b""), (line.replace("/dev/full", "/dev/null"), b"success\n")]:
+            done = subprocess.run(["bash", "-c", command], cwd=ROOT, capture_output=True, timeout=SECONDS)
+            self.assertEqual(done.stdout, said)
+
+    def test_output_closed(self):
+        # a pipe that nobody reads: the write fails, whether the signal of it was ignored before or not
+        for restored in [True, False]:
+            near, far = os.pipe()
+            os.close(near)
+            with open(far, "wb") as pipe:
+                done = subprocess.run(
+                    COMMAND, input=SAMPLE, stdout=pipe, stderr=subprocess.PIPE, timeout=SECONDS, restore_signals=restored
+                )
+            self.assert_failed(done, "writing standard output", "Broken pipe")
 
     def test_folder(self):
         self.assert_read_fails(os.open(ROOT, os.O_RDONLY), b"", "Is a directory")
