@@ -1,0 +1,3 @@
+pub mod ColumnLaws
+pub mod NeedLaws
+pub mod FirstLaws
