@@ -19,6 +19,7 @@ pub const MAX_NEEDS: usize = 32;
 
 // A column that is needed: where its name stands in a text of names; its kind, and words 4 and 5 of its row; whether null is
 // allowed, and whether a zone must stand. A column that is not null is one where null is allowed, too.
+#[repr(C)]
 #[derive(Clone, Copy, Debug, PartialEq, Eq)]
 pub struct Need {
     pub start: u32,
