@@ -26,7 +26,8 @@ fn allows_zone(zoned: bool, zone: &[u8]) -> bool
     zone.is_empty() != zoned
 }
 
-// A sound tree whose root is a Struct.
+// A sound tree, whose root's fields are its columns. `of` asks that the root is a Struct, and what is asked of the columns
+// does not rest on it.
 #[derive(Clone, Copy)]
 pub(crate) struct Columns<'a> {
     pub(crate) tree: Tree<'a>,
