@@ -46,7 +46,7 @@ module _ (text names table : List ℕ) (at : ℕ) where
     pub next_nests : Nests table (at + rows_at table at) (length table / row_words - (at + rows_at table at))
     next_nests = here.rest
 
-    columns_next : columns_from text names table at ≡ label_of text names (row_at table at) ∷ columns_from text names table (at + rows_at table at)
+    pub columns_next : columns_from text names table at ≡ label_of text names (row_at table at) ∷ columns_from text names table (at + rows_at table at)
     unfolding columns_from labels
     columns_next = go here
       where
@@ -154,7 +154,7 @@ module _ (text names table : List ℕ) (sound : T (is_sound text names table)) w
   unfolding labels label_of row_at
   struct_is = ap is_struct tree_is
 
-  fields_are : fields_of (tree_of text names table) ≡ columns_from text names table 1
+  pub fields_are : fields_of (tree_of text names table) ≡ columns_from text names table 1
   unfolding columns_from labels
   fields_are = ap fields_of tree_is
 

@@ -1,24 +1,25 @@
 -- The answer over all needs, need by need, each asked alone:
 --   no-needs      with no needs it is yes
 --   yes-each      where it is yes, each need is met
+--   each-yes      where each need is met it is yes, if there are no more than 32
 --   first-fails   where it is a need, that need is not met, and each before it is
 use Rattle.std.specs.declared.option.Option.{Option}
 use Rattle.std.specs.declared.option.Option.TheVariants.{None, Some}
 use Rattle.std.specs.Prelude.{if◌then◌else◌}
-use mathlib.Core.Path.{◌≡◌, refl, ◌∙◌}
+use mathlib.Core.Path.{◌≡◌, refl, sym, ap, ◌∙◌}
 use mathlib.Core.Bool.{Bool, true, false, not}
 use mathlib.Core.List.{List, [], ◌∷◌}
 use Prim.Native.Nat.{ℕ, zero, suc, ◌+◌, ◌-◌, ◌≤◌, ◌<◌}
 use native.Mathlib.Omega.{arith}
 use lib.ListN.{length, get_or}
-use lib.Dec.{ltb}
+use lib.Dec.{ltb, eqb}
 use Rattle.std.proofs.lemmas.Bool.Decides.{nat_tests}
 use Rattle.tokenizer.specs.Text.{is_empty}
 use Rattle.tokenizer.specs.Answer.{Out, refused, done, refuse}
 use Rattle.datatype.specs.Tree.{Label}
 use Rattle.needs.specs.declared.Need.{Need}
 use Rattle.needs.specs.Needs.{need_name, are_named, need_met, first_unmet, columns_of, need_of, needs_of}
-use Rattle.needs.proofs.NeedLaws.{no_need, empty_is, part_some}
+use Rattle.needs.proofs.NeedLaws.{no_need, empty_is, part_some, needs_done}
 
 -- need j
 abbrev pub need_at : List Need → ℕ → Need
@@ -41,6 +42,11 @@ module _ (text : List ℕ) (fields : List Label) where
       go true m e later zero h = m
       go true m e later (suc j) h = later e j (omega arith)
       go false m e later j h = absurd (let z : ◌≡◌ {A = Option ℕ} (Some i) None = e in cc)
+
+  all_met : (i : ℕ) (needs : List Need) → ((j : ℕ) → j < length needs → met (need_at needs j) ≡ true) → first_unmet text fields i needs ≡ None
+  unfolding first_unmet
+  all_met i [] each = refl
+  all_met i (n ∷ ns) each = rw (each 0 (omega arith)) (all_met (suc i) ns (λ j h. each (suc j) (omega arith)))
 
   -- need k, of needs from need i on
   record First (i k : ℕ) (needs : List Need) : Type 0 where
@@ -79,6 +85,14 @@ unfolding are_named
 named_at text [] e j h = absurd (omega arith)
 named_at text (n ∷ ns) e zero h = let p = part_some text n.start n.size in empty_is (need_name text n) ∙ grind (arith, nat_tests)
 named_at text (n ∷ ns) e (suc j) h = named_at text ns (grind (arith, nat_tests)) j (omega arith)
+
+all_named : (text : List ℕ) (needs : List Need) → ((j : ℕ) → j < length needs → is_empty (need_name text (need_at needs j)) ≡ false) → are_named text needs ≡ true
+unfolding are_named
+all_named text [] each = refl
+all_named text (n ∷ ns) each =
+    let p = part_some text n.start n.size in
+    let e : eqb (length (need_name text n)) 0 ≡ false = sym (empty_is (need_name text n)) ∙ each 0 (omega arith) in
+    rw (← p, e) (all_named text ns (λ j h. each (suc j) (omega arith)))
 
 -- ---- the answers
 
@@ -122,6 +136,21 @@ module _ (text names table words : List ℕ) where
 
     pub yes-each : needs_of text names table words needs ≡ done None → (j : ℕ) → j < length needs → alone (need_at needs j) ≡ done true
     yes-each e j h = let a = answered None e in alone_is None a j h true (none_unmet words a.fields 0 needs a.first j h)
+
+    module _ (fields : List Label) (is : columns_of text names table ≡ done fields) where
+      -- what is told by a need that is met
+      alone_told : (n : Need) → alone n ≡ done true → (is_empty (need_name words n) ≡ false) × (met words fields n ≡ true)
+      unfolding need_of
+      alone_told n e = go (is_empty (need_name words n)) refl (rw is at e)
+        where
+          go : (b : Bool) → is_empty (need_name words n) ≡ b → (if b then refuse 27 else done (met words fields n)) ≡ done true → (is_empty (need_name words n) ≡ false) × (met words fields n ≡ true)
+          go true p h = absurd (let z : ◌≡◌ {A = ℕ} 0 1 = cc in omega arith)
+          go false p h = (p, cc)
+
+      pub each-yes : length needs ≤ 32 → ((j : ℕ) → j < length needs → alone (need_at needs j) ≡ done true) → needs_of text names table words needs ≡ done None
+      each-yes l each =
+          needs_done text names table fields is words needs l true (sym (all_named words needs (λ j h. (alone_told (need_at needs j) (each j h)).0))) refl
+          ∙ ap done (all_met words fields 0 needs (λ j h. (alone_told (need_at needs j) (each j h)).1))
 
     module _ (k : ℕ) (e : needs_of text names table words needs ≡ done (Some k)) where
       found : First words ((answered (Some k) e).fields) 0 k needs

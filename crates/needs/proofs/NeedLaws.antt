@@ -21,7 +21,7 @@ use Rattle.datatype.specs.Table.{word_at}
 use Rattle.datatype.specs.declared.row.Row.{Row as Place}
 use Rattle.subtrees.specs.Internal.Run.{row_at}
 use Rattle.needs.specs.declared.Need.{Need}
-use Rattle.needs.specs.Needs.{need_name, are_named, fields_named, only, role_allowed, zone_allowed, is_needed, need_met, first_unmet, columns_of, need_of, needs_of}
+use Rattle.needs.specs.Needs.{need_name, are_named, fields_named, only, role_allowed, zone_allowed, is_needed, is_needed_one, need_met, first_unmet, columns_of, need_of, needs_of}
 use Rattle.needs.specs.Internal.Columns.{said}
 
 -- ---- one need
@@ -45,6 +45,17 @@ module _ (text names : List ℕ) (kind number scale : ℕ) (nullable zoned : Boo
     pub met_one : (r : Place) → found ≡ Some r → need_met kind number scale nullable zoned name fields ≡ is_needed kind number scale nullable zoned (label_of text names (row_at r.rows.now r.at))
     unfolding need_met
     met_one r e = rw (← so, e)
+
+-- where a need is met, one field has its name, and that is as needed
+pub met_alone : (kind number scale : ℕ) (nullable zoned : Bool) (name : List ℕ) (fields : List Label) → need_met kind number scale nullable zoned name fields ≡ true
+    → (l : Label) × (fields_named name fields ≡ l ∷ []) × (is_needed kind number scale nullable zoned l ≡ true)
+unfolding need_met
+met_alone kind number scale nullable zoned name fields = go (fields_named name fields) refl
+  where
+    go : (ls : List Label) → fields_named name fields ≡ ls → is_needed_one kind number scale nullable zoned (only ls) ≡ true → (l : Label) × (fields_named name fields ≡ l ∷ []) × (is_needed kind number scale nullable zoned l ≡ true)
+    go [] e h = absurd (let z : ◌≡◌ {A = Bool} false true = h in cc)
+    go (l ∷ []) e h = (l, e, h)
+    go (l ∷ m ∷ ls) e h = absurd (let z : ◌≡◌ {A = Bool} false true = h in cc)
 
 -- ---- all needs
 

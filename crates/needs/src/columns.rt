@@ -26,7 +26,8 @@ fn allows_zone(zoned: bool, zone: &[u8]) -> bool
     zone.is_empty() != zoned
 }
 
-// A sound tree whose root is a Struct.
+// A sound tree, whose root's fields are its columns. `of` asks that the root is a Struct, and what is asked of the columns
+// does not rest on it.
 #[derive(Clone, Copy)]
 pub(crate) struct Columns<'a> {
     pub(crate) tree: Tree<'a>,
@@ -38,13 +39,13 @@ impl<'a> Columns<'a> {
     ghost use Rattle.datatype.specs.Tree.{label_of};
     ghost use Rattle.subtrees.specs.Internal.Run.{row_at};
     ghost use Rattle.needs.specs.Needs.{fields_named, only, is_needed, need_met, columns_of};
-    ghost use Rattle.needs.specs.Internal.Columns.{columns_from, said};
+    ghost use Rattle.needs.specs.Internal.Columns.{fields_in, said};
 
     // The columns of a tree, if it is sound and its root a Struct.
     #[tactic(auto, using(crate::proofs::ColumnLaws::of_steps))]
     pub(crate) fn of(tree: Tree<'a>) -> Result<Columns<'a>, NotChecked>
         ensures { MatchResult result
-            (λ columns. columns_of tree.entry.text.now tree.entry.names.now tree.entry.rows.now ≡ done (columns_from columns.tree.text.now columns.tree.names.now columns.tree.rows.now 1))
+            (λ columns. columns_of tree.entry.text.now tree.entry.names.now tree.entry.rows.now ≡ done (fields_in columns))
             (λ e. columns_of tree.entry.text.now tree.entry.names.now tree.entry.rows.now ≡ refuse (number_of e)) }
     {
         if !is_sound(tree) {
@@ -63,7 +64,7 @@ impl<'a> Columns<'a> {
     // The one column of a name: none where no column has it, and none where two have.
     #[tactic(auto, using(crate::proofs::ColumnLaws::search_steps))]
     fn only_named(self, name: &[u8]) -> Option<Row<'a>>
-        ensures { said self.entry.tree.text.now self.entry.tree.names.now result ≡ only (fields_named name.now (columns_from self.entry.tree.text.now self.entry.tree.names.now self.entry.tree.rows.now 1)) }
+        ensures { said self.entry.tree.text.now self.entry.tree.names.now result ≡ only (fields_named name.now (fields_in self.entry)) }
     {
         let tree = self.tree;
         let rows = tree.rows;
@@ -117,7 +118,7 @@ impl<'a> Columns<'a> {
         nullable: bool,
         zoned: bool,
     ) -> bool
-        ensures { result ≡ need_met kind number scale nullable zoned name.now (columns_from self.entry.tree.text.now self.entry.tree.names.now self.entry.tree.rows.now 1) }
+        ensures { result ≡ need_met kind number scale nullable zoned name.now (fields_in self.entry) }
     {
         let Some(column) = self.only_named(name) else {
             return false;

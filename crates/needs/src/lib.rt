@@ -5,9 +5,8 @@
 
 ghost use Rattle.std.specs.Prelude.{◌≡◌};
 ghost use Rattle.needs.specs.Answer.{number_of, answer_of};
-ghost use Rattle.needs.specs.Needs.{need_of, needs_of};
-ghost use Rattle.needs.specs.Needs.{need_name, are_named, first_unmet};
-ghost use Rattle.needs.specs.Internal.Columns.{columns_from};
+ghost use Rattle.needs.specs.Needs.{need_name, are_named, first_unmet, need_of, needs_of};
+ghost use Rattle.needs.specs.Internal.Columns.{fields_in};
 
 mod columns;
 
@@ -17,8 +16,9 @@ use datatype::Tree;
 // The most needs that are checked at once.
 pub const MAX_NEEDS: usize = 32;
 
-// A column that is needed: where its name stands in a text of names; its kind, and words 4 and 5 of its row; whether null is
-// allowed, and whether a zone must stand. A column that is not null is one where null is allowed, too.
+// A column that is needed: where its name stands in a text of names; its kind; words 4 and 5 of its row; whether null is
+// allowed, where a non-null column passes, too; whether a zone must stand.
+// In C's layout, since services lend a slice of them.
 #[repr(C)]
 #[derive(Clone, Copy, Debug, PartialEq, Eq)]
 pub struct Need {
@@ -67,10 +67,10 @@ fn are_named(text: &[u8], needs: &[Need]) -> bool
     needs.iter().all(|need| !need.name(text).is_empty())
 }
 
-// The first need that is not met: each is copied out and handed to the check as plain numbers.
+// The first need that is not met: each record is copied out, and its numbers are handed to the check.
 #[tactic(auto, using(crate::proofs::NeedLaws::unmet_steps))]
 fn first_unmet(columns: Columns<'_>, text: &[u8], needs: &[Need]) -> Option<usize>
-    ensures { result ≡ first_unmet text.now (columns_from columns.entry.tree.text.now columns.entry.tree.names.now columns.entry.tree.rows.now 1) 0 needs.now }
+    ensures { result ≡ first_unmet text.now (fields_in columns.entry) 0 needs.now }
 {
     for (i, need) in needs.iter().enumerate() {
         let need = *need;
@@ -89,7 +89,7 @@ fn first_unmet(columns: Columns<'_>, text: &[u8], needs: &[Need]) -> Option<usiz
     None
 }
 
-// Whether a tree meets one need, by the need's name and numbers.
+// Whether a tree meets one need, which is given by its name and as plain numbers.
 #[tactic(auto, using(crate::proofs::NeedLaws::meets_steps))]
 pub fn meets(
     tree: Tree<'_>,
@@ -109,7 +109,7 @@ pub fn meets(
     Ok(columns.meet(name, kind, number, scale, nullable, zoned))
 }
 
-// Whether a tree fits needs over a text of names: none where it meets each of them, else the first that it does not meet.
+// Whether a tree fits needs over a text of names: none where it meets each of them, else the first, from 0, that it does not.
 #[tactic(auto, using(crate::proofs::NeedLaws::fits_steps))]
 pub fn fits(tree: Tree<'_>, text: &[u8], needs: &[Need]) -> Result<Option<usize>, NotChecked>
     ensures { answer_of result ≡ needs_of tree.entry.text.now tree.entry.names.now tree.entry.rows.now text.now needs.now }
