@@ -1,8 +1,16 @@
 /*
  * The functions of the proved library arrow_types, for C and C++ on x86-64.
  *
- * `bash tests/build library` writes it to target/staticlib/libarrow_types.a. It keeps no state and allocates nothing,
- * and works in what is lent to it and on the stack.
+ * `bash tests/build library` writes it to target/staticlib/libarrow_types.a. It keeps no state and allocates nothing, works
+ * in what is lent to it and on the stack, and calls nothing but what clears, copies and compares memory (memset and its
+ * like). So every function is reentrant and thread-safe: any number of threads may call it at once, each with its own
+ * buffers to write to, and read the same texts and rows.
+ *
+ * A call takes at most 64 KiB of stack, ARROW_TYPES_MAX_STACK: reading a text of 64 levels, by itself or in a rewrite, takes
+ * the most, and anything else less than half of that. bindings/c/stack.c measures it. Rows for every text are 48 KiB more:
+ * keep them off a small stack.
+ *
+ * A service that rewrites a text calls arrow_types_rewrite, which reads back what it prints: no name and no zone is lost.
  *
  * A slice is lent as a pointer and the number of its elements. What the caller owes:
  * - no pointer is null, also where the length is 0, and each points at as many elements as its length says;
@@ -25,6 +33,12 @@
 extern "C" {
 #endif
 
+/* The version of the library and of this header. */
+#define ARROW_TYPES_VERSION "0.2.0"
+#define ARROW_TYPES_VERSION_MAJOR 0
+#define ARROW_TYPES_VERSION_MINOR 2
+#define ARROW_TYPES_VERSION_PATCH 0
+
 /* Words to a row. */
 #define ARROW_TYPES_ROW_WORDS 12
 
@@ -33,6 +47,9 @@ extern "C" {
 
 /* The most bytes of a text, read or printed. */
 #define ARROW_TYPES_MAX_TEXT 16384
+
+/* The most bytes of stack that a call takes. */
+#define ARROW_TYPES_MAX_STACK 65536
 
 /* The name list, the three names that stand in no text, end to end, and how many bytes it has. */
 #define ARROW_TYPES_NAMES "itemrun_endsvalues"
@@ -63,6 +80,34 @@ enum arrow_types_refusal {
     ARROW_TYPES_NOT_LATIN = 18,          /* a name or zone to print in double quotes has a character above U+017F */
     ARROW_TYPES_PRINT_TOO_LONG = 19      /* the printed text is longer than 16,384 bytes or the buffer */
 };
+
+/* The sentence of a refusal, for a person: what the enum says of its number. 0 and other numbers are no refusal. */
+static inline const char *arrow_types_sentence(uint32_t number)
+{
+    static const char *const sentences[] = {
+        "this is no refusal",
+        "the text is longer than 16,384 bytes",
+        "the text is not UTF-8",
+        "types are nested deeper than 64 levels",
+        "there are more types in the text than rows for them",
+        "the text ends where more is needed",
+        "a quoted string never ends",
+        "a quoted string is empty",
+        "a word is neither known nor a number of 64 bits",
+        "a token stands where one of another sort is needed",
+        "a number is outside its range",
+        "Time32 takes s or ms, and Time64 takes us or ns",
+        "a decimal's precision or scale is not one that it may have",
+        "Map entries, Map keys and run ends must be non-null",
+        "Map entries must be a Struct of two fields",
+        "a union id is negative or used twice",
+        "something follows the type",
+        "text and rows are no sound tree",
+        "a name or zone to print in double quotes has a character above U+017F",
+        "the printed text is longer than 16,384 bytes or the buffer",
+    };
+    return sentences[number < sizeof sentences / sizeof *sentences ? number : 0];
+}
 
 /* The words of a row. Rows stand parent first, children in order. Words that a kind does not use are 0. */
 enum arrow_types_word {
@@ -174,6 +219,63 @@ uint32_t arrow_types_print_micro(const uint8_t *text, size_t text_length,
                                  const uint8_t *names, size_t names_length,
                                  const uint32_t *rows, size_t rows_length,
                                  uint8_t *out, size_t out_length, size_t *length);
+
+/* The steps of a rewrite: how far it came. */
+enum arrow_types_step {
+    ARROW_TYPES_REWRITTEN = 0,     /* the text is rewritten, as the same type */
+    ARROW_TYPES_NOT_READ = 1,      /* the text is not read */
+    ARROW_TYPES_NOT_PRINTED = 2,   /* the type is not printed */
+    ARROW_TYPES_NOT_READ_BACK = 3, /* what is printed does not read back */
+    ARROW_TYPES_DIFFERENT = 4      /* what is printed reads back as another type */
+};
+
+/* The sentence of a step, for a person: what the enum says of it. */
+static inline const char *arrow_types_step_sentence(uint32_t step)
+{
+    static const char *const sentences[] = {
+        "the text is rewritten, as the same type",
+        "the text is not read",
+        "the type is not printed",
+        "what is printed does not read back",
+        "what is printed reads back as another type",
+    };
+    return step < sizeof sentences / sizeof *sentences ? sentences[step] : "this is no step";
+}
+
+/*
+ * Rewrites a text: reads it into rows, prints the tree into out, microseconds as us, reads that text into back and compares
+ * the two trees. It answers the step; 0 alone says that out has a text of the same type, with every name and zone.
+ *
+ * 0: the first *length bytes of out are the text, with no zero behind it, and the bytes behind them are as they were;
+ *    *count rows stand at the start of rows, and as many, those of the text in out, at the start of back, and the words
+ *    behind them are as they were; *number and *place are 0.
+ * 1: *number is 1 to 16, and *place is where in the text, as arrow_types_read says; rows are all 0, out and back are as
+ *    they were.
+ * 2: *number is 18 or 19, and *place is 0; the rows of the text stand in rows, out and back are as they were.
+ * 3: *number is 1 to 16, and *place is where in the printed text; out and back are all 0. arrow_types_print prints that text
+ *    anew, from the rows.
+ * 4: *number and *place are 0; out is all 0, and back holds the rows that were read back.
+ *
+ * In all of 1 to 4 *length and *count are 0.
+ *
+ * A name or zone that prints in double quotes and holds a double quote mark, a backslash, a control character, U+00A0 or
+ * U+00AD does not stay as it is: such a text ends with 3 or 4.
+ *
+ * Lend ARROW_TYPES_MAX_ROWS rows in rows and in back, and ARROW_TYPES_MAX_TEXT bytes: these are enough for every text. With
+ * fewer rows one may be refused with 4, and with fewer bytes with 19. rows, out and back are no part of one another.
+ */
+uint32_t arrow_types_rewrite(const uint8_t *text, size_t text_length,
+                             uint32_t *rows, size_t rows_length,
+                             uint8_t *out, size_t out_length,
+                             uint32_t *back, size_t back_length,
+                             size_t *length, size_t *count, uint32_t *number, size_t *place);
+
+/* The same, but microseconds are printed with the micro sign, as by arrow_types_print_micro. */
+uint32_t arrow_types_rewrite_micro(const uint8_t *text, size_t text_length,
+                                   uint32_t *rows, size_t rows_length,
+                                   uint8_t *out, size_t out_length,
+                                   uint32_t *back, size_t back_length,
+                                   size_t *length, size_t *count, uint32_t *number, size_t *place);
 
 /* Whether a tree is sound: 1 or 0. Every tree that was read is. */
 uint32_t arrow_types_is_sound(const uint8_t *text, size_t text_length,

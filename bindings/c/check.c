@@ -390,6 +390,118 @@ static void longest(void)
     CHECK(length == 0);
 }
 
+/* What a rewrite answers. It works in the rows of a, in rewritten and in the rows of b, which are filled before each. */
+static uint8_t rewritten[ARROW_TYPES_MAX_TEXT];
+
+static struct {
+    size_t length, count, place;
+    uint32_t number;
+} done;
+
+enum { US, MICRO };
+
+/* The words of rows and of back, and the bytes, that are lent. */
+struct lent {
+    size_t rows, bytes, back;
+};
+
+static const struct lent all_of_it = {WORDS, sizeof rewritten, WORDS};
+
+static uint32_t rewrite(int spelling, const char *text, struct lent lent)
+{
+    fill(a.rows, 7);
+    fill(b.rows, 7);
+    memset(rewritten, 'x', sizeof rewritten);
+    done.length = done.count = done.place = SIZE_MAX;
+    done.number = 99;
+    a.text = (const uint8_t *)text;
+    a.length = strlen(text);
+    return (spelling == MICRO ? arrow_types_rewrite_micro : arrow_types_rewrite)(
+        a.text, a.length, a.rows, lent.rows, rewritten, lent.bytes, b.rows, lent.back, &done.length,
+        &done.count, &done.number, &done.place);
+}
+
+/* Whether the bytes from a place on have a value. */
+static int all_bytes(size_t from, uint8_t value)
+{
+    for (size_t i = from; i < sizeof rewritten; i++)
+        if (rewritten[i] != value)
+            return 0;
+    return 1;
+}
+
+/* Whether a text is read and the rows are so many and those at the start of a buffer, before words as they were. */
+static int has_rows(const uint8_t *text, size_t text_length, const uint32_t *rows)
+{
+    static struct tree tree;
+    size_t filled, at;
+    uint32_t status = arrow_types_read(text, text_length, tree.rows, WORDS, &filled, &at);
+    size_t words = filled * ARROW_TYPES_ROW_WORDS;
+    return status == 0 && memcmp(rows, tree.rows, words * sizeof *rows) == 0 && all(rows + words, WORDS - words, 7);
+}
+
+/* Whether a text is rewritten as another, with the rows of the first in a and of the second in b. */
+static int is_rewritten(int spelling, const char *text, const char *expected, size_t count)
+{
+    return rewrite(spelling, text, all_of_it) == ARROW_TYPES_REWRITTEN
+        && done.length == strlen(expected) && memcmp(rewritten, expected, done.length) == 0 && all_bytes(done.length, 'x')
+        && done.count == count && has_rows(a.text, a.length, a.rows) && has_rows(rewritten, done.length, b.rows)
+        && done.number == 0 && done.place == 0;
+}
+
+/* Whether a text is not rewritten: the step, the number and the place, with no length and no count. */
+static int stops_in(int spelling, struct lent lent, const char *text, uint32_t step, uint32_t number, size_t at)
+{
+    return rewrite(spelling, text, lent) == step && done.number == number && done.place == at
+        && done.length == 0 && done.count == 0;
+}
+
+static int stops(struct lent lent, const char *text, uint32_t step, uint32_t number, size_t at)
+{
+    return stops_in(US, lent, text, step, number, at) && stops_in(MICRO, lent, text, step, number, at);
+}
+
+static void rewriting(void)
+{
+    CHECK(is_rewritten(US, "Timestamp(Second, Some(\"CET\"))", "Timestamp(s, \"CET\")", 1));
+    CHECK(is_rewritten(US, "Struct( \"a\":List(Int8) , )", "Struct(\"a\": List(Int8))", 3));
+    CHECK(is_rewritten(US, "Timestamp(Microsecond)", "Timestamp(us)", 1));
+    CHECK(is_rewritten(US, "Timestamp(\xc2\xb5s)", "Timestamp(us)", 1));
+    CHECK(is_rewritten(MICRO, "Timestamp(us)", "Timestamp(\xc2\xb5s)", 1));
+    CHECK(is_rewritten(MICRO, "Struct(\"us\": Time64(us))", "Struct(\"us\": Time64(\xc2\xb5s))", 2));
+
+    /* Room for just what is needed. */
+    static const struct lent needed = {ARROW_TYPES_ROW_WORDS, 13, ARROW_TYPES_ROW_WORDS};
+    CHECK(rewrite(US, "Timestamp(Microsecond)", needed) == ARROW_TYPES_REWRITTEN);
+    CHECK(done.length == 13 && memcmp(rewritten, "Timestamp(us)x", 14) == 0 && done.count == 1);
+    CHECK(rewrite(MICRO, "Timestamp(Microsecond)", needed) == ARROW_TYPES_NOT_PRINTED);
+    CHECK(done.number == ARROW_TYPES_PRINT_TOO_LONG && done.length == 0 && all_bytes(0, 'x'));
+}
+
+static void not_rewriting(void)
+{
+    static const struct lent no_rows = {ARROW_TYPES_ROW_WORDS - 1, sizeof rewritten, WORDS};
+    static const struct lent no_back = {WORDS, sizeof rewritten, ARROW_TYPES_ROW_WORDS - 1};
+    CHECK(stops(all_of_it, "Time32(us)", ARROW_TYPES_NOT_READ, ARROW_TYPES_WRONG_TIME_UNIT, 7));
+    CHECK(all(a.rows, WORDS, 0) && all_bytes(0, 'x') && all(b.rows, WORDS, 7));
+    CHECK(stops(no_rows, " Int8", ARROW_TYPES_NOT_READ, ARROW_TYPES_TOO_MANY_ROWS, 1));
+    CHECK(all(a.rows, no_rows.rows, 0) && a.rows[no_rows.rows] == 7);
+
+    CHECK(stops(all_of_it, "Struct(\"\xc6\x80\": Int8)", ARROW_TYPES_NOT_PRINTED, ARROW_TYPES_NOT_LATIN, 0));
+    CHECK(has_rows(a.text, a.length, a.rows) && all_bytes(0, 'x') && all(b.rows, WORDS, 7));
+
+    /* A tab prints as \t, and that backslash keeps the closing mark. */
+    CHECK(stops(all_of_it, "Struct(\"a\tb\": Int8)", ARROW_TYPES_NOT_READ_BACK, ARROW_TYPES_STRING_NEVER_ENDS, 7));
+    CHECK(has_rows(a.text, a.length, a.rows) && all_bytes(0, 0) && all(b.rows, WORDS, 0));
+    CHECK(stops(no_back, "List( Int8)", ARROW_TYPES_NOT_READ_BACK, ARROW_TYPES_TOO_MANY_ROWS, 0));
+    CHECK(all_bytes(0, 0) && all(b.rows, no_back.back, 0) && b.rows[no_back.back] == 7);
+
+    static const char different[] = "Timestamp(s, \"C\\\\\\\"ET\")";
+    CHECK(stops(all_of_it, "Timestamp(s, \"C\\\"ET\")", ARROW_TYPES_DIFFERENT, 0, 0));
+    CHECK(has_rows(a.text, a.length, a.rows) && all_bytes(0, 0));
+    CHECK(has_rows((const uint8_t *)different, strlen(different), b.rows));
+}
+
 static void judging(void)
 {
     size_t depth = 99, row = 99;
@@ -519,6 +631,39 @@ static void eleven_words(void)
     CHECK(all(b.rows, WORDS, 7));
 }
 
+/* Every number has a sentence of its own, and no other number has one. */
+static void sentences(void)
+{
+    const char *none = arrow_types_sentence(0);
+    for (uint32_t number = 1; number <= ARROW_TYPES_PRINT_TOO_LONG; number++) {
+        CHECK(strcmp(arrow_types_sentence(number), none) != 0);
+        for (uint32_t other = 1; other < number; other++)
+            CHECK(strcmp(arrow_types_sentence(number), arrow_types_sentence(other)) != 0);
+    }
+    CHECK(strcmp(arrow_types_sentence(ARROW_TYPES_PRINT_TOO_LONG + 1), none) == 0);
+    CHECK(strcmp(arrow_types_sentence(UINT32_MAX), none) == 0);
+    CHECK(strcmp(arrow_types_sentence(ARROW_TYPES_NOT_UTF8), "the text is not UTF-8") == 0);
+}
+
+/* And every step. */
+static void step_sentences(void)
+{
+    const char *none = arrow_types_step_sentence(ARROW_TYPES_DIFFERENT + 1);
+    for (uint32_t step = 0; step <= ARROW_TYPES_DIFFERENT; step++) {
+        CHECK(strcmp(arrow_types_step_sentence(step), none) != 0);
+        for (uint32_t other = 0; other < step; other++)
+            CHECK(strcmp(arrow_types_step_sentence(step), arrow_types_step_sentence(other)) != 0);
+    }
+    CHECK(strcmp(arrow_types_step_sentence(UINT32_MAX), none) == 0);
+}
+
+static void version(void)
+{
+    char text[40];
+    sprintf(text, "%d.%d.%d", ARROW_TYPES_VERSION_MAJOR, ARROW_TYPES_VERSION_MINOR, ARROW_TYPES_VERSION_PATCH);
+    CHECK(strcmp(text, ARROW_TYPES_VERSION) == 0);
+}
+
 int main(void)
 {
     reading();
@@ -529,11 +674,16 @@ int main(void)
     characters();
     spelling();
     longest();
+    rewriting();
+    not_rewriting();
     judging();
     comparing();
     naming();
     parents();
     eleven_words();
+    sentences();
+    step_sentences();
+    version();
     printf("%u checks, %u failed\n", checks, failures);
     return failures != 0;
 }

@@ -14,7 +14,7 @@ static uint8_t out[ARROW_TYPES_MAX_TEXT];
 
 static int refused(const char *what, uint32_t number)
 {
-    printf("not %s: %u\n", what, (unsigned)number);
+    printf("not %s: %u, %s\n", what, (unsigned)number, arrow_types_sentence(number));
     return 1;
 }
 
@@ -34,7 +34,7 @@ static int show(const uint8_t *text, size_t text_length)
     size_t count, depth, length, place;
     uint32_t status = read_text(text, text_length, &count, &place);
     if (status != 0) {
-        printf("not read: %u at %zu\n", (unsigned)status, place);
+        printf("not read: %u at %zu, %s\n", (unsigned)status, place, arrow_types_sentence(status));
         return 1;
     }
 

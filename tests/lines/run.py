@@ -1,8 +1,9 @@
 #!/usr/bin/env python3
-"""Tests of the line program `type_lines`, run as it is built.
+"""Tests of the line program `type_lines`, run as it is built, and of `arrow-types lines`, which answers the same bytes.
 
-    python3 tests/lines/run.py            # proves and builds it first (tests/build program)
-    python3 tests/lines/run.py --built    # runs target/bin/type_lines as it stands
+    python3 tests/lines/run.py              # proves and builds it first (tests/build program)
+    python3 tests/lines/run.py --built      # runs target/bin/type_lines as it stands
+    python3 tests/lines/run.py --service    # runs `arrow-types lines` as bindings/test has built it
 """
 
 import os
@@ -23,6 +24,9 @@ sys.path.insert(0, str(ROOT / "tests"))
 import needs  # noqa: E402
 
 PROGRAM = ROOT / "target" / "bin" / "type_lines"
+SERVICE = ROOT / "bindings" / "rust" / "target" / "release" / "arrow-types"
+IS_SERVICE = "--service" in sys.argv
+COMMAND = [SERVICE, "lines"] if IS_SERVICE else [PROGRAM]
 SECONDS = 60
 
 SAMPLE = b"""Struct("slot": non-null Timestamp(Second), "kwh": Decimal64(12, 3),)
@@ -39,13 +43,18 @@ TOO_LONG = b"no 1 16384\n"
 
 
 def run(text, **options):
-    return subprocess.run([PROGRAM], input=text, capture_output=True, timeout=SECONDS, **options)
+    return subprocess.run(COMMAND, input=text, capture_output=True, timeout=SECONDS, **options)
+
+
+def status_of(answers):
+    """The exit status that goes with answers: that of `arrow-types` is 1 where a line was refused, else it is 0."""
+    return int(IS_SERVICE and any(line.startswith(b"no ") for line in answers.split(b"\n")))
 
 
 def answers(text):
-    """What is printed for an input, with nothing on standard error."""
+    """What is printed for an input, be it refused, with the status 0 and nothing on standard error."""
     done = run(text)
-    if done.stderr or done.returncode != 0:
+    if done.stderr or done.returncode != status_of(done.stdout):
         raise AssertionError(f"status {done.returncode}, {done.stderr!r}")
     return done.stdout
 
@@ -104,6 +113,37 @@ class Whole(unittest.TestCase):
         self.assertEqual(answers(deep), b"ok 64 64 " + deep + b"\n")
         wide = b"Struct(" + b", ".join([b'"a": Int8'] * 1023) + b")"
         self.assertEqual(answers(wide), b"ok 1024 2 " + wide + b"\n")
+
+
+@unittest.skipIf(IS_SERVICE, "arrow-types takes arguments")
+class Arguments(unittest.TestCase):
+    """With an argument the program says that it takes none, and ends with the status 2: it reads nothing and prints nothing."""
+
+    LINE = b"type_lines: takes no argument; the lines come from standard input, as in: type_lines < FILE\n"
+
+    def test_arguments(self):
+        for arguments in [["FILE"], [""], ["-"], ["--help"], ["a", "b"], ["", "b"], [b"\xff"], ["a" * 100_000]]:
+            with self.subTest(arguments=arguments[0][:8], count=len(arguments)):
+                self.assertEqual(self.started(arguments), (2, b"", self.LINE, SAMPLE))
+
+    @unittest.skipUnless(os.path.exists("/dev/full"), "no /dev/full")
+    def test_not_told(self):
+        with open("/dev/full", "wb") as full:
+            done = subprocess.run([PROGRAM, "FILE"], input=SAMPLE, stdout=subprocess.PIPE, stderr=full, timeout=SECONDS)
+        self.assertEqual((done.returncode, done.stdout), (2, b""))
+
+    def started(self, arguments):
+        """Its status, what it prints, what it says, and what it leaves in a pipe that stays open."""
+        near, far = os.pipe()
+        try:
+            os.write(far, SAMPLE)
+            done = subprocess.run([PROGRAM, *arguments], stdin=near, capture_output=True, timeout=SECONDS)
+            os.write(far, b".")
+            left = os.read(near, len(SAMPLE) + 2)
+        finally:
+            os.close(near)
+            os.close(far)
+        return done.returncode, done.stdout, done.stderr, left[:-1]
 
 
 class Units(unittest.TestCase):
@@ -232,6 +272,18 @@ class Page(unittest.TestCase):
                     self.assertEqual(answers(text + b"\n").decode().split(), ["no", number, *place.replace(",", "").split()])
 
 
+class Changes(unittest.TestCase):
+    """README.md's texts that change each time that they are rewritten."""
+
+    def test_changes(self):
+        # each of the three texts that are said to become one another
+        page = (ROOT / "README.md").read_text(encoding="utf8")
+        texts = re.findall(r'^    (Struct\("a.*)$', page, re.M)
+        self.assertEqual(len(texts), 3)
+        for text, next_text in zip(texts, texts[1:]):
+            self.assertEqual(answers(text.encode()), f"ok 2 2 {next_text}\n".encode())
+
+
 class Long(unittest.TestCase):
     SIZES = [(16384, b"ok 1 1 Int32\n")]
     SIZES += [(size, TOO_LONG) for size in [16385, 32769, 49152, 65535, 65536, 65537, 131072, 1000000]]
@@ -292,7 +344,7 @@ class Buffers(unittest.TestCase):
                 self.assertEqual(self.given_in_pieces(text, size), expected)
 
     def given_in_pieces(self, text, size):
-        child = subprocess.Popen([PROGRAM], stdin=subprocess.PIPE, stdout=subprocess.PIPE)
+        child = subprocess.Popen(COMMAND, stdin=subprocess.PIPE, stdout=subprocess.PIPE)
         got = []
         reader = threading.Thread(target=lambda: got.append(child.stdout.read()))
         reader.start()
@@ -302,7 +354,7 @@ class Buffers(unittest.TestCase):
         child.stdin.close()
         reader.join(SECONDS)
         child.stdout.close()
-        self.assertEqual(child.wait(SECONDS), 0)
+        self.assertEqual(child.wait(SECONDS), status_of(got[0]))
         return got[0]
 
 
@@ -311,7 +363,7 @@ class Waiting(unittest.TestCase):
 
     def start(self, **options):
         """The program, ended if a test waits in vain."""
-        child = subprocess.Popen([PROGRAM], stdout=subprocess.PIPE, **options)
+        child = subprocess.Popen(COMMAND, stdout=subprocess.PIPE, **options)
         timer = threading.Timer(SECONDS, child.kill)
         timer.start()
         for clean_up in [child.wait, child.stdout.close, child.kill, timer.cancel]:
@@ -359,17 +411,44 @@ class Waiting(unittest.TestCase):
 
 
 class Failures(unittest.TestCase):
-    """A read or a write that fails is told on standard error. The program's exit status is 0 all the same, so it is not asked for."""
+    """A read or a write that fails is told on standard error, and the status is 2."""
+
+    def assert_failed(self, done, doing, why):
+        """Standard error has a line that says what failed and why, and the number of the error at most."""
+        start = f"{COMMAND[0].name}: {doing}: {why}".encode()
+        self.assertRegex(done.stderr, re.escape(start) + rb"( \(os error \d+\))?\n\Z")
+        self.assertEqual(done.returncode, 2)
 
     @unittest.skipUnless(os.path.exists("/dev/full"), "no /dev/full")
     def test_output_full(self):
         for text in [SAMPLE, SAMPLE * 5000]:
             with open("/dev/full", "wb") as full:
-                done = subprocess.run([PROGRAM], input=text, stdout=full, stderr=subprocess.PIPE, timeout=SECONDS)
-            self.assertEqual(done.stderr, b"type_lines: writing standard output: No space left on device\n")
+                done = subprocess.run(COMMAND, input=text, stdout=full, stderr=subprocess.PIPE, timeout=SECONDS)
+            self.assert_failed(done, "writing standard output", "No space left on device")
+
+    @unittest.skipIf(IS_SERVICE, "the page runs type_lines")
+    @unittest.skipUnless(os.path.exists("/dev/full"), "no /dev/full")
+    def test_page(self):
+        # README.md's command for a script: it does not say `success`, and does where the output can be written
+        page = (ROOT / "README.md").read_text(encoding="utf8")
+        (line,) = re.findall(r"^    (target/bin/type_lines < .* > /dev/full && echo success)$", page, re.M)
+        for command, said in [(line, b""), (line.replace("/dev/full", "/dev/null"), b"success\n")]:
+            done = subprocess.run(["bash", "-c", command], cwd=ROOT, capture_output=True, timeout=SECONDS)
+            self.assertEqual(done.stdout, said)
+
+    def test_output_closed(self):
+        # a pipe that nobody reads: the write fails, whether the signal of it was ignored before or not
+        for restored in [True, False]:
+            near, far = os.pipe()
+            os.close(near)
+            with open(far, "wb") as pipe:
+                done = subprocess.run(
+                    COMMAND, input=SAMPLE, stdout=pipe, stderr=subprocess.PIPE, timeout=SECONDS, restore_signals=restored
+                )
+            self.assert_failed(done, "writing standard output", "Broken pipe")
 
     def test_folder(self):
-        self.assert_read_fails(os.open(ROOT, os.O_RDONLY), b"", b"Is a directory")
+        self.assert_read_fails(os.open(ROOT, os.O_RDONLY), b"", "Is a directory")
 
     def test_input_breaks_off(self):
         # a terminal whose other end is closed: the read behind its last byte fails, and the whole lines are answered
@@ -380,20 +459,40 @@ class Failures(unittest.TestCase):
         tty.setraw(far)
         os.write(far, b"Int8\nInt33\nInt")
         os.close(far)
-        self.assert_read_fails(near, b"ok 1 1 Int8\nno 8 0\n", b"Input/output error")
+        self.assert_read_fails(near, b"ok 1 1 Int8\nno 8 0\n", "Input/output error")
 
     def assert_read_fails(self, source, answered, why):
         """The whole lines that could be read are answered, and the message says why no more could; closes the source."""
         try:
-            done = subprocess.run([PROGRAM], stdin=source, capture_output=True, timeout=SECONDS)
+            done = subprocess.run(COMMAND, stdin=source, capture_output=True, timeout=SECONDS)
         finally:
             os.close(source)
         self.assertEqual(done.stdout, answered)
-        self.assertEqual(done.stderr, b"type_lines: reading standard input: " + why + b"\n")
+        self.assert_failed(done, "reading standard input", why)
+
+
+class Same(unittest.TestCase):
+    """`arrow-types lines` answers byte for byte what `type_lines` does; where both are built."""
+
+    @unittest.skipUnless(PROGRAM.exists() and SERVICE.exists(), "only one of the two programs is built")
+    def test_stored_texts(self):
+        stored = (ROOT / "crates" / "replay" / "data" / "texts").read_bytes()
+        text = stored + b"\n".join(line for line, _ in mixed_lines(5000, 11))
+        proved, service = (self.answers(command, text) for command in ([PROGRAM], [SERVICE, "lines"]))
+        self.assertEqual(proved.stdout, service.stdout)
+        self.assertGreater(proved.stdout.count(b"\n"), 10_000)
+        self.assertEqual((proved.returncode, service.returncode), (0, 1))
+
+    @staticmethod
+    def answers(command, text):
+        return subprocess.run(command, input=text, capture_output=True, timeout=SECONDS)
 
 
 if __name__ == "__main__":
-    if "--built" in sys.argv:
+    if IS_SERVICE:
+        sys.argv.remove("--service")
+        needs.path(SERVICE, "`cargo build --release --offline` in bindings/rust builds it.")
+    elif "--built" in sys.argv:
         sys.argv.remove("--built")
         needs.path(PROGRAM, "`bash tests/build program` builds it.")
     else:

@@ -109,6 +109,9 @@ class Planted(unittest.TestCase):
         text = "use std::io::Read;\nuse std::io::{Cursor, Write};\n\nfn f(a: &mut Cursor) {\n    a.CALL(b);\n}\n"
         self.assert_cut(text.replace("CALL", "read"), ["std::io::Write"], name="src/lib.rt")
         self.assert_cut(text.replace("CALL", "write_all"), ["std::io::Read"], name="src/lib.rt")
+        text = "use std::env::Env;\n\nfn f(a: &HostRuntime) {\n    a.CALL(1, &mut []);\n}\n"
+        self.assert_cut(text.replace("CALL", "arg"), [], name="src/lib.rt")
+        self.assert_cut(text.replace("CALL", "argue"), ["std::env::Env"], name="src/lib.rt")
 
     def test_edits(self):
         edit = ("must-fail/wrong.edit", "file: proofs/Laws.antt\nold: x = y\nnew: x = a\n")

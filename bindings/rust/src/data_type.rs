@@ -1,19 +1,9 @@
 //! A type that owns its text and its rows.
 
 use crate::ffi::{self, Tree};
-use crate::{Children, Error, Field, MAX_ROWS, MAX_TEXT, ROW_WORDS, ReadError, Spelling};
-use std::cell::RefCell;
+use crate::{Children, Error, Field, ROW_WORDS, ReadError, Spelling, buffers};
 use std::fmt;
 use std::str::FromStr;
-
-thread_local! {
-    /// Rows for every text, of which each read is lent as many as its text needs. They are not cleared between reads:
-    /// only what is filled is looked at.
-    static ROWS: RefCell<Vec<u32>> = RefCell::new(vec![0; MAX_ROWS * ROW_WORDS]);
-
-    /// Room for every text that is printed, lent to each print.
-    static OUT: RefCell<Vec<u8>> = RefCell::new(vec![0; MAX_TEXT]);
-}
 
 /// A type: the text that it was read from, and its tree as rows. It is always a sound tree.
 ///
@@ -107,6 +97,12 @@ impl DataType {
         &self.rows
     }
 
+    /// Reads a text, which the type keeps.
+    pub(crate) fn read(text: String) -> Result<DataType, ReadError> {
+        let rows = read(text.as_bytes())?;
+        Ok(DataType { text, rows })
+    }
+
     fn tree(&self) -> Tree<'_> {
         Tree {
             text: self.text.as_bytes(),
@@ -169,11 +165,7 @@ impl DataType {
     /// The printed text in a spelling, which is refused as [`print`](DataType::print) says. It is this text that may not
     /// be longer than 16,384 bytes.
     pub fn print_with(&self, spelling: Spelling) -> Result<String, Error> {
-        OUT.with_borrow_mut(|out| {
-            let length = ffi::print(self.tree(), spelling, out)?;
-            let printed = std::str::from_utf8(&out[..length]);
-            Ok(printed.expect("a sound tree prints UTF-8").to_owned())
-        })
+        print(self.tree(), spelling)
     }
 
     /// The row of the whole type.
@@ -254,7 +246,7 @@ impl FromStr for DataType {
 /// The rows of a text. Where those lent by its length run out it is refused in any case, and all rows give it its own
 /// number and place.
 fn read(text: &[u8]) -> Result<Vec<u32>, ReadError> {
-    ROWS.with_borrow_mut(|rows| {
+    buffers::with_rows(|rows| {
         let lent = ffi::rows_to_lend(text.len()) * ROW_WORDS;
         let count = match ffi::read(text, &mut rows[..lent]) {
             Err(error) if error.error() == Error::TooManyRows => ffi::read(text, rows)?,
@@ -264,8 +256,23 @@ fn read(text: &[u8]) -> Result<Vec<u32>, ReadError> {
     })
 }
 
-/// Writes the printed text, in the default spelling. A type that [`DataType::print`] refuses gives `fmt::Error`, and `to_string` then panics, as
-/// it does for every such type: call `print` where names come from outside.
+/// The printed text of a sound tree in a spelling.
+pub(crate) fn print(tree: Tree<'_>, spelling: Spelling) -> Result<String, Error> {
+    buffers::with_out(|out| {
+        let length = ffi::print(tree, spelling, out)?;
+        let printed = std::str::from_utf8(&out[..length]);
+        Ok(printed.expect("a sound tree prints UTF-8").to_owned())
+    })
+}
+
+/// Writes the printed text, in the default spelling.
+///
+/// A type that [`DataType::print`] refuses gives `fmt::Error`. `write!` and `writeln!` into a `fmt::Write`, such as a
+/// `String`, hand that on. All others **panic**, as they do for every such type: `to_string`, `format!`, `print!`,
+/// `println!`, `eprint!`, `eprintln!`, and `write!` and `writeln!` into an `io::Write`, and so a logger's macros where it
+/// writes by one of these. The message of `panic!`, `assert!` and their like ends where the type would stand. So where names
+/// come from outside, call [`print`](DataType::print), or [`lossy`](DataType::lossy) for a log, or show the type by `{:?}`;
+/// these never panic.
 impl fmt::Display for DataType {
     fn fmt(&self, formatter: &mut fmt::Formatter<'_>) -> fmt::Result {
         let printed = self.print().map_err(|_| fmt::Error)?;

@@ -2,7 +2,7 @@
 //! answers and what a caller owes. Slices are never null, and a borrow that is written is no part of one that is read;
 //! that is all of it.
 
-use crate::{Error, ReadError, Spelling};
+use crate::{Error, ReadError, RewriteError, Spelling};
 
 /// The three names that stand in no text, end to end: document 01's name list.
 pub const NAME_LIST: &str = "itemrun_endsvalues";
@@ -41,6 +41,36 @@ unsafe extern "C" {
         out: *mut u8,
         out_length: usize,
         length: *mut usize,
+    ) -> u32;
+
+    fn arrow_types_rewrite(
+        text: *const u8,
+        text_length: usize,
+        rows: *mut u32,
+        rows_length: usize,
+        out: *mut u8,
+        out_length: usize,
+        back: *mut u32,
+        back_length: usize,
+        length: *mut usize,
+        count: *mut usize,
+        number: *mut u32,
+        place: *mut usize,
+    ) -> u32;
+
+    fn arrow_types_rewrite_micro(
+        text: *const u8,
+        text_length: usize,
+        rows: *mut u32,
+        rows_length: usize,
+        out: *mut u8,
+        out_length: usize,
+        back: *mut u32,
+        back_length: usize,
+        length: *mut usize,
+        count: *mut usize,
+        number: *mut u32,
+        place: *mut usize,
     ) -> u32;
 
     fn arrow_types_is_sound(
@@ -183,6 +213,51 @@ pub fn print(tree: Tree, spelling: Spelling, out: &mut [u8]) -> Result<usize, Er
     answer(status, length)
 }
 
+/// Buffers that a rewrite works in: rows for the text, bytes for what is printed, and rows for what is read back.
+pub struct Room<'a> {
+    pub rows: &'a mut [u32],
+    pub out: &'a mut [u8],
+    pub back: &'a mut [u32],
+}
+
+/// Rewrites a text in a spelling: how many bytes of `out` are filled.
+pub fn rewrite(text: &[u8], spelling: Spelling, room: &mut Room) -> Result<usize, RewriteError> {
+    let rewrite = match spelling {
+        Spelling::Us => arrow_types_rewrite,
+        Spelling::Micro => arrow_types_rewrite_micro,
+    };
+    let (mut length, mut count, mut number, mut place) = (0, 0, 0, 0);
+    // SAFETY: as in `read`; all that is written is borrowed mutably, each by itself, so it is no part of `text`, nor of one
+    // another.
+    let step = unsafe {
+        rewrite(
+            text.as_ptr(),
+            text.len(),
+            room.rows.as_mut_ptr(),
+            room.rows.len(),
+            room.out.as_mut_ptr(),
+            room.out.len(),
+            room.back.as_mut_ptr(),
+            room.back.len(),
+            &mut length,
+            &mut count,
+            &mut number,
+            &mut place,
+        )
+    };
+    match step {
+        0 => Ok(length),
+        1 => Err(RewriteError::Read(ReadError::new(refusal(number), place))),
+        2 => Err(RewriteError::Print(refusal(number))),
+        3 => Err(RewriteError::ReadBack(ReadError::new(
+            refusal(number),
+            place,
+        ))),
+        4 => Err(RewriteError::Different),
+        step => panic!("the library answers the step {step}, which is none"),
+    }
+}
+
 /// Whether a tree is sound.
 pub fn is_sound(tree: Tree) -> bool {
     // SAFETY: the pointers are those of slices, with their lengths, that outlive the call. Nothing is written.
@@ -312,7 +387,11 @@ pub fn zone(text: &[u8], start: u32, size: u32) -> Option<&[u8]> {
 fn answer<T>(status: u32, value: T) -> Result<T, Error> {
     match status {
         0 => Ok(value),
-        number => Err(Error::from_number(number)
-            .unwrap_or_else(|| panic!("the library refuses with {number}, which is no refusal"))),
+        number => Err(refusal(number)),
     }
+}
+
+fn refusal(number: u32) -> Error {
+    Error::from_number(number)
+        .unwrap_or_else(|| panic!("the library refuses with {number}, which is no refusal"))
 }

@@ -1,10 +1,10 @@
 //! A borrowed view of one row.
 
-use crate::{DataType, IntervalUnit, Kind, ROW_WORDS, TimeUnit, UnionMode, ffi};
+use crate::{Children, DataType, IntervalUnit, Kind, ROW_WORDS, TimeUnit, UnionMode, ffi};
 use std::fmt;
 
 /// Where the words of a row stand: document 01's row table, and the parent of document 02.
-mod word {
+pub(crate) mod word {
     pub const KIND: usize = 0;
     pub const ROWS: usize = 1;
     pub const ROLE: usize = 2;
@@ -18,6 +18,9 @@ mod word {
     pub const ZONE_LENGTH: usize = 10;
     pub const PARENT: usize = 11;
 }
+
+/// Word 6 of a field whose name stands in the text.
+pub(crate) const IN_TEXT: u32 = 1;
 
 /// One row of a type, borrowed from it: a field with its name, or a bare type, which has none (the root, and key and
 /// value of a Dictionary).
@@ -49,8 +52,23 @@ impl<'a> Field<'a> {
         Field { data_type, row }
     }
 
-    fn word(self, at: usize) -> u32 {
+    /// The view of another row of the type.
+    pub(crate) fn at(self, row: usize) -> Field<'a> {
+        Field::new(self.data_type, row)
+    }
+
+    /// The type that the row is one of.
+    pub(crate) fn data_type(self) -> &'a DataType {
+        self.data_type
+    }
+
+    pub(crate) fn word(self, at: usize) -> u32 {
         self.data_type.rows()[self.row * ROW_WORDS + at]
+    }
+
+    /// The words of the row and of all that it contains.
+    pub(crate) fn words(self) -> &'a [u32] {
+        &self.data_type.rows()[self.row * ROW_WORDS..self.end() * ROW_WORDS]
     }
 
     /// The row's place in the table, the root's being 0.
@@ -166,11 +184,11 @@ impl<'a> Field<'a> {
     /// ```
     pub fn parent(self) -> Option<Field<'a>> {
         let parent = self.word(word::PARENT) as usize;
-        (self.row > 0).then(|| Field::new(self.data_type, parent))
+        (self.row > 0).then(|| self.at(parent))
     }
 
     /// The row behind all that the field contains.
-    fn end(self) -> usize {
+    pub(crate) fn end(self) -> usize {
         self.row + self.row_count()
     }
 
@@ -185,11 +203,7 @@ impl<'a> Field<'a> {
     /// # Ok::<(), arrow_types::Error>(())
     /// ```
     pub fn children(self) -> Children<'a> {
-        Children {
-            data_type: self.data_type,
-            next: self.row + 1,
-            end: self.end(),
-        }
+        Children::of(self)
     }
 
     /// The first child with a name. Equal names are no fault in a type.
@@ -199,7 +213,7 @@ impl<'a> Field<'a> {
 
     /// The field and all that it contains, in the order of the rows.
     pub fn subtree(self) -> impl Iterator<Item = Field<'a>> {
-        (self.row..self.end()).map(move |row| Field::new(self.data_type, row))
+        (self.row..self.end()).map(move |row| self.at(row))
     }
 }
 
@@ -208,26 +222,5 @@ impl fmt::Debug for Field<'_> {
         let mut shown = formatter.debug_struct("Field");
         shown.field("row", &self.row).field("kind", &self.kind());
         shown.field("name", &self.name()).finish_non_exhaustive()
-    }
-}
-
-/// The children of a type, in order.
-#[derive(Clone, Debug)]
-pub struct Children<'a> {
-    data_type: &'a DataType,
-    next: usize,
-    end: usize,
-}
-
-impl<'a> Iterator for Children<'a> {
-    type Item = Field<'a>;
-
-    fn next(&mut self) -> Option<Field<'a>> {
-        if self.next == self.end {
-            return None;
-        }
-        let child = Field::new(self.data_type, self.next);
-        self.next = child.end();
-        Some(child)
     }
 }

@@ -89,6 +89,24 @@ impl TimeUnit {
     ];
 }
 
+/// Writes the unit as it is printed in a type.
+///
+/// ```
+/// use arrow_types::TimeUnit;
+///
+/// assert_eq!(TimeUnit::Millisecond.to_string(), "ms");
+/// ```
+impl fmt::Display for TimeUnit {
+    fn fmt(&self, formatter: &mut fmt::Formatter<'_>) -> fmt::Result {
+        formatter.write_str(match self {
+            TimeUnit::Second => "s",
+            TimeUnit::Millisecond => "ms",
+            TimeUnit::Microsecond => "us",
+            TimeUnit::Nanosecond => "ns",
+        })
+    }
+}
+
 /// The unit of an Interval.
 #[derive(Clone, Copy, Debug, PartialEq, Eq, PartialOrd, Ord, Hash)]
 pub enum IntervalUnit {
@@ -108,6 +126,17 @@ impl IntervalUnit {
     ];
 }
 
+/// Writes the unit as it is printed in a type.
+impl fmt::Display for IntervalUnit {
+    fn fmt(&self, formatter: &mut fmt::Formatter<'_>) -> fmt::Result {
+        formatter.write_str(match self {
+            IntervalUnit::YearMonth => "YearMonth",
+            IntervalUnit::DayTime => "DayTime",
+            IntervalUnit::MonthDayNano => "MonthDayNano",
+        })
+    }
+}
+
 /// How a Union lays out its values.
 #[derive(Clone, Copy, Debug, PartialEq, Eq, PartialOrd, Ord, Hash)]
 pub enum UnionMode {
@@ -119,4 +148,14 @@ pub enum UnionMode {
 
 impl UnionMode {
     pub(crate) const ALL: [UnionMode; 2] = [UnionMode::Sparse, UnionMode::Dense];
+}
+
+/// Writes the mode as it is printed in a type.
+impl fmt::Display for UnionMode {
+    fn fmt(&self, formatter: &mut fmt::Formatter<'_>) -> fmt::Result {
+        formatter.write_str(match self {
+            UnionMode::Sparse => "Sparse",
+            UnionMode::Dense => "Dense",
+        })
+    }
 }

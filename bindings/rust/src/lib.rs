@@ -1,7 +1,19 @@
 //! Reads the type texts of Apache Arrow into trees and prints them again, as the Rust crate arrow-schema 60.1.0 does.
 //!
-//! Reader, printer, soundness, depth, equality and the layout verdict are those of the proved library `arrow_types`,
-//! which is linked; this crate gives them the shape that a Rust service expects. 'Document 01' is the library's scope.
+//! Reader, printer, rewrite, soundness, depth, equality and the layout verdict are those of the proved library
+//! `arrow_types`, which is linked; this crate gives them the shape that a Rust service expects. 'Document 01' is the
+//! library's scope.
+//!
+//! A service that rewrites a text calls [`rewrite`], which reads back what it prints, so that no name and no zone is lost:
+//!
+//! ```
+//! use arrow_types::{RewriteError, rewrite};
+//!
+//! assert_eq!(rewrite(r#"Timestamp(Second, Some("CET"))"#)?, r#"Timestamp(s, "CET")"#);
+//! # Ok::<(), RewriteError>(())
+//! ```
+//!
+//! One that looks at a type, or keeps it, reads it:
 //!
 //! ```
 //! use arrow_types::{DataType, Error, Kind};
@@ -20,31 +32,51 @@
 //! # Ok::<(), Error>(())
 //! ```
 //!
-//! Microseconds are printed as `us`; [`DataType::print_with`] prints them as `µs`, as arrow-schema does.
+//! Microseconds are printed as `us`; [`rewrite_with`] and [`DataType::print_with`] print them as `µs`, as arrow-schema does.
+//!
+//! Types are equal, ordered and hashed as trees, whatever their texts. [`DataType::timestamp`] and others put them together
+//! by hand; [`DataType::lossy`] shows a type in a log in any case.
 //!
 //! A text is read into rows that each thread keeps, 49,152 bytes, of which it is lent as many as its length asks for
 //! ([`rows_to_lend`]), and the rows filled are copied out of them; so a [`DataType`] has two allocations, its text and
-//! its rows. Printing works likewise with 16,384 bytes.
+//! its rows. Printing works likewise with 16,384 bytes, and a rewrite with both and as many rows again.
+//!
+//! The library keeps no state: any number of threads may read and print at once. A call of it takes at most 64 KiB of stack,
+//! [`MAX_STACK`], the most to read a text of 64 levels; a thread with less must not be given such texts.
 
 #![deny(missing_docs, unsafe_code)]
 
+mod buffers;
+mod builder;
+mod children;
+mod classes;
+mod convert;
 mod data_type;
 mod error;
 #[allow(unsafe_code)]
 mod ffi;
 mod field;
 mod kind;
+mod lossy;
+mod order;
+mod pack;
 mod picture;
 mod read_error;
+mod rewrite;
 mod rows;
 mod spelling;
+mod subtree;
 
+pub use builder::NewField;
+pub use children::Children;
 pub use data_type::{DataType, Verdict};
 pub use error::Error;
 pub use ffi::{read, rows_to_lend};
-pub use field::{Children, Field};
+pub use field::Field;
 pub use kind::{IntervalUnit, Kind, TimeUnit, UnionMode};
+pub use lossy::Lossy;
 pub use read_error::ReadError;
+pub use rewrite::{RewriteError, rewrite, rewrite_with};
 pub use rows::{set_parents, widen_rows};
 pub use spelling::Spelling;
 
@@ -57,7 +89,10 @@ pub const MAX_ROWS: usize = 1_024;
 /// The most bytes that a text has, read or printed.
 pub const MAX_TEXT: usize = 16_384;
 
-/// The worked example of the README runs with the documentation's.
-#[cfg(doctest)]
+/// The most bytes of stack that a call of the library takes.
+pub const MAX_STACK: usize = 65_536;
+
+/// The worked example of the README runs with the documentation's, where there is one beside the crate.
+#[cfg(all(doctest, repository))]
 #[doc = include_str!("../../README.md")]
 struct Readme;

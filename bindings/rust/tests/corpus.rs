@@ -5,11 +5,13 @@
 //! the rows that they need and printed with 16,384 bytes, and there is one name list, so there cases that lend less or
 //! have another list are held to what they imply, or left out; the counts say of how many. The last case of each sample
 //! is wrong on purpose.
+#![cfg(repository)]
 
 use std::panic::{AssertUnwindSafe, catch_unwind};
 
 use arrow_types::{
-    DataType, Error, Field, MAX_ROWS, ROW_WORDS, ReadError, Spelling, Verdict, read, rows_to_lend,
+    DataType, Error, Field, MAX_ROWS, ROW_WORDS, ReadError, RewriteError, Spelling, Verdict, read,
+    rewrite_with, rows_to_lend,
 };
 
 const NAME_LIST: &[u8] = b"itemrun_endsvalues";
@@ -213,6 +215,40 @@ fn reads_back(read: &DataType) {
             assert_eq!(&again, read);
         }
     }
+}
+
+/// A rewrite by its single steps.
+fn step_by_step(text: &[u8], spelling: Spelling) -> Result<String, RewriteError> {
+    let before = DataType::try_from(text).map_err(RewriteError::Read)?;
+    let printed = before.print_with(spelling).map_err(RewriteError::Print)?;
+    let after: DataType = printed.parse().map_err(RewriteError::ReadBack)?;
+    if after == before {
+        Ok(printed)
+    } else {
+        Err(RewriteError::Different)
+    }
+}
+
+/// Each stored text is rewritten as by single steps, in both spellings. The counts are those of the steps.
+#[test]
+fn rewrites() {
+    let mut sample = Sample::open("texts");
+    let mut counts = [0; 5];
+    for _ in 0..sample.number() {
+        let text = Text::of(&mut sample).text;
+        for spelling in [Spelling::Us, Spelling::Micro] {
+            let answer = rewrite_with(&text, spelling);
+            assert_eq!(answer, step_by_step(&text, spelling));
+            counts[match answer {
+                Ok(_) => 0,
+                Err(RewriteError::Read(_)) => 1,
+                Err(RewriteError::Print(_)) => 2,
+                Err(RewriteError::ReadBack(_)) => 3,
+                Err(RewriteError::Different) => 4,
+            }] += 1;
+        }
+    }
+    assert_eq!(counts, [1_372, 5_288, 974, 148, 90]);
 }
 
 #[test]

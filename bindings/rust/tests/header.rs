@@ -1,6 +1,7 @@
-//! The C header says the same as this crate: refusals with their sentences, kinds, and the limits.
+//! The C header says the same as this crate: refusals with their sentences, kinds, the version and the limits.
+#![cfg(repository)]
 
-use arrow_types::{Error, Kind, MAX_ROWS, MAX_TEXT, ROW_WORDS};
+use arrow_types::{DataType, Error, Kind, MAX_ROWS, MAX_STACK, MAX_TEXT, ROW_WORDS, RewriteError};
 
 const HEADER: &str = include_str!("../../c/arrow_types.h");
 
@@ -55,6 +56,54 @@ fn refusals() {
     assert_eq!(constants("arrow_types_refusal"), expected);
 }
 
+/// The strings of a function of the header, one to a line.
+fn strings(function: &str) -> Vec<String> {
+    let start = format!("const char *{function}(");
+    let (_, body) = HEADER.split_once(&start).expect("the function");
+    let (_, body) = body.split_once("[] = {\n").expect("its strings");
+    let (body, _) = body.split_once("    };\n").expect("their end");
+    let string = |line: &str| line.trim().trim_matches([',', '"']).to_owned();
+    body.lines().map(string).collect()
+}
+
+/// The header's function says what the enum says. The first is that of 0.
+#[test]
+fn sentences() {
+    let mut expected = vec!["this is no refusal".to_owned()];
+    expected.extend(Error::ALL.map(|error| error.to_string()));
+    assert_eq!(strings("arrow_types_sentence"), expected);
+}
+
+/// The steps of a rewrite: 0, and those that are an error here.
+#[test]
+fn steps() {
+    let read = "Int9".parse::<DataType>().unwrap_err();
+    let errors = [
+        RewriteError::Read(read),
+        RewriteError::Print(Error::NotLatin),
+        RewriteError::ReadBack(read),
+        RewriteError::Different,
+    ];
+    let steps = constants("arrow_types_step");
+    let numbers: Vec<u32> = steps.iter().map(|step| step.number).collect();
+    assert_eq!(numbers, [0, 1, 2, 3, 4]);
+    let sentences: Vec<&str> = steps.iter().map(|step| step.comment.as_str()).collect();
+    assert_eq!(strings("arrow_types_step_sentence"), sentences);
+    for (error, step) in errors.iter().zip(&steps[1..]) {
+        assert!(error.to_string().starts_with(&step.comment), "{error}");
+    }
+}
+
+/// Header, pkg-config file and crate have one version.
+#[test]
+fn version() {
+    let version = env!("CARGO_PKG_VERSION");
+    let line = format!("#define ARROW_TYPES_VERSION \"{version}\"\n");
+    assert!(HEADER.contains(&line), "{line}");
+    let package = include_str!("../../c/arrow_types.pc.in");
+    assert!(package.contains(&format!("\nVersion: {version}\n")));
+}
+
 #[test]
 fn kinds() {
     let expected = Kind::ALL.map(|kind| Constant {
@@ -72,6 +121,7 @@ fn limits() {
         ("MAX_ROWS", MAX_ROWS),
         ("MAX_TEXT", MAX_TEXT),
         ("NAMES_LENGTH", 18),
+        ("MAX_STACK", MAX_STACK),
     ] {
         let line = format!("#define ARROW_TYPES_{name} {value}\n");
         assert!(HEADER.contains(&line), "{line}");

@@ -348,6 +348,7 @@ fn picture_of_any_place() {
 }
 
 /// The pages show what is printed.
+#[cfg(repository)]
 #[test]
 fn pages() {
     let text = "Struct(\"Küche\" Int8)";

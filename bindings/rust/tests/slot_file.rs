@@ -1,5 +1,10 @@
 //! Runs the example `slot_file` and holds what it prints and writes to the stored files beside it.
 
+mod program;
+
+use program::{file, files_beside, folder, in_read_only_folder};
+use std::fs;
+use std::os::unix::fs::{MetadataExt, PermissionsExt, symlink};
 use std::path::{Path, PathBuf};
 use std::process::{Command, Output};
 
@@ -8,17 +13,22 @@ fn examples() -> PathBuf {
 }
 
 fn stored(name: &str) -> String {
-    std::fs::read_to_string(examples().join(name)).expect("a stored file")
+    fs::read_to_string(examples().join(name)).expect("a stored file")
 }
 
-/// Runs the example, which `cargo test` builds beside this test. What it writes goes to a file that is not there yet.
-fn run(input: &Path, output: &Path) -> Output {
+/// The example, which `cargo test` builds beside this test.
+fn example() -> PathBuf {
     let test = std::env::current_exe().expect("this test's file");
     let built = test.ancestors().nth(2).expect("the folder of the profile");
     let program = built.join("examples/slot_file");
     assert!(program.is_file(), "run `cargo test`, which builds examples");
-    let _ = std::fs::remove_file(output);
-    let run = Command::new(program).args([input, output]).output();
+    program
+}
+
+/// Runs the example. What it writes goes to a file that is not there yet.
+fn run(input: &Path, output: &Path) -> Output {
+    let _ = fs::remove_file(output);
+    let run = Command::new(example()).args([input, output]).output();
     run.expect("the example runs")
 }
 
@@ -29,7 +39,7 @@ fn temporary(name: &str) -> PathBuf {
 /// Runs it on a head of this test's: its last line, and the picture below it. Nothing may be written.
 fn refusal(name: &str, head: &[u8]) -> String {
     let (input, output) = (temporary(&format!("{name}.in")), temporary(name));
-    std::fs::write(&input, head).expect("a file to write");
+    fs::write(&input, head).expect("a file to write");
     let run = run(&input, &output);
     assert_eq!(run.status.code(), Some(1));
     assert!(!output.exists());
@@ -49,7 +59,7 @@ fn rewrites_the_sample() {
         stored("slot_file.report")
     );
     assert_eq!(run.status.code(), Some(0));
-    let rewritten = std::fs::read_to_string(output).expect("what it writes");
+    let rewritten = fs::read_to_string(output).expect("what it writes");
     assert_eq!(rewritten, stored("slot_file.rewritten"));
     assert_eq!(rewritten.lines().count(), 11);
 }
@@ -59,7 +69,7 @@ fn what_is_rewritten_stays() {
     let output = temporary("again");
     let run = run(&examples().join("slot_file.rewritten"), &output);
     assert_eq!(run.status.code(), Some(0));
-    let again = std::fs::read_to_string(output).expect("what it writes");
+    let again = fs::read_to_string(output).expect("what it writes");
     assert_eq!(again, stored("slot_file.rewritten"));
 }
 
@@ -69,7 +79,7 @@ fn a_zone_that_would_be_lost() {
     let message = refusal("lost", b"Int8\nTimestamp(s, \"C\\\"ET\")\nInt8\n");
     assert_eq!(
         message,
-        r#"nothing is written: column 2: a zone is lost in Timestamp(s, "C\\\"ET")"#
+        "nothing is written: column 2: what is printed reads back as another type"
     );
 }
 
@@ -78,16 +88,14 @@ fn names_that_would_not_stay() {
     let message = refusal("another", b"Struct(\"a\\\"b\": Int8)\n");
     assert_eq!(
         message,
-        r#"nothing is written: column 1: Struct("a\\\"b": Int8) reads back as another type"#
+        "nothing is written: column 1: what is printed reads back as another type"
     );
     // A tab prints as `\t`, and that backslash keeps the closing mark.
     let message = refusal("unread", b"Struct(\"a\tb\": Int8)\n");
-    let expected = [
-        "nothing is written: column 1: what is printed does not read back: a quoted string never ends, at byte 7",
-        r#" | Struct("a\tb": Int8)"#,
-        r#" |        ^"#,
-    ];
-    assert_eq!(message, expected.join("\n"));
+    assert_eq!(
+        message,
+        "nothing is written: column 1: what is printed does not read back: a quoted string never ends, at byte 7"
+    );
 }
 
 #[test]
@@ -106,4 +114,112 @@ fn texts_that_are_refused() {
     );
     let message = refusal("not_latin", "Timestamp(s, \"дом\")\n".as_bytes());
     assert!(message.ends_with("to print in double quotes has a character above U+017F"));
+}
+
+/// The example on a head, with an OUTPUT that is there, in a shell that first does this: its status, and the last line of
+/// what it says.
+fn replace(first: &str, input: &Path, output: &Path) -> (Option<i32>, String) {
+    let run = Command::new("sh")
+        .args(["-c", &format!("{first}; exec \"$0\" \"$@\"")])
+        .args([example().as_path(), input, output])
+        .output()
+        .expect("the example runs");
+    let printed = String::from_utf8(run.stdout).expect("UTF-8");
+    let last = printed.lines().last().unwrap_or_default().to_owned();
+    (run.status.code(), last)
+}
+
+/// A head of more than 1,024 bytes.
+fn long_head() -> String {
+    "Timestamp(s, \"Europe/Berlin\")\n".repeat(100)
+}
+
+/// Where writing fails, OUTPUT is what it was, alone in its folder, and the last line says so.
+#[test]
+fn output_that_has_no_room() {
+    let output = file("no_room", "the old head");
+    let input = file("no_room_input", long_head());
+    let (status, last) = replace("ulimit -f 1; trap '' XFSZ", &input, &output);
+    assert_eq!(status, Some(1));
+    assert!(
+        last.contains(": nothing is written: File too large"),
+        "{last}"
+    );
+    assert_eq!(fs::read_to_string(&output).unwrap(), "the old head");
+    assert_eq!(files_beside(&output), ["head"]);
+}
+
+/// OUTPUT is what it was even where the program is ended while it writes. Whoever starts the tests may have the signal
+/// ignored: then it is the test above once more.
+#[test]
+fn the_program_is_ended() {
+    let path = file("ended", long_head());
+    let (status, _) = replace("ulimit -c 0; ulimit -f 1", &path, &path);
+    assert_ne!(status, Some(0));
+    assert_eq!(fs::read_to_string(&path).unwrap(), long_head());
+}
+
+/// OUTPUT may be INPUT, and a link to it. Mode and link stay; the file is another one.
+#[test]
+fn mode_and_link_stay() {
+    let path = file("link", "Timestamp(Second)\n");
+    fs::set_permissions(&path, fs::Permissions::from_mode(0o640)).unwrap();
+    let before = fs::metadata(&path).unwrap();
+    let link = folder("link_from").join("link");
+    symlink(&path, &link).unwrap();
+    assert_eq!(replace(":", &link, &link).0, Some(0));
+    assert!(fs::symlink_metadata(&link).unwrap().is_symlink());
+    let after = fs::metadata(&path).unwrap();
+    assert_eq!(fs::read_to_string(&path).unwrap(), "Timestamp(s)\n");
+    assert_eq!(after.mode(), before.mode());
+    assert_ne!(after.ino(), before.ino());
+    assert_eq!(files_beside(&path), ["head"]);
+}
+
+/// A folder is not replaced.
+#[test]
+fn no_plain_file() {
+    let input = file("folder", "Int8\n");
+    let output = folder("no_file");
+    let (status, last) = replace(":", &input, &output);
+    assert_eq!(status, Some(1));
+    assert!(
+        last.ends_with(": nothing is written: it is no plain file"),
+        "{last}"
+    );
+    assert_eq!(files_beside(&output.join("head")), [""; 0]);
+}
+
+/// Where there is no file to take mode and owner from, the new one has those of any new file.
+#[test]
+fn a_new_file() {
+    let path = file("new", "Timestamp(Second)\n");
+    let output = path.with_file_name("new_head");
+    assert_eq!(replace("umask 027", &path, &output).0, Some(0));
+    assert_eq!(fs::read_to_string(&output).unwrap(), "Timestamp(s)\n");
+    assert_eq!(fs::metadata(&output).unwrap().mode() & 0o777, 0o640);
+    assert_eq!(files_beside(&path), ["head", "new_head"]);
+}
+
+#[test]
+fn a_link_that_leads_nowhere() {
+    let path = file("nowhere", "Int8\n");
+    let link = path.with_file_name("link");
+    symlink("no_file", &link).unwrap();
+    let (status, last) = replace(":", &path, &link);
+    assert_eq!(status, Some(1));
+    assert!(last.contains("nothing is written: No such file"), "{last}");
+    assert_eq!(files_beside(&path), ["head", "link"]);
+}
+
+#[test]
+fn a_folder_that_takes_no_file() {
+    let head = "Timestamp(Second)\n";
+    let ((status, printed, _), left) = in_read_only_folder(&example(), &["head", "head"], head);
+    assert_eq!(status, Some(1));
+    assert!(
+        printed.contains("\nhead: nothing is written: Permission denied"),
+        "{printed}"
+    );
+    assert_eq!(left, head);
 }

@@ -205,3 +205,61 @@ fn views_shown() {
         r#"Field { row: 1, kind: Int8, name: Some("a"), .. }"#
     );
 }
+
+#[test]
+fn children_from_either_end() {
+    let row = read(
+        r#"Struct("a": Int8, "b": List(Struct("x": Int8)), "c": Struct(), "d": Dictionary(Int8, List(Int8)))"#,
+    );
+    let names = |children: Vec<Field<'_>>| {
+        children
+            .into_iter()
+            .filter_map(Field::name)
+            .collect::<String>()
+    };
+    assert_eq!(names(row.fields().collect()), "abcd");
+    assert_eq!(names(row.fields().rev().collect()), "dcba");
+    for from_front in 0..=4 {
+        let mut fields = row.fields();
+        let front: Vec<_> = fields.by_ref().take(from_front).collect();
+        assert_eq!(fields.len(), 4 - from_front);
+        let back: Vec<_> = fields.by_ref().rev().collect();
+        assert_eq!(
+            names(front) + &names(back).chars().rev().collect::<String>(),
+            "abcd"
+        );
+        assert_eq!(
+            (fields.len(), fields.next(), fields.next_back()),
+            (0, None, None)
+        );
+    }
+    let key_and_value = row.field("d").unwrap().children();
+    assert_eq!(
+        key_and_value.map(Field::kind).rev().collect::<Vec<_>>(),
+        [Kind::List, Kind::Int8]
+    );
+    assert_eq!(read("Int8").fields().len(), 0);
+}
+
+#[test]
+fn units_are_shown_as_they_are_printed() {
+    for text in ["Timestamp(s)", "Duration(ms)", "Time64(µs)", "Time64(ns)"] {
+        let read = read(text);
+        let unit = read.root().time_unit().unwrap();
+        assert_eq!(format!("{}({unit})", read.root().kind()), read.to_string());
+    }
+    for text in [
+        "Interval(YearMonth)",
+        "Interval(DayTime)",
+        "Interval(MonthDayNano)",
+    ] {
+        let read = read(text);
+        let unit = read.root().interval_unit().unwrap();
+        assert_eq!(format!("Interval({unit})"), read.to_string());
+    }
+    for text in ["Union(Sparse)", "Union(Dense)"] {
+        let read = read(text);
+        let mode = read.root().union_mode().unwrap();
+        assert_eq!(format!("Union({mode})"), read.to_string());
+    }
+}

@@ -1,1 +1,2 @@
 pub mod Status
+pub mod Step

@@ -16,8 +16,11 @@ ghost use Rattle.datatype_parse.specs.RowsToLend.{rows_to_lend};
 ghost use Rattle.datatype_display.specs.Print.{default_spelling, print_answer, print_bytes};
 ghost use Rattle.display_length.specs.declared.words.Spelling.TheVariants.{Micro};
 
+mod rewritten;
+
 use datatype::{Field, Tree};
 use display_length::Spelling;
+pub use rewritten::{arrow_types_rewrite, arrow_types_rewrite_micro};
 use tokenizer::Refusal;
 
 // An answer as two numbers: the status, and the value, 0 where it was refused.

@@ -14,6 +14,8 @@ ghost use Rattle.datatype_parse.specs.Parse.{parse_answer, parse_rows};
 ghost use Rattle.datatype_parse.specs.RowsToLend.{rows_to_lend};
 ghost use Rattle.datatype_display.specs.Print.{default_spelling, print_answer, print_bytes};
 ghost use Rattle.display_length.specs.declared.words.Spelling.TheVariants.{Micro};
+ghost use Rattle.rewrite.specs.Rewrite.{rewrite_answer, rewrite_bytes, rewrite_back};
+ghost use Rattle.arrow_types.specs.Step.{told, told_of};
 
 // Reads a type text into lent rows. The place is that of a refusal in the text, 0 where the text is accepted.
 #[unsafe(no_mangle)]
@@ -69,6 +71,47 @@ pub extern "C" fn arrow_types_print_micro<'a>(
     ensures contents { out.new ≡ print_bytes Micro text.now names.now rows.now out.old }
 {
     arrow_types::arrow_types_print_micro(text, names, rows, out, length)
+}
+
+// Rewrites a type text in the default spelling: reads it, prints it, reads back what was printed and compares the two
+// trees. The result is the step that refused, 0 for none: 1 reading, 2 printing, 3 reading back, 4 comparing.
+#[unsafe(no_mangle)]
+pub extern "C" fn arrow_types_rewrite(
+    text: &[u8],
+    rows: &mut [u32],
+    out: &mut [u8],
+    back: &mut [u32],
+    length: &mut usize,
+    count: &mut usize,
+    number: &mut u32,
+    place: &mut usize,
+) -> u32
+    ensures told { told result length.new count.new number.new place.new ≡ told_of (rewrite_answer default_spelling text.now rows.old out.old back.old) }
+    ensures contents { rows.new ≡ parse_rows text.now rows.old }
+    ensures bytes { out.new ≡ rewrite_bytes default_spelling text.now rows.old out.old back.old }
+    ensures again { back.new ≡ rewrite_back default_spelling text.now rows.old out.old back.old }
+{
+    arrow_types::arrow_types_rewrite(text, rows, out, back, length, count, number, place)
+}
+
+// Rewrites a type text, with microseconds as the Rust spells them.
+#[unsafe(no_mangle)]
+pub extern "C" fn arrow_types_rewrite_micro(
+    text: &[u8],
+    rows: &mut [u32],
+    out: &mut [u8],
+    back: &mut [u32],
+    length: &mut usize,
+    count: &mut usize,
+    number: &mut u32,
+    place: &mut usize,
+) -> u32
+    ensures told { told result length.new count.new number.new place.new ≡ told_of (rewrite_answer Micro text.now rows.old out.old back.old) }
+    ensures contents { rows.new ≡ parse_rows text.now rows.old }
+    ensures bytes { out.new ≡ rewrite_bytes Micro text.now rows.old out.old back.old }
+    ensures again { back.new ≡ rewrite_back Micro text.now rows.old out.old back.old }
+{
+    arrow_types::arrow_types_rewrite_micro(text, rows, out, back, length, count, number, place)
 }
 
 // Sets the parent, word 11, of each row that a table holds, up to 1,024: for rows that were built or stored without it.

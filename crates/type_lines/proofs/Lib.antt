@@ -1,2 +1,3 @@
 pub mod Going
+pub mod Status
 pub mod Turns

@@ -1,18 +1,22 @@
 // The line program: standard input has a type text on each line, standard output gets an answer for each. Answers are
 // written before each read, so that whoever waits for one before it writes the next line gets it. A read or a write
-// that fails ends the program with a message; its exit status is 0 all the same.
+// that fails ends the program with a message and the exit status 2, and so does an argument.
 
 #![tactic(auto)]
 
-ghost use Rattle.std.specs.Prelude.{◌<◌, ◌≤◌, length};
+ghost use Rattle.std.specs.Prelude.{◌≡◌, ◌<◌, ◌≤◌, length};
+ghost use Rattle.std.specs.Process.{exit_status};
 ghost use Rattle.type_lines.specs.Run.{Unfinished};
+ghost use Rattle.type_lines.specs.Start.{Starts, status_of};
 ghost use Rattle.type_lines.specs.Turns.{Handed, ReadOn, Running, GoesOn, LastLine, Ran};
 
 use answer_line::ANSWER_BYTES;
 use lines::Output;
+use std::env::{Env, FillError};
 use std::io;
 use std::io::{Cursor, Read, Write};
 use std::ops::ControlFlow;
+use std::process::ExitCode;
 
 mod lines;
 
@@ -20,6 +24,10 @@ mod lines;
 // place past its bytes to be read or answered into: each buffer is an array, and how many of its bytes count stands in
 // `Progress` and `Turn`.
 const BUFFER_BYTES: usize = 65_536;
+
+// The line that an argument gets.
+const ARGUMENT_LINE: &[u8] =
+    b"type_lines: takes no argument; the lines come from standard input, as in: type_lines < FILE\n";
 
 // Where the lines have got to: the place in the bytes read, how many bytes of answers are in the output, and whether
 // what comes next is the rest of a line that is answered already: a yes or no on which no other field hangs.
@@ -49,6 +57,13 @@ struct Turn {
 enum Failure {
     Reading(io::Error),
     Writing(io::Error),
+}
+
+// What the program did: it wrote the line that an argument gets, if that could be written; or it ran, with what `run` gave.
+#[derive(Drop)]
+enum Ending {
+    Argument(io::Result<()>),
+    Lines(Result<Option<usize>, Failure>),
 }
 
 // How many bytes of an error's text say why: the error's number stands behind them in brackets.
@@ -81,17 +96,17 @@ fn report(rt: &HostRuntime, failure: Failure) -> io::Result<()> {
 }
 
 // Writes so many bytes at the front of the output to standard output.
-fn flush(rt: &HostRuntime, out: &[u8], n: usize) -> Result<usize, Failure>
+fn flush<O: Write>(stdout: &mut O, out: &[u8], n: usize) -> Result<usize, Failure>
     requires { n ≤ length out.now }
     ensures { Handed result n }
 {
-    rt.write_all(&out[..n]).map_err(Failure::Writing)?;
+    stdout.write_all(&out[..n]).map_err(Failure::Writing)?;
     Ok(n)
 }
 
 // Reads more behind so many bytes of the input, an unfinished line.
-fn read_on(
-    rt: &HostRuntime,
+fn read_on<I: Read>(
+    stdin: &mut I,
     input: &mut [u8],
     left: usize,
     skip: bool,
@@ -100,10 +115,7 @@ fn read_on(
     requires { left < length input.old }
     ensures { ReadOn result input.old left skip wrote input.new }
 {
-    let n = rt
-        .stdin()
-        .read(&mut input[left..])
-        .map_err(Failure::Reading)?;
+    let n = stdin.read(&mut input[left..]).map_err(Failure::Reading)?;
     let next = Turn {
         filled: left + n,
         from: 0,
@@ -119,8 +131,9 @@ fn read_on(
 
 // One turn: answers what can be answered and writes the answers; then reads more, unless the output was short of room.
 #[tactic(auto, using(crate::proofs::Turns::turn_steps))]
-fn take_turn(
-    rt: &HostRuntime,
+fn take_turn<I: Read, O: Write>(
+    stdin: &mut I,
+    stdout: &mut O,
     input: &mut [u8; BUFFER_BYTES],
     t: Turn,
     output: &mut Output,
@@ -135,10 +148,10 @@ fn take_turn(
         skip: t.skip,
     };
     let q = output.answer_lines(&input[..filled], p);
-    let wrote = flush(rt, &output.bytes, q.wrote)?;
+    let wrote = flush(stdout, &output.bytes, q.wrote)?;
     if wrote <= output.bytes.len() - ANSWER_BYTES {
         let left = lines::move_left(input, q.from, filled);
-        return read_on(rt, input, left, q.skip, wrote);
+        return read_on(stdin, input, left, q.skip, wrote);
     }
     Ok(ControlFlow::Continue(Turn {
         filled,
@@ -151,19 +164,25 @@ fn take_turn(
 
 // Answers what is left at the end of the input, and writes the answer: how many bytes.
 #[tactic(auto, using(crate::proofs::Turns::last_handed))]
-fn finish(rt: &HostRuntime, line: &[u8], skip: bool, output: &mut Output) -> Result<usize, Failure>
+fn finish<O: Write>(
+    stdout: &mut O,
+    line: &[u8],
+    skip: bool,
+    output: &mut Output,
+) -> Result<usize, Failure>
     requires { Unfinished line.now }
     ensures { LastLine line.now skip result output.new.bytes }
 {
     let n = output.answer_last(line, skip);
-    flush(rt, &output.bytes, n)
+    flush(stdout, &output.bytes, n)
 }
 
 // Turns until the input ends, and how many bytes were written last; none where so many turns were all, which cannot run
 // out, since each reads or writes a byte.
 #[tactic(auto, using(crate::proofs::Turns::run_steps))]
-fn run(
-    rt: &HostRuntime,
+fn run<I: Read, O: Write>(
+    stdin: &mut I,
+    stdout: &mut O,
     input: &mut [u8; BUFFER_BYTES],
     output: &mut Output,
 ) -> Result<Option<usize>, Failure>
@@ -177,21 +196,62 @@ fn run(
         read: 0,
     };
     for _ in 0..u64::MAX {
-        match take_turn(rt, input, t, output)? {
+        match take_turn(stdin, stdout, input, t, output)? {
             ControlFlow::Continue(next) => t = next,
             ControlFlow::Break(last) => {
                 let left = last.filled;
-                return Ok(Some(finish(rt, &input[..left], last.skip, output)?));
+                return Ok(Some(finish(stdout, &input[..left], last.skip, output)?));
             }
         }
     }
     Ok(None)
 }
 
-fn main(rt: HostRuntime) {
+// Answers the lines if `arg` says that nothing stands behind the program's name. Else it writes the line that an argument
+// gets to standard error, and reads nothing.
+fn start<I: Read, O: Write, E: Write>(
+    argument: Result<usize, FillError>,
+    stdin: &mut I,
+    stdout: &mut O,
+    stderr: &mut E,
+    input: &mut [u8; BUFFER_BYTES],
+    output: &mut Output,
+) -> Ending
+    ensures { Starts argument result output.new.bytes stdin.old stdin.new stdout.old stdout.new (E.contents stderr.old) (E.contents stderr.new) }
+{
+    match argument {
+        Err(FillError::NotPresent) => Ending::Lines(run(stdin, stdout, input, output)),
+        _ => Ending::Argument(stderr.write_all(ARGUMENT_LINE)),
+    }
+}
+
+// The status that the program ends with: 0 where the input was read to its end and every answer was written, and else 2. A
+// refused line is an answer too.
+fn status_of(ending: &Ending) -> ExitCode
+    ensures { exit_status result ≡ status_of ending.now }
+{
+    match ending {
+        Ending::Lines(Ok(Some(_))) => ExitCode::SUCCESS,
+        _ => ExitCode::from(2),
+    }
+}
+
+fn main(rt: HostRuntime) -> ExitCode {
     let mut input = [0; BUFFER_BYTES];
     let mut output = Output::new();
-    if let Err(failure) = run(&rt, &mut input, &mut output) {
+    // no byte of an argument is asked for, only whether there is one
+    let argument = rt.arg(1, &mut []);
+    let ending = start(
+        argument,
+        &mut rt.stdin(),
+        &mut rt.stdout(),
+        &mut rt.stderr(),
+        &mut input,
+        &mut output,
+    );
+    let status = status_of(&ending);
+    if let Ending::Lines(Err(failure)) = ending {
         let _ = report(&rt, failure);
     }
+    status
 }

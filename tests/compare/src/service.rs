@@ -1,10 +1,10 @@
-//! The crate that services use, in bindings/rust, beside the Rust: reading, every field's view, printing as `µs` and
-//! equality; beside the model number and place of a refused text, and printing in the default spelling.
+//! The crate that services use, in bindings/rust, beside the Rust: reading, every field's view, the classes of types,
+//! printing as `µs`, rewriting and equality; beside the model number and place of a refused text, and printing in the default spelling.
 
 use crate::generate::{Random, Visit, damage, limits, places, texts};
 use crate::model::{self, Limits, MOST_BYTES, MOST_ROWS, NAME_LIST};
 use crate::oracle::{self, Answer, ErrorKind, Row};
-use arrow_types::{DataType, Error, Field, MAX_TEXT, ReadError, Spelling};
+use arrow_types::{DataType, Error, Field, MAX_TEXT, ReadError, Spelling, rewrite_with};
 use std::collections::BTreeMap;
 use std::process::ExitCode;
 
@@ -75,6 +75,10 @@ fn trees(read: &DataType, rust: &arrow_schema::DataType, rows: &[Row]) -> Result
     if read.row_count() != rows.len() || fields.any(|(field, row)| row != &seen(field, row)) {
         return Err(format!("{read:?} with other rows than the Rust's"));
     }
+    let classes = [read.is_nested(), read.is_numeric(), read.is_temporal()];
+    if classes != [rust.is_nested(), rust.is_numeric(), rust.is_temporal()] {
+        return Err(format!("{read:?} nested, numeric, temporal: {classes:?}"));
+    }
     let plain = printed_by_default(read)?;
     let printed = match (read.print_with(Spelling::Micro), rust.to_string()) {
         (Ok(printed), other) if printed == other => printed,
@@ -83,6 +87,7 @@ fn trees(read: &DataType, rust: &arrow_schema::DataType, rows: &[Row]) -> Result
         (printed, other) => return Err(format!("prints {printed:?}, and the Rust {other}")),
     };
     let again = printed.parse().as_ref() == Ok(read);
+    rewritten(read, &printed, again)?;
     if again != plain.is_ok_and(|plain| plain.parse().as_ref() == Ok(read)) {
         return Err(format!(
             "{printed} reads back equal: {again}, and not as `us`"
@@ -94,6 +99,14 @@ fn trees(read: &DataType, rust: &arrow_schema::DataType, rows: &[Row]) -> Result
             .is_ok_and(|again: arrow_schema::DataType| &again == rust);
     same.then_some(true)
         .ok_or(format!("{printed} reads back equal: {again}"))
+}
+
+/// Whether the text is rewritten as what is printed, just where that reads back equal.
+fn rewritten(read: &DataType, printed: &str, again: bool) -> Result<(), String> {
+    let rewritten = rewrite_with(read.text(), Spelling::Micro).ok();
+    let same = rewritten.as_deref() == again.then_some(printed);
+    same.then_some(())
+        .ok_or_else(|| format!("{printed} is rewritten as {rewritten:?}"))
 }
 
 /// What the crate prints where no spelling is named, which the model prints too.

@@ -4,4 +4,4 @@ use native.Mathlib.Omega.{arith}
 use Rattle.type_lines.proofs.take_turn.Goals as goal
 
 pub returns : goal.returns
-returns c = turn-wrote _ _ _ c.requires _ _ c.answer_lines-q.ensures.0 _ (handed_all _ _ _ c.flush.ensures c.in_ok-wrote.was) (omega (arith, c.if-wrote.false))
+returns g c = turn-wrote _ _ _ c.requires _ _ c.answer_lines-q.ensures.0 _ (handed_all _ _ _ c.flush.ensures c.in_ok-wrote.was) (omega (arith, c.if-wrote.false))

@@ -1,0 +1,200 @@
+/* Measures how much stack the functions take for the deepest texts and trees: 64 levels of each kind that types nest in.
+ * Each call runs on a stack of its own that is painted before; what is painted over was used. The status is 1 if a call
+ * takes more than ARROW_TYPES_MAX_STACK. */
+
+#define _XOPEN_SOURCE 700
+
+#include "arrow_types.h"
+
+#include <stdio.h>
+#include <string.h>
+#include <ucontext.h>
+
+#define LEVELS 64
+#define COUNT(array) (sizeof(array) / sizeof *(array))
+#define WORDS (ARROW_TYPES_MAX_ROWS * ARROW_TYPES_ROW_WORDS)
+#define NAMES (const uint8_t *)ARROW_TYPES_NAMES, (size_t)ARROW_TYPES_NAMES_LENGTH
+#define TREE text, length, NAMES, rows, words
+
+static char built[ARROW_TYPES_MAX_TEXT];
+static const uint8_t *text = (const uint8_t *)built;
+static size_t length;
+static uint32_t rows[WORDS];
+static size_t words;
+static uint8_t out[ARROW_TYPES_MAX_TEXT];
+static uint32_t back[WORDS];
+static uint32_t status;
+
+/* What is written besides. */
+static size_t size, count, place;
+static uint32_t yes, number;
+
+/* The calls, each with the tree that was read last. */
+static void nothing(void)
+{
+}
+
+static void read_text(void)
+{
+    status = arrow_types_read(text, length, rows, WORDS, &size, &place);
+    words = size * ARROW_TYPES_ROW_WORDS;
+}
+
+static void print(void)
+{
+    status = arrow_types_print(TREE, out, sizeof out, &size);
+}
+
+static void rewrite(void)
+{
+    status = arrow_types_rewrite(text, length, rows, WORDS, out, sizeof out, back, WORDS, &size, &count, &number, &place);
+}
+
+static void is_sound(void)
+{
+    status = !arrow_types_is_sound(TREE);
+}
+
+static void depth(void)
+{
+    status = arrow_types_depth(TREE, &size) != 0 || size != LEVELS;
+}
+
+static void equal(void)
+{
+    status = !arrow_types_equal(TREE, TREE);
+}
+
+static void verdict(void)
+{
+    status = arrow_types_verdict(TREE, &yes, &size);
+}
+
+static void set_parents(void)
+{
+    arrow_types_set_parents(rows, words);
+    status = 0;
+}
+
+/* The calls, reading first, with the most that each took and what nested then. */
+static struct call {
+    const char *name;
+    void (*run)(void);
+    size_t most;
+    const char *deepest;
+} calls[] = {
+    {"arrow_types_read", read_text, 0, ""},
+    {"arrow_types_print", print, 0, ""},
+    {"arrow_types_rewrite", rewrite, 0, ""},
+    {"arrow_types_is_sound", is_sound, 0, ""},
+    {"arrow_types_depth", depth, 0, ""},
+    {"arrow_types_equal", equal, 0, ""},
+    {"arrow_types_verdict", verdict, 0, ""},
+    {"arrow_types_set_parents", set_parents, 0, ""},
+};
+
+/* What opens a level and what closes it. A Map is two levels. */
+static const struct nest {
+    const char *open, *close;
+    unsigned levels;
+} nests[] = {
+    {"List(", ")", 1},
+    {"List(non-null ", ", field: 'n')", 1},
+    {"FixedSizeList(4 x ", ")", 1},
+    {"FixedSizeList(4, ", ")", 1},
+    {"Struct(\"a\": Int8, \"b\": ", ")", 1},
+    {"Union(Dense, 0: (\"a\": Int8), 1: (\"b\": ", "))", 1},
+    {"Dictionary(Int8, ", ")", 1},
+    {"Dictionary(", ", Int8)", 1},
+    {"RunEndEncoded(non-null Int32, ", ")", 1},
+    {"RunEndEncoded(non-null ", ", Int8)", 1},
+    {"RunEndEncoded(\"r\": non-null Int32, \"v\": ", ")", 1},
+    {"RunEndEncoded(\"r\": non-null ", ", \"v\": Int8)", 1},
+    {"Map(\"e\": non-null Struct(\"k\": non-null Int8, \"v\": ", "), sorted)", 2},
+    {"Map(\"e\": non-null Struct(\"k\": non-null ", ", \"v\": Int8), sorted)", 2},
+};
+
+/* What stands at level 64: a type that is read, and one that is refused as deep down as can be. */
+static const struct leaf {
+    const char *text;
+    uint32_t refusal;
+} leaves[] = {
+    {"Timestamp(us, \"CET\")", 0},
+    {"Map(\"e\": non-null Struct(), sorted)", ARROW_TYPES_TOO_DEEP},
+};
+
+/* Fills the text: so many times what opens, a List where a level is left, the leaf, and what closes. */
+static void build(const struct nest *nest, const struct leaf *leaf)
+{
+    unsigned times = (LEVELS - 1) / nest->levels;
+    int is_left = times * nest->levels < LEVELS - 1;
+    built[0] = 0;
+    for (unsigned i = 0; i < times; i++)
+        strcat(built, nest->open);
+    strcat(built, is_left ? "List(" : "");
+    strcat(built, leaf->text);
+    strcat(built, is_left ? ")" : "");
+    for (unsigned i = 0; i < times; i++)
+        strcat(built, nest->close);
+    length = strlen(built);
+}
+
+enum { STACK = 4 * ARROW_TYPES_MAX_STACK, PAINT = 0xa5 };
+
+static _Alignas(64) uint8_t stack[STACK];
+static ucontext_t here, there;
+
+/* How many bytes of stack a call takes. */
+static size_t stack_of(void (*run)(void))
+{
+    memset(stack, PAINT, sizeof stack);
+    getcontext(&there);
+    there.uc_stack.ss_sp = stack;
+    there.uc_stack.ss_size = sizeof stack;
+    there.uc_link = &here;
+    makecontext(&there, run, 0);
+    swapcontext(&here, &there);
+    size_t untouched = 0;
+    while (untouched < sizeof stack && stack[untouched] == PAINT)
+        untouched++;
+    return sizeof stack - untouched;
+}
+
+/* Runs a call, keeps the most that it took, and says whether it answers as it should. */
+static int measure(struct call *call, const char *open, uint32_t expected)
+{
+    size_t used = stack_of(call->run);
+    if (used > call->most) {
+        call->most = used;
+        call->deepest = open;
+    }
+    if (status != expected)
+        printf("%s answers %u for %s\n", call->name, (unsigned)status, built);
+    return status == expected;
+}
+
+/* Reads a text, and gives its tree, if it has one, to every other call. */
+static int measure_all(const struct nest *nest, const struct leaf *leaf)
+{
+    build(nest, leaf);
+    if (!measure(&calls[0], nest->open, leaf->refusal))
+        return 0;
+    for (size_t i = 1; leaf->refusal == 0 && i < COUNT(calls); i++)
+        if (!measure(&calls[i], nest->open, 0))
+            return 0;
+    return 1;
+}
+
+int main(void)
+{
+    int good = 1;
+    for (size_t i = 0; i < COUNT(nests); i++)
+        for (size_t j = 0; j < COUNT(leaves); j++)
+            good = measure_all(&nests[i], &leaves[j]) && good;
+    printf("stack, of %d bytes at the most; a call of nothing takes %zu\n", ARROW_TYPES_MAX_STACK, stack_of(nothing));
+    for (size_t i = 0; i < COUNT(calls); i++) {
+        printf("%6zu %s, in %s..\n", calls[i].most, calls[i].name, calls[i].deepest);
+        good = calls[i].most <= ARROW_TYPES_MAX_STACK && good;
+    }
+    return !good;
+}

@@ -1,0 +1,98 @@
+//! The command `arrow-types`: the line program with an exit status, a text explained to a person, and a file rewritten.
+
+mod explain;
+mod failure;
+mod hints;
+mod lines;
+mod paint;
+#[path = "../../../examples/replace_file/mod.rs"]
+mod replace_file;
+mod rewrite;
+mod tree;
+
+use crate::failure::Failure;
+use arrow_types::Spelling;
+use explain::Source;
+use paint::Paint;
+use std::ffi::{OsStr, OsString};
+use std::io::{self, Write};
+use std::process::ExitCode;
+
+const HELP: &str = "\
+Reads and prints the type texts of Apache Arrow.
+
+    arrow-types lines                  a type text on each line of standard input:
+                                       an answer for each, as type_lines gives it
+    arrow-types explain TEXT           what a type text says, or why and where it is refused
+    arrow-types explain FILE           the same for each line of a file
+    arrow-types rewrite FILE           each line of a file rewritten in place, microseconds as us
+    arrow-types rewrite --micro FILE   the same, microseconds as \u{b5}s: for a file that is compared
+                                       with what arrow-schema prints
+    arrow-types --help, --version
+
+What explain is given is a file if there is one of that name, else a text; `explain --file FILE`
+and `explain --text TEXT` say which it is.
+
+rewrite writes nothing if a line is refused or would become another type, as where a time zone
+would be lost. The new file takes the old one's place at one stroke.
+
+The exit status is 0; 1 if a text was refused; 2 if reading or writing failed, or the command is
+not one of these.
+";
+
+/// A command that did what it is for: whether every text was taken.
+type Ending = Result<bool, Failure>;
+
+fn main() -> ExitCode {
+    let arguments: Vec<OsString> = std::env::args_os().skip(1).collect();
+    let arguments: Vec<&OsStr> = arguments.iter().map(OsString::as_os_str).collect();
+    match run(&arguments) {
+        Ok(true) => ExitCode::SUCCESS,
+        Ok(false) => ExitCode::from(1),
+        Err(failure) => {
+            // Where standard error can't be written either, the status is left.
+            let _ = writeln!(io::stderr(), "arrow-types: {failure}");
+            ExitCode::from(2)
+        }
+    }
+}
+
+fn run(arguments: &[&OsStr]) -> Ending {
+    let words: Vec<&str> = arguments
+        .iter()
+        .map(|argument| argument.to_str().unwrap_or("?"))
+        .collect();
+    match words.as_slice() {
+        ["-h" | "--help"] | ["lines" | "explain" | "rewrite", "-h" | "--help"] => say(HELP),
+        ["--version"] => say(concat!("arrow-types ", env!("CARGO_PKG_VERSION"), "\n")),
+        ["lines"] => lines::run(&mut io::stdin().lock(), &mut io::stdout().lock()),
+        ["explain", "--text" | "--file"] => Err(Failure::Usage),
+        ["explain", "--text", _] => explain(Source::Text(arguments[2])),
+        ["explain", "--file", _] => explain(Source::File(arguments[2].as_ref())),
+        ["explain", _] => explain(Source::named(arguments[1])),
+        ["rewrite", "--micro"] => Err(Failure::Usage),
+        ["rewrite", "--micro", _] => rewrite(arguments[2], Spelling::Micro),
+        ["rewrite", _] => rewrite(arguments[1], Spelling::Us),
+        _ => Err(Failure::Usage),
+    }
+}
+
+fn explain(source: Source<'_>) -> Ending {
+    let stdout = io::stdout();
+    let paint = Paint::of(&stdout);
+    explain::run(source, paint, &mut stdout.lock())
+}
+
+fn rewrite(file: &OsStr, spelling: Spelling) -> Ending {
+    rewrite::run(file.as_ref(), spelling, &mut io::stdout().lock())
+}
+
+fn say(text: &str) -> Ending {
+    let mut stdout = io::stdout().lock();
+    failure::written(
+        stdout
+            .write_all(text.as_bytes())
+            .and_then(|()| stdout.flush()),
+    )?;
+    Ok(true)
+}

@@ -1,0 +1,2 @@
+pub mod Rewrite
+pub mod Examples
