@@ -17,8 +17,8 @@ use datatype::Tree;
 pub const MAX_NEEDS: usize = 32;
 
 // A column that is needed: where its name stands in a text of names; its kind; words 4 and 5 of its row; whether null is
-// allowed, where a non-null column passes, too; whether a zone must stand.
-// In C's layout, since services lend a slice of them.
+// allowed, where a non-null column passes, too; whether a zone must stand. In C's layout, since services lend a slice of
+// them.
 #[repr(C)]
 #[derive(Clone, Copy, Debug, PartialEq, Eq)]
 pub struct Need {
