@@ -24,17 +24,20 @@ unfoldable pub flag : Bool → ℕ
 flag true = 1
 flag false = 0
 
--- A verdict as two numbers beside the status: 1 for yes, else 0; the first row that breaks a rule, or the first need that is
--- not met, else 0.
+-- A verdict as two numbers beside the status: 1 for yes, else 0; the first row that breaks a rule, else 0.
 unfoldable pub yes_of : Out (Option ℕ) → ℕ
 yes_of (refused r) = 0
 yes_of (done None) = 1
 yes_of (done (Some i)) = 0
 
-unfoldable pub first_of : Out (Option ℕ) → ℕ
-first_of (refused r) = 0
-first_of (done None) = 0
-first_of (done (Some i)) = i
+unfoldable pub row_of : Out (Option ℕ) → ℕ
+row_of (refused r) = 0
+row_of (done None) = 0
+row_of (done (Some i)) = i
+
+-- The first need that is not met is told as a verdict's row is.
+abbrev pub unmet_of : Out (Option ℕ) → ℕ
+unmet_of answer = row_of answer
 
 -- A number of a name's place, 0 where the name is empty.
 unfoldable pub if_named : List ℕ → ℕ → ℕ

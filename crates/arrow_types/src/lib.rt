@@ -5,7 +5,7 @@
 
 ghost use Rattle.std.specs.Prelude.{◌≡◌, length};
 ghost use Rattle.tokenizer.specs.Answer.{answer_of};
-ghost use Rattle.arrow_types.specs.Status.{status_of, value_of, place_of, flag, yes_of, first_of, if_named};
+ghost use Rattle.arrow_types.specs.Status.{status_of, value_of, place_of, flag, yes_of, row_of, if_named};
 ghost use Rattle.datatype.specs.Tree.{name_of, zone_of};
 ghost use Rattle.subtrees.specs.Parents.{with_parents};
 ghost use Rattle.row_table.specs.Sound.{is_sound, depth_of};
@@ -209,7 +209,7 @@ pub fn arrow_types_equal<'a, 'b>(
 }
 
 // The layout verdict of a tree: whether it is yes, 1 or 0, and the first row that breaks a rule, where it is not.
-#[tactic(auto, unfolding(crate::specs::Status::status_of, crate::specs::Status::yes_of, crate::specs::Status::first_of))]
+#[tactic(auto, unfolding(crate::specs::Status::status_of, crate::specs::Status::yes_of, crate::specs::Status::row_of))]
 pub fn arrow_types_verdict(
     text: &[u8],
     names: &[u8],
@@ -219,7 +219,7 @@ pub fn arrow_types_verdict(
 ) -> u32
     ensures status { result ≡ status_of (verdict_of text.now names.now rows.now) }
     ensures yes { yes.new ≡ yes_of (verdict_of text.now names.now rows.now) }
-    ensures row { row.new ≡ first_of (verdict_of text.now names.now rows.now) }
+    ensures row { row.new ≡ row_of (verdict_of text.now names.now rows.now) }
 {
     *yes = 0;
     *row = 0;

@@ -1,6 +1,6 @@
 // The slot file's own check for services: the answer as numbers.
 ghost use Rattle.std.specs.Prelude.{◌≡◌};
-ghost use Rattle.arrow_types.specs.Status.{status_of, yes_of, first_of};
+ghost use Rattle.arrow_types.specs.Status.{status_of, yes_of, unmet_of};
 ghost use Rattle.needs.specs.Needs.{needs_of};
 
 use datatype::Tree;
@@ -8,7 +8,7 @@ use needs::Need;
 
 // Whether a tree has the columns that are needed: whether it is yes, 1 or 0, and the first need that is not met, where it is
 // not. Each need has its name in the text of needs.
-#[tactic(auto, unfolding(crate::specs::Status::status_of, crate::specs::Status::yes_of, crate::specs::Status::first_of))]
+#[tactic(auto, unfolding(crate::specs::Status::status_of, crate::specs::Status::yes_of, crate::specs::Status::row_of))]
 pub fn arrow_types_needs(
     text: &[u8],
     names: &[u8],
@@ -20,7 +20,7 @@ pub fn arrow_types_needs(
 ) -> u32
     ensures status { result ≡ status_of (needs_of text.now names.now rows.now needs_text.now needs.now) }
     ensures yes { yes.new ≡ yes_of (needs_of text.now names.now rows.now needs_text.now needs.now) }
-    ensures need { need.new ≡ first_of (needs_of text.now names.now rows.now needs_text.now needs.now) }
+    ensures need { need.new ≡ unmet_of (needs_of text.now names.now rows.now needs_text.now needs.now) }
 {
     *yes = 0;
     *need = 0;

@@ -4,7 +4,7 @@
 #![tactic(auto)]
 
 ghost use Rattle.std.specs.Prelude.{◌≡◌, length};
-ghost use Rattle.arrow_types.specs.Status.{status_of, value_of, place_of, flag, yes_of, first_of, if_named};
+ghost use Rattle.arrow_types.specs.Status.{status_of, value_of, place_of, flag, yes_of, row_of, unmet_of, if_named};
 ghost use Rattle.datatype.specs.Tree.{name_of, zone_of};
 ghost use Rattle.subtrees.specs.Parents.{with_parents};
 ghost use Rattle.row_table.specs.Sound.{is_sound, depth_of};
@@ -211,7 +211,7 @@ pub extern "C" fn arrow_types_verdict(
 ) -> u32
     ensures status { result ≡ status_of (verdict_of text.now names.now rows.now) }
     ensures yes { yes.new ≡ yes_of (verdict_of text.now names.now rows.now) }
-    ensures row { row.new ≡ first_of (verdict_of text.now names.now rows.now) }
+    ensures row { row.new ≡ row_of (verdict_of text.now names.now rows.now) }
 {
     arrow_types::arrow_types_verdict(text, names, rows, yes, row)
 }
@@ -230,7 +230,7 @@ pub extern "C" fn arrow_types_needs(
 ) -> u32
     ensures status { result ≡ status_of (needs_of text.now names.now rows.now needs_text.now needs.now) }
     ensures yes { yes.new ≡ yes_of (needs_of text.now names.now rows.now needs_text.now needs.now) }
-    ensures need { need.new ≡ first_of (needs_of text.now names.now rows.now needs_text.now needs.now) }
+    ensures need { need.new ≡ unmet_of (needs_of text.now names.now rows.now needs_text.now needs.now) }
 {
     arrow_types::arrow_types_needs(text, names, rows, needs_text, needs, yes, need)
 }
