@@ -149,6 +149,11 @@ class Gate(unittest.TestCase):
         self.write("crates/a/out/a", "")
         self.assertEqual(self.run_gate()[0].returncode, 0)
 
+    def test_link_left(self):
+        # `rt ci` would not begin again in this folder
+        self.stand_in("bindings/test", f"{shutil.which('ln')} -s test bindings/link")
+        self.assert_fails(says="bindings/link")
+
     def test_missing_tools(self):
         for tool in TOOLS:
             with self.subTest(tool=tool):

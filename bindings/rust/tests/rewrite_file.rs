@@ -3,10 +3,11 @@
 mod program;
 
 use program::{
-    arrow_types, file, files_beside, folder, full, in_read_only_folder, in_shell, outcome, unread,
+    Link, arrow_types, file, files_beside, folder, full, in_read_only_folder, in_shell, outcome,
+    unread,
 };
 use std::fs;
-use std::os::unix::fs::{MetadataExt, PermissionsExt, chown, symlink};
+use std::os::unix::fs::{MetadataExt, PermissionsExt, chown};
 use std::os::unix::process::ExitStatusExt;
 use std::path::Path;
 use std::process::Command;
@@ -77,10 +78,9 @@ fn mode_owner_and_links_stay() {
     // Another owner, where the tests may give the file one.
     let _ = chown(&path, Some(12_345), Some(12_346));
     let before = fs::metadata(&path).unwrap();
-    let link = folder("link_from").join("link");
-    symlink(&path, &link).unwrap();
-    assert_eq!(outcome(&mut rewrite(&link)).0, Some(0));
-    assert!(fs::symlink_metadata(&link).unwrap().is_symlink());
+    let link = Link::to(&path, folder("link_from").join("link"));
+    assert_eq!(outcome(&mut rewrite(&link.0)).0, Some(0));
+    assert!(fs::symlink_metadata(&link.0).unwrap().is_symlink());
     let after = fs::metadata(&path).unwrap();
     assert_eq!(fs::read_to_string(&path).unwrap(), "Timestamp(s)\n");
     assert_eq!(after.mode(), before.mode());

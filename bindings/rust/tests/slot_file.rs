@@ -2,9 +2,9 @@
 
 mod program;
 
-use program::{file, files_beside, folder, in_read_only_folder};
+use program::{Link, file, files_beside, folder, in_read_only_folder};
 use std::fs;
-use std::os::unix::fs::{MetadataExt, PermissionsExt, symlink};
+use std::os::unix::fs::{MetadataExt, PermissionsExt};
 use std::path::{Path, PathBuf};
 use std::process::{Command, Output};
 
@@ -165,10 +165,9 @@ fn mode_and_link_stay() {
     let path = file("link", "Timestamp(Second)\n");
     fs::set_permissions(&path, fs::Permissions::from_mode(0o640)).unwrap();
     let before = fs::metadata(&path).unwrap();
-    let link = folder("link_from").join("link");
-    symlink(&path, &link).unwrap();
-    assert_eq!(replace(":", &link, &link).0, Some(0));
-    assert!(fs::symlink_metadata(&link).unwrap().is_symlink());
+    let link = Link::to(&path, folder("link_from").join("link"));
+    assert_eq!(replace(":", &link.0, &link.0).0, Some(0));
+    assert!(fs::symlink_metadata(&link.0).unwrap().is_symlink());
     let after = fs::metadata(&path).unwrap();
     assert_eq!(fs::read_to_string(&path).unwrap(), "Timestamp(s)\n");
     assert_eq!(after.mode(), before.mode());
@@ -204,9 +203,8 @@ fn a_new_file() {
 #[test]
 fn a_link_that_leads_nowhere() {
     let path = file("nowhere", "Int8\n");
-    let link = path.with_file_name("link");
-    symlink("no_file", &link).unwrap();
-    let (status, last) = replace(":", &path, &link);
+    let link = Link::to("no_file", path.with_file_name("link"));
+    let (status, last) = replace(":", &path, &link.0);
     assert_eq!(status, Some(1));
     assert!(last.contains("nothing is written: No such file"), "{last}");
     assert_eq!(files_beside(&path), ["head", "link"]);

@@ -4,7 +4,7 @@
 
 use std::ffi::OsStr;
 use std::fs::{self, File, Permissions};
-use std::os::unix::fs::{MetadataExt, PermissionsExt};
+use std::os::unix::fs::{MetadataExt, PermissionsExt, symlink};
 use std::os::unix::process::CommandExt;
 use std::path::{Path, PathBuf};
 use std::process::{Command, Output, Stdio};
@@ -76,6 +76,22 @@ pub fn file(name: &str, contents: impl AsRef<[u8]>) -> PathBuf {
     let path = folder(name).join("head");
     fs::write(&path, contents).expect("a file");
     path
+}
+
+/// A link, removed when this is dropped, also where the test fails: `rt ci` takes no repository with a link in it.
+pub struct Link(pub PathBuf);
+
+impl Link {
+    pub fn to(target: impl AsRef<Path>, path: PathBuf) -> Link {
+        symlink(target, &path).expect("a link");
+        Link(path)
+    }
+}
+
+impl Drop for Link {
+    fn drop(&mut self) {
+        let _ = fs::remove_file(&self.0);
+    }
 }
 
 /// The names of all files beside a file, and its own.
