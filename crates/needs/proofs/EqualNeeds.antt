@@ -29,9 +29,9 @@ module _ (text names table text' names' table' : List ℕ) where
     unfolding columns_of
     columns_alike = rw (is_true _ sound, is_true _ sound', trees_alike (sound_tree text names table sound) (sound_tree text' names' table' sound') equal)
 
-    pub equal-need : (kind number scale : ℕ) (nullable zoned : Bool) (name : List ℕ) → need_of text names table kind number scale nullable zoned name ≡ need_of text' names' table' kind number scale nullable zoned name
+    pub equal-need : (kind number scale : ℕ) (null_allowed zoned : Bool) (name : List ℕ) → need_of text names table kind number scale null_allowed zoned name ≡ need_of text' names' table' kind number scale null_allowed zoned name
     unfolding need_of
-    equal-need kind number scale nullable zoned name = rw columns_alike
+    equal-need kind number scale null_allowed zoned name = rw columns_alike
 
     pub equal-needs : (words : List ℕ) (needs : List Need) → needs_of text names table words needs ≡ needs_of text' names' table' words needs
     unfolding needs_of

@@ -29,7 +29,7 @@ need_at needs j = get_or needs j no_need
 
 module _ (text : List ℕ) (fields : List Label) where
   abbrev met : Need → Bool
-  met n = need_met n.kind n.number n.scale n.nullable n.zoned (need_name text n) fields
+  met n = need_met n.kind n.number n.scale n.null_allowed n.zoned (need_name text n) fields
 
   none_unmet : (i : ℕ) (needs : List Need) → first_unmet text fields i needs ≡ None → (j : ℕ) → j < length needs → met (need_at needs j) ≡ true
   unfolding first_unmet
@@ -99,7 +99,7 @@ all_named text (n ∷ ns) each =
 module _ (text names table words : List ℕ) where
   -- a need asked alone
   abbrev pub alone : Need → Out Bool
-  alone n = need_of text names table n.kind n.number n.scale n.nullable n.zoned (need_name words n)
+  alone n = need_of text names table n.kind n.number n.scale n.null_allowed n.zoned (need_name words n)
 
   module _ (needs : List Need) where
     -- what an answer tells

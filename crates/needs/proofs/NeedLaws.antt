@@ -30,29 +30,29 @@ pub empty_is : {A : Type 0} (s : List A) → is_empty s ≡ eqb (length s) 0
 empty_is [] = refl
 empty_is (x ∷ s) = grind (arith, nat_tests)
 
-module _ (text names : List ℕ) (kind number scale : ℕ) (nullable zoned : Bool) where
+module _ (text names : List ℕ) (kind number scale : ℕ) (null_allowed zoned : Bool) where
   -- a row is as needed, by its words
-  pub needed_is : (table : List ℕ) (i : ℕ) → is_needed kind number scale nullable zoned (label_of text names (row_at table i))
-      ≡ (eqb (word_at table i 0) kind && eqb (word_at table i 4) number && eqb (word_at table i 5) scale && role_allowed nullable (word_at table i 2) && zone_allowed zoned (zone_of text (word_at table i 9) (word_at table i 10)))
+  pub needed_is : (table : List ℕ) (i : ℕ) → is_needed kind number scale null_allowed zoned (label_of text names (row_at table i))
+      ≡ (eqb (word_at table i 0) kind && eqb (word_at table i 4) number && eqb (word_at table i 5) scale && role_allowed null_allowed (word_at table i 2) && zone_allowed zoned (zone_of text (word_at table i 9) (word_at table i 10)))
   unfolding is_needed label_of row_at
   needed_is table i = refl
 
   module _ (name : List ℕ) (fields : List Label) (found : Option Place) (so : said text names found ≡ only (fields_named name fields)) where
-    pub met_none : found ≡ None → false ≡ need_met kind number scale nullable zoned name fields
+    pub met_none : found ≡ None → false ≡ need_met kind number scale null_allowed zoned name fields
     unfolding need_met
     met_none e = rw (← so, e)
 
-    pub met_one : (r : Place) → found ≡ Some r → need_met kind number scale nullable zoned name fields ≡ is_needed kind number scale nullable zoned (label_of text names (row_at r.rows.now r.at))
+    pub met_one : (r : Place) → found ≡ Some r → need_met kind number scale null_allowed zoned name fields ≡ is_needed kind number scale null_allowed zoned (label_of text names (row_at r.rows.now r.at))
     unfolding need_met
     met_one r e = rw (← so, e)
 
 -- where a need is met, one field has its name, and that is as needed
-pub met_alone : (kind number scale : ℕ) (nullable zoned : Bool) (name : List ℕ) (fields : List Label) → need_met kind number scale nullable zoned name fields ≡ true
-    → (l : Label) × (fields_named name fields ≡ l ∷ []) × (is_needed kind number scale nullable zoned l ≡ true)
+pub met_alone : (kind number scale : ℕ) (null_allowed zoned : Bool) (name : List ℕ) (fields : List Label) → need_met kind number scale null_allowed zoned name fields ≡ true
+    → (l : Label) × (fields_named name fields ≡ l ∷ []) × (is_needed kind number scale null_allowed zoned l ≡ true)
 unfolding need_met
-met_alone kind number scale nullable zoned name fields = go (fields_named name fields) refl
+met_alone kind number scale null_allowed zoned name fields = go (fields_named name fields) refl
   where
-    go : (ls : List Label) → fields_named name fields ≡ ls → is_needed_one kind number scale nullable zoned (only ls) ≡ true → (l : Label) × (fields_named name fields ≡ l ∷ []) × (is_needed kind number scale nullable zoned l ≡ true)
+    go : (ls : List Label) → fields_named name fields ≡ ls → is_needed_one kind number scale null_allowed zoned (only ls) ≡ true → (l : Label) × (fields_named name fields ≡ l ∷ []) × (is_needed kind number scale null_allowed zoned l ≡ true)
     go [] e h = absurd (let z : ◌≡◌ {A = Bool} false true = h in cc)
     go (l ∷ []) e h = (l, e, h)
     go (l ∷ m ∷ ls) e h = absurd (let z : ◌≡◌ {A = Bool} false true = h in cc)
@@ -74,7 +74,7 @@ named_all text (n ∷ ns) = rw (part_some text n.start n.size, named_all text ns
 
 -- what the code takes for a need past the end
 abbrev pub no_need : Need
-no_need = record { start = 0; size = 0; kind = 0; number = 0; scale = 0; nullable = false; zoned = false }
+no_need = record { start = 0; size = 0; kind = 0; number = 0; scale = 0; null_allowed = false; zoned = false }
 
 module _ (text : List ℕ) (fields : List Label) (i : ℕ) (needs : List Need) where
   pub unmet_end : length needs ≤ i → first_unmet text fields i (drop i needs) ≡ None
@@ -84,7 +84,7 @@ module _ (text : List ℕ) (fields : List Label) (i : ℕ) (needs : List Need) w
   pub unmet_step : i < length needs
       → first_unmet text fields i (drop i needs)
       ≡ (let n = get_or needs i no_need in
-      if need_met n.kind n.number n.scale n.nullable n.zoned (need_name text n) fields then first_unmet text fields (i + 1) (drop (i + 1) needs) else Some i)
+      if need_met n.kind n.number n.scale n.null_allowed n.zoned (need_name text n) fields then first_unmet text fields (i + 1) (drop (i + 1) needs) else Some i)
   unfolding first_unmet
   unmet_step h =
       let s : suc i ≡ i + 1 = omega arith in
@@ -94,21 +94,21 @@ module _ (text : List ℕ) (fields : List Label) (i : ℕ) (needs : List Need) w
 
 module _ (text names table : List ℕ) where
   module _ (r : Refusal) (is : columns_of text names table ≡ refused r) where
-    pub need_refused : (kind number scale : ℕ) (nullable zoned : Bool) (name : List ℕ) → need_of text names table kind number scale nullable zoned name ≡ refused r
+    pub need_refused : (kind number scale : ℕ) (null_allowed zoned : Bool) (name : List ℕ) → need_of text names table kind number scale null_allowed zoned name ≡ refused r
     unfolding need_of
-    need_refused kind number scale nullable zoned name = rw is
+    need_refused kind number scale null_allowed zoned name = rw is
 
     pub needs_refused : (words : List ℕ) (needs : List Need) → needs_of text names table words needs ≡ refused r
     unfolding needs_of
     needs_refused words needs = rw is
 
   module _ (fields : List Label) (is : columns_of text names table ≡ done fields) where
-    module _ (kind number scale : ℕ) (nullable zoned : Bool) (name : List ℕ) (b : Bool) (test : b ≡ eqb (length name) 0) where
-      pub need_unnamed : b ≡ true → need_of text names table kind number scale nullable zoned name ≡ refuse 27
+    module _ (kind number scale : ℕ) (null_allowed zoned : Bool) (name : List ℕ) (b : Bool) (test : b ≡ eqb (length name) 0) where
+      pub need_unnamed : b ≡ true → need_of text names table kind number scale null_allowed zoned name ≡ refuse 27
       unfolding need_of
       need_unnamed e = rw (is, empty_is name, ← test, e)
 
-      pub need_done : b ≡ false → need_of text names table kind number scale nullable zoned name ≡ done (need_met kind number scale nullable zoned name fields)
+      pub need_done : b ≡ false → need_of text names table kind number scale null_allowed zoned name ≡ done (need_met kind number scale null_allowed zoned name fields)
       unfolding need_of
       need_done e = rw (is, empty_is name, ← test, e)
 

@@ -38,14 +38,14 @@ abbrev names : List ℕ
 names = bytes "kwhslot" ++ 255 ∷ []
 
 abbrev slot_need : Bool → Need
-slot_need zoned = record { start = 3; size = 4; kind = 13; number = 0; scale = 0; nullable = false; zoned = zoned }
+slot_need zoned = record { start = 3; size = 4; kind = 13; number = 0; scale = 0; null_allowed = false; zoned = zoned }
 
 abbrev kwh_need : Bool → ℕ → Need
-kwh_need nullable scale = record { start = 0; size = 3; kind = 36; number = 12; scale = scale; nullable = nullable; zoned = false }
+kwh_need null_allowed scale = record { start = 0; size = 3; kind = 36; number = 12; scale = scale; null_allowed = null_allowed; zoned = false }
 
 -- A need whose name has so many bytes from the last one on.
 abbrev strange_need : ℕ → Need
-strange_need size = record { start = 7; size = size; kind = 4; number = 0; scale = 0; nullable = true; zoned = false }
+strange_need size = record { start = 7; size = size; kind = 4; number = 0; scale = 0; null_allowed = true; zoned = false }
 
 abbrev answer : List ℕ → List Need → Out (Option ℕ)
 answer table needs = needs_of text name_list table names needs

@@ -55,16 +55,16 @@ only (l ∷ m ∷ ls) = None
 
 -- Non-null (role 2) unless null is allowed.
 unfoldable pub role_allowed : Bool → ℕ → Bool
-role_allowed nullable role = nullable || eqb role 2
+role_allowed null_allowed role = null_allowed || eqb role 2
 
 -- A zone is present exactly when asked for.
 unfoldable pub zone_allowed : Bool → List ℕ → Bool
 zone_allowed zoned zone = beq (not (is_empty zone)) zoned
 
-module _ (kind number scale : ℕ) (nullable zoned : Bool) where
+module _ (kind number scale : ℕ) (null_allowed zoned : Bool) where
   -- A field is as needed: kind and numbers equal, and role and zone as the need has them.
   unfoldable pub is_needed : Label → Bool
-  is_needed l = eqb l.kind kind && eqb l.number number && eqb l.scale scale && role_allowed nullable l.role && zone_allowed zoned l.zone
+  is_needed l = eqb l.kind kind && eqb l.number number && eqb l.scale scale && role_allowed null_allowed l.role && zone_allowed zoned l.zone
 
   abbrev pub is_needed_one : Option Label → Bool
   is_needed_one None = false
@@ -78,7 +78,7 @@ module _ (kind number scale : ℕ) (nullable zoned : Bool) where
 unfoldable pub first_unmet : List ℕ → List Label → ℕ → List Need → Option ℕ
 first_unmet text fields i [] = None
 first_unmet text fields i (n ∷ ns) =
-    let met = need_met n.kind n.number n.scale n.nullable n.zoned (need_name text n) fields in
+    let met = need_met n.kind n.number n.scale n.null_allowed n.zoned (need_name text n) fields in
     if met then first_unmet text fields (suc i) ns else Some i
 
 -- ---- the answers, with the refusals in document 02's order
@@ -93,10 +93,10 @@ module _ (text names table : List ℕ) where
       else done (fields_of tree)
 
   -- Whether one need is met, given as plain numbers and its name; 27 where that is empty.
-  unfoldable pub need_of : (kind number scale : ℕ) (nullable zoned : Bool) → List ℕ → Out Bool
-  need_of kind number scale nullable zoned name = do
+  unfoldable pub need_of : (kind number scale : ℕ) (null_allowed zoned : Bool) → List ℕ → Out Bool
+  need_of kind number scale null_allowed zoned name = do
     fields ← columns_of
-    if is_empty name then refuse 27 else done (need_met kind number scale nullable zoned name fields)
+    if is_empty name then refuse 27 else done (need_met kind number scale null_allowed zoned name fields)
 
   -- The first failing need, over a text of needs, from 0, and None, which is yes, where there is none: also with no needs. 26
   -- for more than 32 needs, and 27 where any need's name is empty or outside its text, before any answer.

@@ -12,10 +12,10 @@ use row_table::is_sound;
 
 // Whether a role is non-null, unless null is allowed.
 #[tactic(auto, unfolding(crate::specs::Needs::role_allowed))]
-fn allows_role(nullable: bool, role: u32) -> bool
-    ensures { result ≡ role_allowed nullable role }
+fn allows_role(null_allowed: bool, role: u32) -> bool
+    ensures { result ≡ role_allowed null_allowed role }
 {
-    nullable || role == NON_NULL
+    null_allowed || role == NON_NULL
 }
 
 // Whether a zone is there exactly when it is asked for.
@@ -95,15 +95,15 @@ impl<'a> Columns<'a> {
         kind: u32,
         number: u32,
         scale: u32,
-        nullable: bool,
+        null_allowed: bool,
         zoned: bool,
     ) -> bool
-        ensures { result ≡ is_needed kind number scale nullable zoned (label_of self.entry.tree.text.now self.entry.tree.names.now (row_at column.entry.rows.now column.entry.at)) }
+        ensures { result ≡ is_needed kind number scale null_allowed zoned (label_of self.entry.tree.text.now self.entry.tree.names.now (row_at column.entry.rows.now column.entry.at)) }
     {
         column.kind() == kind
             && column.number() == number
             && column.scale() == scale
-            && allows_role(nullable, column.role())
+            && allows_role(null_allowed, column.role())
             && allows_zone(zoned, column.zone(self.tree.text))
     }
 
@@ -115,14 +115,14 @@ impl<'a> Columns<'a> {
         kind: u32,
         number: u32,
         scale: u32,
-        nullable: bool,
+        null_allowed: bool,
         zoned: bool,
     ) -> bool
-        ensures { result ≡ need_met kind number scale nullable zoned name.now (fields_in self.entry) }
+        ensures { result ≡ need_met kind number scale null_allowed zoned name.now (fields_in self.entry) }
     {
         let Some(column) = self.only_named(name) else {
             return false;
         };
-        self.is_needed(column, kind, number, scale, nullable, zoned)
+        self.is_needed(column, kind, number, scale, null_allowed, zoned)
     }
 }

@@ -27,7 +27,7 @@ pub struct Need {
     pub kind: u32,
     pub number: u32,
     pub scale: u32,
-    pub nullable: bool,
+    pub null_allowed: bool,
     pub zoned: bool,
 }
 
@@ -80,7 +80,7 @@ fn first_unmet(columns: Columns<'_>, text: &[u8], needs: &[Need]) -> Option<usiz
             need.kind,
             need.number,
             need.scale,
-            need.nullable,
+            need.null_allowed,
             need.zoned,
         ) {
             return Some(i);
@@ -97,16 +97,16 @@ pub fn meets(
     kind: u32,
     number: u32,
     scale: u32,
-    nullable: bool,
+    null_allowed: bool,
     zoned: bool,
 ) -> Result<bool, NotChecked>
-    ensures { answer_of result ≡ need_of tree.entry.text.now tree.entry.names.now tree.entry.rows.now kind number scale nullable zoned name.now }
+    ensures { answer_of result ≡ need_of tree.entry.text.now tree.entry.names.now tree.entry.rows.now kind number scale null_allowed zoned name.now }
 {
     let columns = Columns::of(tree)?;
     if name.is_empty() {
         return Err(NotChecked::WrongName);
     }
-    Ok(columns.meet(name, kind, number, scale, nullable, zoned))
+    Ok(columns.meet(name, kind, number, scale, null_allowed, zoned))
 }
 
 // Whether a tree fits needs over a text of names: none where it meets each of them, else the first, from 0, that it does not.
