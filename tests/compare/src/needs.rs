@@ -64,6 +64,7 @@ pub type Table<'a> = (&'a [u8], &'a [u8], &'a [u32]);
 /// Yes (`None`) or the first need that is not met, from 0; or the number of the refusal.
 pub type Answer = Result<Option<usize>, u32>;
 
+/// Whether a tree has the columns that are needed.
 pub fn needs((text, list, words): Table, needed: &Needed) -> Answer {
     if !model::sound(text, list, words) {
         return Err(refusal::NOT_SOUND);

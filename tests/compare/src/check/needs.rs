@@ -1,12 +1,12 @@
 //! The check of needed columns (document 02, [7]) over each tree that is compared. What is needed is drawn from a generator
 //! of its own, so that texts and trees are what they are without it.
 
-use super::Check;
+use super::{Check, shown};
 use crate::generate::Random;
 use crate::generate::needs::needed;
 use crate::generate::trees::{self, Letters, Tree};
 use crate::model;
-use crate::needs::{self, Answer, MOST_NEEDS, Needed, OUTCOMES};
+use crate::needs::{self, MOST_NEEDS, Need, Needed, OUTCOMES};
 use crate::oracle;
 use arrow_schema::DataType;
 
@@ -59,13 +59,16 @@ impl Tally {
 }
 
 impl Check<'_> {
-    /// Checks so many trees that are made for it: Structs of columns, of which some are changed and some broken.
+    /// Checks so many trees that are made for it: Structs of columns, and a few of any kind; some are changed, some broken.
     pub fn columns(&mut self, count: usize) {
         for _ in 0..count {
             let random = &mut self.needs.random;
             let letters = [Letters::Plain, Letters::Ascii, Letters::Latin, Letters::Any];
             let letters = letters[random.below(4)];
-            let tree = trees::columns(random, letters);
+            let tree = match random.below(16) {
+                0 => trees::sound(random, letters, 20),
+                _ => trees::columns(random, letters),
+            };
             let tree = match random.below(8) {
                 0 => trees::changed(random, &tree),
                 1 => trees::broken(random, &tree).map_or(tree, |(_, broken)| broken),
@@ -86,12 +89,12 @@ impl Check<'_> {
         };
         for _ in 0..times {
             let needed = needed(&mut self.needs.random, tree);
-            let _ = self.needed(tree, data_type, &needed);
+            self.needed(tree, data_type, &needed);
         }
     }
 
-    /// What model, Rust and port say of needs. Answers the model's answer.
-    pub fn needed(&mut self, tree: &Tree, data_type: Option<&DataType>, needed: &Needed) -> Answer {
+    /// What model, Rust and port say of needs.
+    fn needed(&mut self, tree: &Tree, data_type: Option<&DataType>, needed: &Needed) {
         let table = (&*tree.text, &*tree.list, &*tree.words);
         let model = needs::needs(table, needed);
         self.needs.outcomes[needs::outcome(table, needed, model)] += 1;
@@ -104,15 +107,25 @@ impl Check<'_> {
             let rust = oracle::needs(data_type, needed).ok_or(needs::NOT_STRUCT);
             self.needs.by_rust += 1;
             if model != rust {
-                let what = format!("needs: model {model:?}, Rust {rust:?}, {needed:?}");
+                let what = format!("model {model:?}, Rust {rust:?} to {}", said(needed));
                 self.differ_tree(tree, &what);
             }
         }
         let port = self.subject.map(|port| port.needs(table, needed));
-        if port.is_some_and(|port| port != model) {
-            let what = format!("needs: port {port:?}, model {model:?}, {needed:?}");
+        if let Some(port) = port
+            && port != model
+        {
+            let what = format!("port {port:?}, model {model:?} to {}", said(needed));
             self.differ_tree(tree, &what);
         }
-        model
     }
+}
+
+/// Needs as they are shown.
+fn said(needed: &Needed) -> String {
+    let need = |need: &Need| {
+        let name = need.name(&needed.text).map_or("no name".into(), shown);
+        format!("\n  {name} {need:?}")
+    };
+    needed.needs.iter().map(need).collect()
 }
