@@ -1,0 +1,2 @@
+pub mod ColumnOut
+pub mod Internal
