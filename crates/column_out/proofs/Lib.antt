@@ -1,0 +1,6 @@
+pub mod Stretches
+pub mod Cuts
+pub mod Rows
+pub mod Packs
+pub mod FieldLaws
+pub mod TakeLaws
