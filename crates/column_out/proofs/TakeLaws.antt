@@ -19,6 +19,7 @@ use Rattle.datatype.specs.Table.{row_words, words_of, table_of, view_of, tree_of
 use Rattle.datatype.proofs.Table.{length_table, table_view}
 use Rattle.subtrees.specs.Internal.Run.{row_at, forest_at, Nests}
 use Rattle.subtrees.proofs.Runs.{Is, nests_is, forest_is}
+use Rattle.subtrees.proofs.RowList.{count_labels}
 use Rattle.subtrees.proofs.ParentTree.{Stands, row-size, row-kids}
 use Rattle.row_table.specs.Sound.{is_sound}
 use Rattle.row_table.proofs.SoundTree.{SoundTree, sound_tree, sound-count, sound-labels}
@@ -29,8 +30,9 @@ use Rattle.column_out.specs.ColumnOut.{without, taken_out, is_struct, field_coun
 use Rattle.column_out.specs.declared.fields.Kept.{Kept}
 use Rattle.column_out.specs.Internal.Stretch.{label_at, tree_at, stretch_text, row_words_at, stretch_words}
 use Rattle.column_out.specs.Internal.Steps.{rows_in, Stays}
-use Rattle.column_out.proofs.Stretches.{row_is, text_split}
-use Rattle.column_out.proofs.Cuts.{tree_none, tree_some, Cut, cut}
+use Rattle.column_out.proofs.Stretches.{row_is, text_split, packed_node}
+use Rattle.column_out.proofs.Rows.{text_next}
+use Rattle.column_out.proofs.Cuts.{tree_none, tree_some, without_map, Cut, cut}
 
 module _ (text names table : List ℕ) where
   pub not_sound : (n : ℕ) → is_sound text names table ≡ false → refuse 17 ≡ tree_left text names table n
@@ -123,3 +125,96 @@ module _ (text names table : List ℕ) where
             let b = c.begins in
             let x = c.ends in
             (omega arith, c.some-rows, omega (arith, long))
+
+        -- ---- what stays
+
+        rest : Forest Label
+        rest = labels text names (without n s.kids)
+
+        rest-is : without n fields ≡ rest
+        unfolding labels fields rest
+        rest-is = sym (without_map (label_of text names) n s.kids)
+
+        left-is : tree_left text names table n ≡ done (node root rest ∅)
+        unfolding tree_left
+        left-is =
+            let many = tree_some (forest_at table 1 (length table / row_words - 1)) 1 n first e in
+            rw (sound, tree, is-struct, lt-ltb n (length (roots fields)) (omega (arith, field-count)), rest-is)
+
+        end : ℕ
+        end = first + rows_at table first
+
+        before-is : first - 1 ≡ cut-out.before
+        before-is = let b = cut-out.begins in omega arith
+
+        after-is : rows_in table - (first + rows_at table first) ≡ cut-out.after
+        after-is = let x = cut-out.ends in omega (arith, long)
+
+        label-is : label_at text names table 0 ≡ root
+        unfolding root
+        label-is = ap (λ (r : Row). label_of text names r) (row_is text names table 0 s.root s.kids ∅ [] stands)
+
+        count-is : rows_in table - rows_at table first ≡ suc (count rest)
+        unfolding rest
+        count-is =
+            let x = cut-out.ends in
+            let b = cut-out.begins in
+            let w = cut-out.rows in
+            omega (arith, long, count_labels text names (without n s.kids))
+
+        text-is : row_text (label_at text names table 0) ++ (stretch_text text names table 1 (first - 1) ++ stretch_text text names table (first + rows_at table first) (rows_in table - (first + rows_at table first))) ≡ packed_text (node root rest ∅)
+        unfolding packed_text rest
+        text-is = rw (label-is, before-is, after-is) (ap (λ (l : List ℕ). row_text root ++ l) (cut-out.bytes ∙ sym (append-nil (packed_text (labels text names (without n s.kids))))))
+
+        kids-words : (at : ℕ) → table_of (packed_from at (labels text names (without n s.kids))) ≡ table_of (packed_from at rest) ++ table_of (packed_from (at + length (packed_text rest)) ∅)
+        unfolding rest packed_from table_of
+        kids-words at = sym (append-nil (table_of (packed_from at (labels text names (without n s.kids)))))
+
+        words-is : (rows : ℕ) → rows ≡ suc (count rest)
+            → row_words_at text names table 0 0 rows
+              ++ (stretch_words text names table (length (row_text (label_at text names table 0))) 1 (first - 1)
+                ++ stretch_words text names table (length (row_text (label_at text names table 0)) + length (stretch_text text names table 1 (first - 1))) (first + rows_at table first) (rows_in table - (first + rows_at table first)))
+            ≡ table_of (packed_from 0 (node root rest ∅))
+        unfolding row_words_at
+        words-is rows r =
+            let size = length (row_text root) in
+            let z : 0 + size ≡ size = omega arith in
+            rw (label-is, before-is, after-is, r)
+            (ap (λ (l : List ℕ). words_of (packed_row 0 root) (suc (count rest)) ++ l) (cut-out.words size ∙ kids-words size)
+            ∙ ap (λ (at : ℕ). words_of (packed_row 0 root) (suc (count rest)) ++ (table_of (packed_from at rest) ++ table_of (packed_from (at + length (packed_text rest)) ∅))) (sym z)
+            ∙ sym (packed_node text names table 0 root rest ∅))
+
+        -- the bytes counted before the field and behind it
+        text-long : length (packed_text (node root rest ∅)) ≡ length (stretch_text text names table 0 (first - 0)) + length (stretch_text text names table (first + rows_at table first) (rows_in table - (first + rows_at table first)))
+        text-long =
+            let own = row_text (label_at text names table 0) in
+            let before = stretch_text text names table 1 (first - 1) in
+            let after = stretch_text text names table (first + rows_at table first) (rows_in table - (first + rows_at table first)) in
+            let w = first_within in
+            omega (arith, ap length text-is, length-append own (before ++ after), length-append before after, ap length (text_next text names table 0 first (omega arith)), length-append own before)
+
+        pub stays : (kept : Kept) (before after : ℕ) → kept.first ≡ first → kept.end ≡ first + rows_at table first
+            → kept.packed.rows ≡ rows_in table - (kept.end - first)
+            → before ≡ length (stretch_text text names table 0 (first - 0))
+            → after ≡ length (stretch_text text names table kept.end (rows_in table - kept.end))
+            → kept.packed.bytes ≡ before + after
+            → Stays text names table n kept
+        stays kept before after f g r b a t =
+            let w = first_within in
+            let few = few_rows in
+            let rows : kept.packed.rows ≡ suc (count rest) = omega (arith, count-is) in
+            let c : suc (count rest) ≡ count (node root rest ∅) = omega arith in
+            record {
+              left = node root rest ∅;
+              is = left-is;
+              rows = rows ∙ c;
+              bytes = t ∙ (λ j. b j + a j) ∙ (rw g (sym text-long));
+              few = omega arith;
+              some-rows = omega arith;
+              ordered = omega arith;
+              within = omega arith;
+              text = rw (f, g) text-is;
+              words = rw (f, g) (words-is kept.packed.rows rows);
+            }
+
+pub ruleset staying = (not_sound, root_there, short_text, short_names, few_rows, kids_nest, not_struct, no_field, first_within)

@@ -1,9 +1,12 @@
 // What stays of a tree when a field of its root is taken out.
-ghost use Rattle.std.specs.Prelude.{◌≡◌, ◌+◌, ◌-◌, ◌*◌, ◌≤◌, ◌/◌, length};
+ghost use Rattle.std.specs.Prelude.{◌≡◌, ◌+◌, ◌-◌, ◌*◌, ◌≤◌, ◌/◌, length, MatchResult};
+ghost use Rattle.tokenizer.specs.Answer.{refuse};
 ghost use Rattle.datatype.specs.Limits.{max_text, max_rows};
 ghost use Rattle.datatype.specs.Table.{row_words};
 ghost use Rattle.subtrees.specs.Internal.Run.{Nests, forest_at};
+ghost use Rattle.column_out.specs.ColumnOut.{tree_left, number_of};
 ghost use Rattle.column_out.specs.Internal.Stretch.{tree_at, stretch_text};
+ghost use Rattle.column_out.specs.Internal.Steps.{Stays};
 
 use crate::NotTaken;
 use datatype::kind::STRUCT;
@@ -60,4 +63,31 @@ fn packed_length(tree: &Tree<'_>, from: usize, end: usize) -> usize
         total += row.name(tree).len() + row.zone(tree.text).len();
     }
     total
+}
+
+// What stays without a field: 17, 25 and 29 where there is no such tree.
+#[tactic(auto, using(crate::proofs::TakeLaws::staying))]
+pub(crate) fn what_stays(tree: &Tree<'_>, field: usize) -> Result<Kept, NotTaken>
+    ensures { MatchResult result (λ k. Stays tree.now.text.now tree.now.names.now tree.now.rows.now field k) (λ e. refuse (number_of e) ≡ tree_left tree.now.text.now tree.now.names.now tree.now.rows.now field) }
+{
+    if !is_sound(*tree) {
+        return Err(NotTaken::NotSound);
+    }
+    let rows = tree.rows;
+    let root = Row { rows, at: 0 };
+    if root.kind() != STRUCT {
+        return Err(NotTaken::NotStruct);
+    }
+    let Some(first) = field_row(rows, field) else {
+        return Err(NotTaken::NoSuchField);
+    };
+    let all = rows.len() / ROW_WORDS;
+    let end = first + Row { rows, at: first }.subtree();
+    let before = packed_length(tree, 0, first);
+    let after = packed_length(tree, end, all);
+    let packed = Packed {
+        rows: all - (end - first),
+        bytes: before + after,
+    };
+    Ok(Kept { first, end, packed })
 }

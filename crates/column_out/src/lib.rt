@@ -4,11 +4,17 @@
 #![tactic(auto)]
 
 ghost use Rattle.std.specs.Prelude.{◌≡◌};
-ghost use Rattle.column_out.specs.ColumnOut.{number_of};
+ghost use Rattle.column_out.specs.ColumnOut.{number_of, taken_means, column_out_answer, column_out_rows, column_out_bytes};
 
 mod fields;
 mod pack;
 
+use crate::fields::what_stays;
+use crate::pack::Packer;
+use datatype::Tree;
+use datatype::rows::{MAX_TEXT, ROW_WORDS, rows_lent};
+use packed::Packed;
+use subtrees::set_first_parents;
 
 // Why a column was not taken out, by document 02's numbers.
 #[derive(Clone, Copy, Debug, PartialEq, Eq)]
@@ -26,4 +32,34 @@ impl NotTaken {
     {
         self as u32
     }
+}
+
+// Takes a field, counted from 0, out of a sound tree whose root is a Struct: the rows of what stays stand at the start of
+// the rows lent, over the packed text at the start of the text lent. A refusal changes neither.
+pub fn take_column_out(
+    tree: Tree<'_>,
+    field: usize,
+    rows: &mut [u32],
+    text: &mut [u8],
+) -> Result<Packed, NotTaken>
+    ensures answer { taken_means result ≡ column_out_answer tree.entry.text.now tree.entry.names.now tree.entry.rows.now field rows.old text.old }
+    ensures contents { rows.new ≡ column_out_rows tree.entry.text.now tree.entry.names.now tree.entry.rows.now field rows.old text.old }
+    ensures bytes { text.new ≡ column_out_bytes tree.entry.text.now tree.entry.names.now tree.entry.rows.now field rows.old text.old }
+{
+    let kept = what_stays(&tree, field)?;
+    let packed = kept.packed;
+    if rows_lent(rows.len()) < packed.rows || text.len().min(MAX_TEXT) < packed.bytes {
+        return Err(NotTaken::NoRoom);
+    }
+    let mut packer = Packer {
+        rows,
+        word: 0,
+        text,
+        byte: 0,
+    };
+    packer.put_row(&tree, 0, packed.rows as u32);
+    packer.put_rows(&tree, 1, kept.first);
+    packer.put_rows(&tree, kept.end, tree.rows.len() / ROW_WORDS);
+    set_first_parents(packer.rows, packed.rows);
+    Ok(packed)
 }

@@ -1,1 +1,2 @@
 pub mod PackedLaws
+pub mod LentLaws
