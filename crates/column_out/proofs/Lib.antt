@@ -4,3 +4,4 @@ pub mod Rows
 pub mod Packs
 pub mod FieldLaws
 pub mod TakeLaws
+pub mod TakenLaws

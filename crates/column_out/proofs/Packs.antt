@@ -166,3 +166,51 @@ module _ (text names table : List ℕ) (end : ℕ) where
     left_end h = sym ((λ j. written p (words_none text names table i end p.byte h j) (text_none text names table i end h j)) ∙ written_none p) ∙ l.whole
 
 pub ruleset packing = (left_start, left_fits, left_step, left_end)
+
+-- ---- one part behind another
+
+module _ (p : Packer) (ws vs s t : List ℕ) (f : Fits p (length (ws ++ vs)) (s ++ t)) where
+  pub fits_first : Fits p (length ws) s
+  fits_first =
+      let r = f.rows in
+      let x = f.text in
+      let m = f.short in
+      record { rows = omega (arith, length-append ws vs); text = omega (arith, length-append s t); short = omega (arith, length-append s t) }
+
+  module _ (q : Packer) (w : q ≡ written p ws s) where
+    pub byte-after : q.byte ≡ p.byte + length s
+    unfolding written with_bytes with_words
+    byte-after = ap (λ (x : Packer). x.byte) w
+
+    word-after : q.word ≡ p.word + length ws
+    unfolding written with_bytes with_words
+    word-after = ap (λ (x : Packer). x.word) w
+
+    text-after : length q.text.now ≡ length p.text.now
+    unfolding written with_bytes with_words
+    text-after = ap (λ (x : Packer). length x.text.now) w ∙ length-sets p.text.now p.byte s
+
+    rows-after : length q.rows.now ≡ length p.rows.now
+    unfolding written with_bytes with_words
+    rows-after = ap (λ (x : Packer). length x.rows.now) w ∙ length-sets p.rows.now p.word ws
+
+    pub fits_rest : Fits q (length vs) t
+    fits_rest =
+        let r = f.rows in
+        let x = f.text in
+        let m = f.short in
+        record {
+          rows = omega (arith, length-append ws vs, word-after, rows-after);
+          text = omega (arith, length-append s t, byte-after, text-after);
+          short = omega (arith, length-append s t, byte-after);
+        }
+
+-- the packer holds the same rows and the same text
+module _ (p q : Packer) (ws s : List ℕ) (w : q ≡ written p ws s) where
+  pub same-lent-rows : q.rows.ghost_name ≡ p.rows.ghost_name
+  unfolding written with_bytes with_words
+  same-lent-rows = ap (λ (x : Packer). x.rows.ghost_name) w
+
+  pub same-lent-text : q.text.ghost_name ≡ p.text.ghost_name
+  unfolding written with_bytes with_words
+  same-lent-text = ap (λ (x : Packer). x.text.ghost_name) w

@@ -1,7 +1,7 @@
 -- What rows pack, row by row.
 --   text_parts, text_long, words_are   what one row packs, by its words
 --   name_most, zone_most               of it a name and a zone have at most 16,384 bytes each
---   text_none, text_next, words_none, words_next, long_next   what a stretch packs, by its first row
+--   text_none, text_next, words_none, words_next, long_next, stretch_long   what a stretch packs, by its first row
 use Rattle.std.specs.Prelude.{if◌then◌else◌}
 use mathlib.Core.Path.{◌≡◌, refl, sym, ap, ◌∙◌}
 use mathlib.Core.Bool.{Bool, true, false}
@@ -11,7 +11,7 @@ use native.Mathlib.Omega.{arith}
 use lib.ListN.{length, take, drop, length-append, length-take, length-drop}
 use lib.Dec.{leb}
 use Rattle.datatype.specs.Tree.{part, name_of, zone_of, label_of}
-use Rattle.datatype.specs.Table.{words_of, word_at, rows_at}
+use Rattle.datatype.specs.Table.{row_words, words_of, word_at, rows_at}
 use Rattle.subtrees.specs.Internal.Run.{row_at}
 use Rattle.packed.specs.Packed.{row_text, if_any, packed_row}
 use Rattle.column_out.specs.Internal.Stretch.{label_at, row_words_at, stretch_text, stretch_words}
@@ -63,6 +63,18 @@ name_most text names (suc (suc (suc home))) start size h k = omega arith
 pub zone_most : (text : List ℕ) (start size : ℕ) → length text ≤ 16384 → length (zone_of text start size) ≤ 16384
 unfolding zone_of
 zone_most text start size h = part_most text start size 16384 h
+
+module _ (text names table : List ℕ) where
+  row_long : (at i rows : ℕ) → length (row_words_at text names table at i rows) ≡ row_words
+  unfolding row_words_at words_of
+  row_long at i rows = refl
+
+  pub stretch_long : (n at i : ℕ) → length (stretch_words text names table at i n) ≡ row_words * n
+  unfolding stretch_words
+  stretch_long zero at i = refl
+  stretch_long (suc n) at i =
+      let below = at + length (row_text (label_at text names table i)) in
+      omega (arith, length-append (row_words_at text names table at i (rows_at table i)) (stretch_words text names table below (suc i) n), row_long at i (rows_at table i), stretch_long n below (suc i))
 
 module _ (text names table : List ℕ) (i end : ℕ) where
   pub text_none : end ≤ i → stretch_text text names table i (end - i) ≡ []

@@ -204,11 +204,11 @@ module _ (text names table : List ℕ) where
             let few = few_rows in
             let rows : kept.packed.rows ≡ suc (count rest) = omega (arith, count-is) in
             let c : suc (count rest) ≡ count (node root rest ∅) = omega arith in
+            let bytes : kept.packed.bytes ≡ length (packed_text (node root rest ∅)) = rw (t, b, a, g) (sym text-long) in
             record {
               left = node root rest ∅;
               is = left-is;
-              rows = rows ∙ c;
-              bytes = t ∙ (λ j. b j + a j) ∙ (rw g (sym text-long));
+              size = λ j. record { rows = (rows ∙ c) j; bytes = bytes j };
               few = omega arith;
               some-rows = omega arith;
               ordered = omega arith;

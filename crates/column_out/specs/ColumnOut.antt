@@ -6,7 +6,7 @@ use Rattle.datatype.specs.Kind.{struct_kind}
 use Rattle.datatype.specs.Tree.{Forest, ∅, node, roots, Label}
 use Rattle.datatype.specs.Table.{tree_of}
 use Rattle.row_table.specs.Sound.{is_sound}
-use Rattle.packed.specs.Packed.{has_room, packed_rows, packed_bytes, packed_size}
+use Rattle.packed.specs.Packed.{size_fits, packed_rows, packed_bytes, packed_size}
 use Rattle.packed.specs.declared.Packed.{Packed}
 use Rattle.column_out.specs.declared.NotTaken.{NotTaken}
 use Rattle.column_out.specs.declared.NotTaken.TheVariants.{NotSound, NotStruct, NoSuchField, NoRoom}
@@ -43,7 +43,7 @@ tree_left text names table n =
 unfoldable pub column_out : List ℕ → List ℕ → List ℕ → ℕ → ℕ → ℕ → Out (Forest Label)
 column_out text names table n words bytes = do
     f ← tree_left text names table n
-    if has_room words bytes f then done f else refuse 28
+    if size_fits (packed_size f) words bytes then done f else refuse 28
 
 -- ---- the answer, and what the lent rows and the lent text hold behind it; a refusal changes none of them
 

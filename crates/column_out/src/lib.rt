@@ -12,7 +12,7 @@ mod pack;
 use crate::fields::what_stays;
 use crate::pack::Packer;
 use datatype::Tree;
-use datatype::rows::{MAX_TEXT, ROW_WORDS, rows_lent};
+use datatype::rows::ROW_WORDS;
 use packed::Packed;
 use subtrees::set_first_parents;
 
@@ -48,7 +48,7 @@ pub fn take_column_out(
 {
     let kept = what_stays(&tree, field)?;
     let packed = kept.packed;
-    if rows_lent(rows.len()) < packed.rows || text.len().min(MAX_TEXT) < packed.bytes {
+    if !packed.fits(rows.len(), text.len()) {
         return Err(NotTaken::NoRoom);
     }
     let mut packer = Packer {

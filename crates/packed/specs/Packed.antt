@@ -49,25 +49,25 @@ packed_from at (node l kids next) =
 unfoldable pub packed : Forest Label → Forest Row
 packed f = parented (packed_from 0 f)
 
--- ---- lent rows and a lent text
-
--- There is room for a tree's rows, and for its packed text, which may have 16,384 bytes.
-unfoldable pub has_room : ℕ → ℕ → Forest Label → Bool
-has_room words bytes f = leb (count f) (rows_lent words) && leb (length (packed_text f)) (min bytes max_text)
-
--- What lent rows hold behind it: the tree's, and past them what they held before.
-unfoldable pub packed_rows : Forest Label → List ℕ → List ℕ
-packed_rows f before = table_of (packed f) ++ drop (length (table_of (packed f))) before
-
--- What the lent text holds behind it.
-unfoldable pub packed_bytes : Forest Label → List ℕ → List ℕ
-packed_bytes f before = packed_text f ++ drop (length (packed_text f)) before
-
--- How many rows they are, and how long the packed text is.
-abbrev pub packed_size : Forest Label → Packed
-packed_size f = record { rows = count f; bytes = length (packed_text f) }
-
 -- The sum of the lengths of names and zones: the packed length (`packed-length` in proofs/PackedLaws.antt).
 abbrev pub sum_of_lengths : Forest Label → ℕ
 sum_of_lengths ∅ = 0
 sum_of_lengths (node l kids next) = length l.name + length l.zone + sum_of_lengths kids + sum_of_lengths next
+
+-- ---- lent rows and a lent text
+
+-- How many rows a packed tree has, and how long its packed text is.
+abbrev pub packed_size : Forest Label → Packed
+packed_size f = record { rows = count f; bytes = length (packed_text f) }
+
+-- So many rows and bytes have room in lent rows of so many words and in a lent text of so many bytes, of which 16,384 count.
+unfoldable pub size_fits : Packed → ℕ → ℕ → Bool
+size_fits size words bytes = leb size.rows (rows_lent words) && leb size.bytes (min bytes max_text)
+
+-- What lent rows hold when a tree is packed into them: its rows, and past them what they held before.
+unfoldable pub packed_rows : Forest Label → List ℕ → List ℕ
+packed_rows f before = table_of (packed f) ++ drop (length (table_of (packed f))) before
+
+-- What the lent text then holds.
+unfoldable pub packed_bytes : Forest Label → List ℕ → List ℕ
+packed_bytes f before = packed_text f ++ drop (length (packed_text f)) before

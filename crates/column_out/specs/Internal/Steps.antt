@@ -5,7 +5,7 @@ use Rattle.tokenizer.specs.Answer.{done}
 use Rattle.datatype.specs.Limits.{max_text, max_rows}
 use Rattle.datatype.specs.Tree.{Forest, Label, count}
 use Rattle.datatype.specs.Table.{row_words, table_of}
-use Rattle.packed.specs.Packed.{row_text, packed_text, packed_from}
+use Rattle.packed.specs.Packed.{row_text, packed_text, packed_from, packed_size}
 use Rattle.column_out.specs.declared.pack.Packer.{Packer}
 use Rattle.column_out.specs.declared.fields.Kept.{Kept}
 use Rattle.column_out.specs.ColumnOut.{tree_left}
@@ -39,8 +39,7 @@ rows_in table = length table / row_words
 pub record Stays (source names table : List ℕ) (n : ℕ) (kept : Kept) : Type 0 where
   pub left : Forest Label
   pub is : tree_left source names table n ≡ done left
-  pub rows : kept.packed.rows ≡ count left
-  pub bytes : kept.packed.bytes ≡ length (packed_text left)
+  pub size : kept.packed ≡ packed_size left
   pub few : kept.packed.rows ≤ max_rows
   pub some-rows : 1 ≤ kept.first
   pub ordered : kept.first ≤ kept.end
