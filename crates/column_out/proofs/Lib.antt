@@ -5,3 +5,4 @@ pub mod Packs
 pub mod FieldLaws
 pub mod TakeLaws
 pub mod TakenLaws
+pub mod ColumnLaws

@@ -1,6 +1,6 @@
 -- Taking a column out (document 02, 'Take a column out, give the room back'): a field of a Struct goes with all that stands
 -- below it, and the names and zones that stay are packed into fresh lent rows and text.
-use Rattle.std.specs.Prelude.{Bool, false, Result, Ok, Err, List, ℕ, zero, suc, length, ltb, eqb, if◌then◌else◌}
+use Rattle.std.specs.Prelude.{Bool, false, Result, Ok, Err, List, [], ◌∷◌, ℕ, zero, suc, length, ltb, eqb, if◌then◌else◌}
 use Rattle.tokenizer.specs.Answer.{Out, refused, done, refuse, ◌>>=◌}
 use Rattle.datatype.specs.Kind.{struct_kind}
 use Rattle.datatype.specs.Tree.{Forest, ∅, node, roots, Label}
@@ -16,6 +16,11 @@ abbrev pub without : {A : Type 0} → ℕ → Forest A → Forest A
 without n ∅ = ∅
 without zero (node a kids next) = next
 without (suc n) (node a kids next) = node a kids (without n next)
+
+-- The trees of a run, each by itself, in their order.
+abbrev pub trees : {A : Type 0} → Forest A → List (Forest A)
+trees ∅ = []
+trees (node a kids next) = node a kids ∅ ∷ trees next
 
 -- A tree without its root's n-th field.
 abbrev pub taken_out : {A : Type 0} → ℕ → Forest A → Forest A
@@ -68,6 +73,10 @@ module _ (text names table : List ℕ) (n : ℕ) (rows bytes : List ℕ) where
 
   unfoldable pub column_out_bytes : List ℕ
   column_out_bytes = bytes_by (column_out text names table n (length rows) (length bytes)) bytes
+
+-- What `Struct()` says.
+abbrev pub empty_struct : Label
+empty_struct = record { kind = struct_kind; role = 0; union_id = 0; number = 0; scale = 0; name = []; zone = [] }
 
 -- ---- the answers of the code
 
