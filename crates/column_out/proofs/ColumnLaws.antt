@@ -7,7 +7,7 @@ use Rattle.std.specs.Prelude.{if◌then◌else◌}
 use mathlib.Core.Path.{◌≡◌, refl, sym, ap, subst, ◌∙◌}
 use mathlib.Core.Bool.{Bool, true, false, ◌&&◌}
 use mathlib.Core.List.{List, [], ◌∷◌, ◌++◌}
-use Prim.Native.Nat.{ℕ, zero, suc, ◌+◌, ◌*◌, ◌≤◌, ◌<◌, max, min}
+use Prim.Native.Nat.{ℕ, zero, suc, ◌*◌, ◌≤◌, ◌<◌, min}
 use native.Mathlib.Omega.{arith}
 use lib.ListN.{length, take, drop}
 use lib.Dec.{T, leb, ltb, eqb, eqb→eq, ltb→lt}
@@ -24,7 +24,7 @@ use Rattle.packed.specs.Packed.{packed_text, packed, packed_size, size_fits, sum
 use Rattle.packed.specs.declared.Packed.{Packed}
 use Rattle.packed.proofs.PackedLaws.{packed-length, packed-tree, SoundLabels, sound-says, packed-sound}
 use Rattle.packed.proofs.LentLaws.{packed-rows-first, packed-bytes-first}
-use Rattle.column_out.specs.ColumnOut.{without, trees, taken_out, is_struct, field_count, tree_left, column_out, answer_by, rows_by, bytes_by, column_out_answer, column_out_rows, column_out_bytes, empty_struct}
+use Rattle.column_out.specs.ColumnOut.{without, trees, tree_left, column_out, answer_by, rows_by, bytes_by, column_out_answer, column_out_rows, column_out_bytes, empty_struct}
 
 -- ---- a run without one of its trees
 

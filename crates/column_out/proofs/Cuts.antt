@@ -2,14 +2,14 @@
 --   tree_none, tree_some   where a run has an n-th tree
 --   without_labels         what a run says without its n-th tree
 --   Cut, cut               the stretches before and behind it
-use Rattle.std.specs.Prelude.{Option, Some, None}
+use Rattle.std.specs.Prelude.{Some, None}
 use mathlib.Core.Path.{◌≡◌, refl, sym, ap, subst, ◌∙◌}
-use mathlib.Core.List.{List, [], ◌∷◌, ◌++◌, append_assoc}
+use mathlib.Core.List.{List, ◌++◌, append_assoc}
 use Prim.Native.Nat.{ℕ, zero, suc, ◌+◌, ◌≤◌, ◌<◌}
 use native.Mathlib.Omega.{arith}
 use lib.ListN.{length, length-append}
 use Rattle.datatype.specs.Tree.{Forest, ∅, node, count, roots, map_forest, Row, Label, label_of, labels}
-use Rattle.datatype.specs.Table.{row_words, words_of, table_of, rows_at}
+use Rattle.datatype.specs.Table.{words_of, table_of, rows_at}
 use Rattle.subtrees.proofs.ParentTree.{Stands, row-size, row-kids, row_next}
 use Rattle.subtrees.proofs.RowList.{count_labels}
 use Rattle.packed.specs.Packed.{row_text, packed_text, packed_row, packed_from}

@@ -2,20 +2,16 @@
 --   part_most, row_most    a row packs at most twice 16,384 bytes
 --   text_none, text_next   what is left to count
 --   field_none, field_here, field_next   what is left to pass
-use Rattle.std.specs.Prelude.{Option, Some, None, if◌then◌else◌}
-use mathlib.Core.Path.{◌≡◌, refl, sym, ap, ◌∙◌}
-use mathlib.Core.Bool.{Bool, true, false}
-use mathlib.Core.List.{List, [], ◌∷◌, ◌++◌}
-use Prim.Native.Nat.{ℕ, zero, suc, ◌+◌, ◌-◌, ◌*◌, ◌≤◌, ◌<◌}
+use Rattle.std.specs.Prelude.{Some, None}
+use mathlib.Core.Path.{◌≡◌, refl, ap, ◌∙◌}
+use mathlib.Core.List.{List}
+use Prim.Native.Nat.{ℕ, suc, ◌+◌, ◌-◌, ◌≤◌, ◌<◌}
 use native.Mathlib.Omega.{arith}
-use lib.ListN.{length, take, drop, length-append, length-take, length-drop}
-use lib.Dec.{leb}
-use Rattle.datatype.specs.Tree.{Forest, ∅, node, count, Row, part, name_of, zone_of}
-use Rattle.datatype.specs.Table.{row_words, word_at, rows_at}
-use Rattle.subtrees.specs.Internal.Run.{row_at, forest_at, Nests}
-use Rattle.subtrees.proofs.Runs.{Turn, turn, count_forest, forest_none}
-use Rattle.packed.specs.Packed.{row_text}
-use Rattle.column_out.specs.Internal.Stretch.{tree_at, label_at, stretch_text, stretch_words, row_words_at}
+use Rattle.datatype.specs.Tree.{count}
+use Rattle.datatype.specs.Table.{rows_at}
+use Rattle.subtrees.specs.Internal.Run.{forest_at, Nests}
+use Rattle.subtrees.proofs.Runs.{turn, count_forest, forest_none}
+use Rattle.column_out.specs.Internal.Stretch.{tree_at}
 
 -- ---- the field
 

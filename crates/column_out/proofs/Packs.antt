@@ -3,20 +3,17 @@
 --   bytes_then, written_then  bytes behind bytes, rows behind rows
 --   copied                    what a copy into the rows leaves
 --   Left                      the rows of a stretch that are left to pack: there is room for them, and with them it is whole
-use Rattle.std.specs.Prelude.{if◌then◌else◌}
 use mathlib.Core.Path.{◌≡◌, refl, sym, ap, ◌∙◌}
-use mathlib.Core.List.{List, [], ◌∷◌, ◌++◌}
-use Prim.Native.Nat.{ℕ, zero, suc, ◌+◌, ◌-◌, ◌*◌, ◌≤◌, ◌<◌}
+use mathlib.Core.List.{List, [], ◌++◌}
+use Prim.Native.Nat.{ℕ, ◌+◌, ◌-◌, ◌*◌, ◌≤◌, ◌<◌}
 use native.Mathlib.Omega.{arith}
 use lib.ListN.{length, take, drop, length-append}
 use lib.Seq.{sets, sets-eq, length-sets, take_all}
 use borrow.Rule.Slice.PartMut.{put_mid}
 use Rattle.std.proofs.lemmas.Slice.{put_mid-paste}
-use Rattle.datatype.specs.Tree.{name_of, zone_of, label_of}
-use Rattle.datatype.specs.Table.{row_words, words_of, word_at, rows_at}
+use Rattle.datatype.specs.Table.{row_words, words_of, rows_at}
 use Rattle.datatype.proofs.Sets.{sets_append}
-use Rattle.subtrees.specs.Internal.Run.{row_at}
-use Rattle.packed.specs.Packed.{row_text, if_any, packed_row}
+use Rattle.packed.specs.Packed.{row_text}
 use Rattle.column_out.specs.declared.pack.Packer.{Packer}
 use Rattle.column_out.specs.Internal.Stretch.{label_at, row_words_at, stretch_text, stretch_words}
 use Rattle.column_out.proofs.Rows.{text_none, words_none, text_next, words_next}

@@ -37,8 +37,8 @@ module _ (text names table : List ℕ) (i : ℕ) where
 
   pub words_are : (at rows : ℕ) → row_words_at text names table at i rows
       ≡ word_at table i 0 ∷ rows ∷ word_at table i 2 ∷ word_at table i 3 ∷ word_at table i 4 ∷ word_at table i 5 ∷ if_any (name_of text names (word_at table i 6) (word_at table i 7) (word_at table i 8)) 1
-        ∷ if_any (name_of text names (word_at table i 6) (word_at table i 7) (word_at table i 8)) at ∷ length (name_of text names (word_at table i 6) (word_at table i 7) (word_at table i 8))
-        ∷ if_any (zone_of text (word_at table i 9) (word_at table i 10)) (at + length (name_of text names (word_at table i 6) (word_at table i 7) (word_at table i 8))) ∷ length (zone_of text (word_at table i 9) (word_at table i 10)) ∷ 0 ∷ []
+      ∷ if_any (name_of text names (word_at table i 6) (word_at table i 7) (word_at table i 8)) at ∷ length (name_of text names (word_at table i 6) (word_at table i 7) (word_at table i 8))
+      ∷ if_any (zone_of text (word_at table i 9) (word_at table i 10)) (at + length (name_of text names (word_at table i 6) (word_at table i 7) (word_at table i 8))) ∷ length (zone_of text (word_at table i 9) (word_at table i 10)) ∷ 0 ∷ []
   unfolding row_words_at words_of packed_row label_of row_at
   words_are at rows = refl
 
@@ -107,4 +107,3 @@ module _ (text names table : List ℕ) (i end : ℕ) where
       ∙ ap (λ (n : ℕ). n + length (stretch_text text names table (i + 1) (end - (i + 1)))) (text_long text names table i)
 
 pub ruleset counting = (name_most, zone_most, text_none, long_next)
-

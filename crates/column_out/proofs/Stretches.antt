@@ -4,10 +4,10 @@
 --   node_text, node_words     a stretch that begins with a tree
 --   tree_text, tree_words     the stretch that is a run of trees
 use mathlib.Core.Path.{◌≡◌, refl, sym, ap, ◌∙◌}
-use mathlib.Core.List.{List, [], ◌∷◌, ◌++◌, append_assoc, append-nil}
+use mathlib.Core.List.{List, ◌++◌, append_assoc}
 use Prim.Native.Nat.{ℕ, zero, suc, ◌+◌, ◌*◌}
 use native.Mathlib.Omega.{arith}
-use lib.ListN.{length, drop, get_or, length-append}
+use lib.ListN.{length, get_or, length-append}
 use lib.Seq.{get_or-drop}
 use Rattle.datatype.specs.Tree.{Forest, ∅, node, count, Row, Label, label_of, labels}
 use Rattle.datatype.specs.Table.{row_words, words_of, table_of, rows_at}
@@ -80,9 +80,9 @@ module _ (text names table : List ℕ) where
       pub node_words : (at : ℕ) → stretch_text text names table (suc i) (count kids) ≡ packed_text (labels text names kids)
           → stretch_words text names table (at + length (row_text (label_of text names r))) (suc i) (count kids) ≡ table_of (packed_from (at + length (row_text (label_of text names r))) (labels text names kids))
           → stretch_words text names table at i (suc (count kids) + m)
-            ≡ words_of (packed_row at (label_of text names r)) (suc (count kids))
-              ++ (table_of (packed_from (at + length (row_text (label_of text names r))) (labels text names kids))
-                ++ stretch_words text names table (at + length (row_text (label_of text names r)) + length (packed_text (labels text names kids))) (i + suc (count kids)) m)
+          ≡ words_of (packed_row at (label_of text names r)) (suc (count kids))
+          ++ (table_of (packed_from (at + length (row_text (label_of text names r))) (labels text names kids))
+          ++ stretch_words text names table (at + length (row_text (label_of text names r)) + length (packed_text (labels text names kids))) (i + suc (count kids)) m)
       unfolding stretch_words row_words_at
       node_words at k w =
           let e : suc (count kids) + m ≡ suc (count kids + m) = omega arith in

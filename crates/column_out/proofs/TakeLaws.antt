@@ -2,35 +2,34 @@
 --   table_rows, root_there, kids_nest, short_text, short_names, few_rows   what its table has
 --   not_sound, not_struct, no_field   17, 25 and 29
 --   first_within, stays    where the field is there
-use Rattle.std.specs.Prelude.{Option, Some, None, if◌then◌else◌}
-use mathlib.Core.Path.{◌≡◌, refl, sym, ap, subst, ◌∙◌}
-use mathlib.Core.Bool.{Bool, true, false}
-use mathlib.Core.List.{List, [], ◌∷◌, ◌++◌, append_assoc, append-nil}
-use Prim.Native.Nat.{ℕ, zero, suc, ◌+◌, ◌-◌, ◌*◌, ◌/◌, ◌≤◌, ◌<◌}
+use Rattle.std.specs.Prelude.{Some, None}
+use mathlib.Core.Path.{◌≡◌, refl, sym, ap, ◌∙◌}
+use mathlib.Core.Bool.{true, false}
+use mathlib.Core.List.{List, [], ◌++◌, append-nil}
+use Prim.Native.Nat.{ℕ, suc, ◌+◌, ◌-◌, ◌*◌, ◌/◌, ◌≤◌}
 use native.Mathlib.Omega.{arith}
-use lib.ListN.{length, take, drop, get_or, length-append}
+use lib.ListN.{length, take, length-append}
 use lib.Seq.{take-append_seam}
-use lib.Dec.{T, ltb, eqb}
+use lib.Dec.{eqb}
 use borrow.Author.Tests.{lt-ltb, le-ltb, eq-eqb, ne_eqb}
 use Rattle.tokenizer.specs.Answer.{done, refuse}
 use Rattle.tokenizer.proofs.Basics.{of_true}
 use Rattle.datatype.specs.Tree.{Forest, ∅, node, count, roots, Row, Label, name_list, label_of, labels}
-use Rattle.datatype.specs.Table.{row_words, words_of, table_of, view_of, tree_of, rows_at, word_at}
+use Rattle.datatype.specs.Table.{row_words, words_of, table_of, tree_of, rows_at, word_at}
 use Rattle.datatype.proofs.Table.{length_table, table_view}
 use Rattle.subtrees.specs.Internal.Run.{row_at, forest_at, Nests}
 use Rattle.subtrees.proofs.Runs.{Is, nests_is, forest_is}
 use Rattle.subtrees.proofs.RowList.{count_labels}
-use Rattle.subtrees.proofs.ParentTree.{Stands, row-size, row-kids}
+use Rattle.subtrees.proofs.ParentTree.{Stands, row-kids}
 use Rattle.row_table.specs.Sound.{is_sound}
 use Rattle.row_table.proofs.SoundTree.{SoundTree, sound_tree, sound-count, sound-labels}
 use Rattle.row_table.proofs.Clauses.{roots_same}
 use Rattle.packed.specs.Packed.{row_text, packed_text, packed_row, packed_from}
-use Rattle.packed.specs.declared.Packed.{Packed}
-use Rattle.column_out.specs.ColumnOut.{without, taken_out, is_struct, field_count, tree_left}
+use Rattle.column_out.specs.ColumnOut.{without, tree_left}
 use Rattle.column_out.specs.declared.fields.Kept.{Kept}
 use Rattle.column_out.specs.Internal.Stretch.{label_at, tree_at, stretch_text, row_words_at, stretch_words}
 use Rattle.column_out.specs.Internal.Steps.{rows_in, Stays}
-use Rattle.column_out.proofs.Stretches.{row_is, text_split, packed_node}
+use Rattle.column_out.proofs.Stretches.{row_is, packed_node}
 use Rattle.column_out.proofs.Rows.{text_next}
 use Rattle.column_out.proofs.Cuts.{tree_none, tree_some, without_map, Cut, cut}
 
@@ -172,8 +171,8 @@ module _ (text names table : List ℕ) where
 
         words-is : (rows : ℕ) → rows ≡ suc (count rest)
             → row_words_at text names table 0 0 rows
-              ++ (stretch_words text names table (length (row_text (label_at text names table 0))) 1 (first - 1)
-                ++ stretch_words text names table (length (row_text (label_at text names table 0)) + length (stretch_text text names table 1 (first - 1))) (first + rows_at table first) (rows_in table - (first + rows_at table first)))
+            ++ (stretch_words text names table (length (row_text (label_at text names table 0))) 1 (first - 1)
+            ++ stretch_words text names table (length (row_text (label_at text names table 0)) + length (stretch_text text names table 1 (first - 1))) (first + rows_at table first) (rows_in table - (first + rows_at table first)))
             ≡ table_of (packed_from 0 (node root rest ∅))
         unfolding row_words_at
         words-is rows r =

@@ -3,21 +3,20 @@
 --   full-answer, full-rows, full-bytes            28
 --   taken-answer, taken-rows, taken-bytes         what stays has room
 --   first-fits, second-fits, third-fits           of which the parts are written one behind another
-use Rattle.std.specs.Prelude.{if◌then◌else◌}
-use mathlib.Core.Path.{◌≡◌, refl, sym, ap, ◌∙◌}
-use mathlib.Core.Bool.{Bool, true, false, ◌&&◌}
-use mathlib.Core.List.{List, [], ◌∷◌, ◌++◌, append_assoc}
-use Prim.Native.Nat.{ℕ, zero, suc, ◌+◌, ◌-◌, ◌*◌, ◌≤◌, min}
+use mathlib.Core.Path.{◌≡◌, sym, ap, ◌∙◌}
+use mathlib.Core.Bool.{true, false, ◌&&◌}
+use mathlib.Core.List.{List, ◌++◌}
+use Prim.Native.Nat.{ℕ, ◌+◌, ◌-◌, ◌*◌, ◌≤◌, min}
 use native.Mathlib.Omega.{arith}
-use lib.ListN.{length, length-append}
+use lib.ListN.{length}
 use lib.Seq.{sets}
-use lib.Dec.{T, leb, leb→le}
+use lib.Dec.{leb}
 use Rattle.std.proofs.lemmas.Bool.Decides.{nat_tests}
 use Rattle.std.specs.Result.{IsErrAnd}
 use Rattle.std.specs.declared.result.Result.{Result}
 use Rattle.std.specs.declared.result.Result.TheVariants.{Ok, Err}
-use Rattle.tokenizer.specs.Answer.{Out, done, refuse}
-use Rattle.datatype.specs.Tree.{count, Label}
+use Rattle.tokenizer.specs.Answer.{done, refuse}
+use Rattle.datatype.specs.Tree.{count}
 use Rattle.datatype.specs.Table.{row_words, words_of, table_of, rows_lent}
 use Rattle.datatype.proofs.Table.{length_table}
 use Rattle.subtrees.specs.Parents.{parents_set}

@@ -47,8 +47,8 @@ tree_left text names table n =
 -- The same where so many words and bytes are lent: 28 where they have no room for it.
 unfoldable pub column_out : List ℕ → List ℕ → List ℕ → ℕ → ℕ → ℕ → Out (Forest Label)
 column_out text names table n words bytes = do
-    f ← tree_left text names table n
-    if size_fits (packed_size f) words bytes then done f else refuse 28
+  f ← tree_left text names table n
+  if size_fits (packed_size f) words bytes then done f else refuse 28
 
 -- ---- the answer, and what the lent rows and the lent text hold behind it; a refusal changes none of them
 

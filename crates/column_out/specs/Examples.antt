@@ -3,7 +3,7 @@ use Rattle.std.specs.Prelude.{◌≡◌, refl, List, [], ◌∷◌, ◌++◌, �
 use Rattle.tokenizer.specs.Text.{bytes}
 use Rattle.tokenizer.specs.Answer.{Out, done, refuse}
 use Rattle.tokenizer.specs.Utf8.{utf8_step, utf8_state, is_utf8}
-use Rattle.datatype.specs.Tree.{Forest, name_list, Label}
+use Rattle.datatype.specs.Tree.{name_list}
 use Rattle.datatype.specs.Table.{table_of}
 use Rattle.row_table.specs.Internal.Computed.{computed}
 use Rattle.packed.specs.Packed.{packed_text, packed_row, packed_from, packed, size_fits, packed_rows, packed_bytes}
@@ -34,9 +34,9 @@ refused_tables = refl
 -- What the lent rows and the lent text then hold: past what is left, what they held.
 pub rows_left : column_out_rows (packed_text example) name_list table 0 (replicate 37 7) (replicate 6 7)
     ≡ ((32 ∷ 3 ∷ replicate 10 0)
-      ++ (27 ∷ 2 ∷ 1 ∷ 0 ∷ 0 ∷ 0 ∷ 1 ∷ 0 ∷ 1 ∷ 0 ∷ 0 ∷ 0 ∷ [])
-      ++ (2 ∷ 1 ∷ 1 ∷ 0 ∷ 0 ∷ 0 ∷ 1 ∷ 1 ∷ 4 ∷ 0 ∷ 0 ∷ 1 ∷ [])
-      ++ (7 ∷ []))
+    ++ (27 ∷ 2 ∷ 1 ∷ 0 ∷ 0 ∷ 0 ∷ 1 ∷ 0 ∷ 1 ∷ 0 ∷ 0 ∷ 0 ∷ [])
+    ++ (2 ∷ 1 ∷ 1 ∷ 0 ∷ 0 ∷ 0 ∷ 1 ∷ 1 ∷ 4 ∷ 0 ∷ 0 ∷ 1 ∷ [])
+    ++ (7 ∷ []))
 unfolding computed utf8_step utf8_state is_utf8 packed_text packed_row packed_from packed size_fits packed_rows tree_left column_out column_out_rows
 rows_left = refl
 

@@ -1,5 +1,5 @@
 // What stays of a tree when a field of its root is taken out.
-ghost use Rattle.std.specs.Prelude.{◌≡◌, ◌+◌, ◌-◌, ◌*◌, ◌≤◌, ◌/◌, length, MatchResult};
+ghost use Rattle.std.specs.Prelude.{◌≡◌, ◌-◌, ◌*◌, ◌≤◌, ◌/◌, length, MatchResult};
 ghost use Rattle.tokenizer.specs.Answer.{refuse};
 ghost use Rattle.datatype.specs.Limits.{max_text, max_rows};
 ghost use Rattle.datatype.specs.Table.{row_words};

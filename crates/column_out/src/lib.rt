@@ -19,9 +19,9 @@ use subtrees::set_first_parents;
 // Why a column was not taken out, by document 02's numbers.
 #[derive(Clone, Copy, Debug, PartialEq, Eq)]
 pub enum NotTaken {
-    NotSound = 17,    // text and rows are no sound tree
-    NotStruct = 25,   // the root is not a Struct
-    NoRoom = 28,      // rows or text have no room for what stays
+    NotSound = 17, // text and rows are no sound tree
+    NotStruct = 25, // the root is not a Struct
+    NoRoom = 28, // rows or text have no room for what stays
     NoSuchField = 29, // the root has no such field
 }
 

@@ -80,7 +80,7 @@ impl<'a> Packer<'a> {
     // Packs row i of a tree, over a subtree of so many rows.
     pub(crate) fn put_row(&mut self, tree: &Tree<'_>, i: usize, subtree: u32)
         requires there { row_words * (i + 1) ≤ length tree.now.rows.now }
-            requires fits { Fits self.old row_words (row_text (label_at tree.now.text.now tree.now.names.now tree.now.rows.now i)) }
+        requires fits { Fits self.old row_words (row_text (label_at tree.now.text.now tree.now.names.now tree.now.rows.now i)) }
         ensures { self.new ≡ written self.old (row_words_at tree.now.text.now tree.now.names.now tree.now.rows.now self.old.byte i subtree) (row_text (label_at tree.now.text.now tree.now.names.now tree.now.rows.now i)) }
     {
         let row = Row {

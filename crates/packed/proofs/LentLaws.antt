@@ -2,13 +2,13 @@
 --   parents-last           rows that are written at the start of lent rows, and then get their parents
 --   bytes-first            a text that is written at the start of a lent one
 --   packed-rows-first, packed-bytes-first   what stands at their starts
-use mathlib.Core.Path.{◌≡◌, refl, sym, ap, ◌∙◌}
-use mathlib.Core.List.{List, [], ◌∷◌, ◌++◌}
+use mathlib.Core.Path.{◌≡◌, sym, ap, ◌∙◌}
+use mathlib.Core.List.{List, ◌++◌}
 use Prim.Native.Nat.{ℕ, ◌+◌, ◌*◌, ◌≤◌, min}
 use native.Mathlib.Omega.{arith}
-use lib.ListN.{length, take, drop, length-append}
-use lib.Seq.{sets, sets-eq, length-sets, take-append_seam}
-use Rattle.datatype.specs.Tree.{Forest, count, Row, Label}
+use lib.ListN.{length, take, drop}
+use lib.Seq.{sets, sets-eq, take-append_seam}
+use Rattle.datatype.specs.Tree.{Forest, count, Label}
 use Rattle.datatype.specs.Table.{row_words, table_of, rows_lent}
 use Rattle.datatype.proofs.Table.{length_table}
 use Rattle.subtrees.specs.Parents.{parents_set, table_with}

@@ -9,7 +9,7 @@ use mathlib.Core.Bool.{Bool, true, false, ◌&&◌, ◌||◌}
 use mathlib.Core.List.{List, [], ◌∷◌, ◌++◌, append_assoc, append-nil}
 use Prim.Native.Nat.{ℕ, suc, ◌+◌, ◌≤◌, max}
 use native.Mathlib.Omega.{arith}
-use lib.ListN.{length, take, drop, length-append, length-drop}
+use lib.ListN.{length, drop, length-append, length-drop}
 use lib.Seq.{take-append_seam}
 use lib.Dec.{T, leb, eqb}
 use borrow.Author.Tests.{le-leb}
@@ -17,15 +17,13 @@ use Rattle.std.proofs.lemmas.Bool.Decides.{nat_tests}
 use Rattle.tokenizer.specs.Utf8.{is_utf8, utf8_state}
 use Rattle.tokenizer.proofs.Basics.{both, if_same, skip_word}
 use Rattle.tokenizer.proofs.Utf8Laws.{utf8_append}
-use Rattle.datatype.specs.Kind.{shape_of}
-use Rattle.datatype.specs.Tree.{Forest, ∅, node, count, depth, Row, Label, name_list, part, name_of, zone_of, label_of, labels, map_forest}
+use Rattle.datatype.specs.Tree.{Forest, ∅, node, count, depth, Label, name_list, part, name_of, zone_of, label_of, labels, map_forest}
 use Rattle.datatype.specs.Table.{table_of, tree_of}
 use Rattle.datatype.proofs.Table.{view_table}
 use Rattle.subtrees.specs.Parents.{parented}
-use Rattle.subtrees.proofs.ParentTree.{count_parented}
 use Rattle.subtrees.proofs.RowList.{count_map}
 use Rattle.subtrees.proofs.ParentFixed.{labels-parented}
-use Rattle.row_table.specs.Sound.{Standing, bare, field, union_field, role_fits, is_name, name_fits, rules_of, zone_fits, rows_fit, is_listed, name_placed, zone_placed, placed, is_sound}
+use Rattle.row_table.specs.Sound.{Standing, bare, field, union_field, role_fits, is_name, name_fits, zone_fits, rows_fit, is_listed, name_placed, zone_placed, placed, is_sound}
 use Rattle.row_table.proofs.SoundTree.{SoundTree, RowFits, rows_fit_lem, rules_at}
 use Rattle.row_table.proofs.Parented.{parented-sound}
 use Rattle.packed.specs.Packed.{row_text, packed_text, if_any, packed_row, packed_from, packed, sum_of_lengths}

@@ -2,7 +2,7 @@
 use Rattle.std.specs.Prelude.{◌≡◌, refl, List, [], ◌∷◌, ◌++◌, ℕ, T}
 use Rattle.tokenizer.specs.Text.{bytes}
 use Rattle.datatype.specs.Tree.{Forest, ∅, node, Label, name_list}
-use Rattle.datatype.specs.Table.{table_of, tree_of}
+use Rattle.datatype.specs.Table.{table_of}
 use Rattle.row_table.specs.Sound.{is_sound}
 use Rattle.row_table.specs.Internal.Computed.{computed}
 use Rattle.tokenizer.specs.Utf8.{utf8_step, utf8_state, is_utf8}
@@ -24,9 +24,9 @@ example_text = refl
 
 pub example_rows : table_of (packed example)
     ≡ ((32 ∷ 4 ∷ 0 ∷ 0 ∷ 0 ∷ 0 ∷ 0 ∷ 0 ∷ 0 ∷ 0 ∷ 0 ∷ 0 ∷ [])
-      ++ (13 ∷ 1 ∷ 2 ∷ 0 ∷ 0 ∷ 0 ∷ 1 ∷ 0 ∷ 4 ∷ 4 ∷ 3 ∷ 0 ∷ [])
-      ++ (27 ∷ 2 ∷ 1 ∷ 0 ∷ 0 ∷ 0 ∷ 1 ∷ 7 ∷ 1 ∷ 0 ∷ 0 ∷ 0 ∷ [])
-      ++ (2 ∷ 1 ∷ 1 ∷ 0 ∷ 0 ∷ 0 ∷ 1 ∷ 8 ∷ 4 ∷ 0 ∷ 0 ∷ 2 ∷ []))
+    ++ (13 ∷ 1 ∷ 2 ∷ 0 ∷ 0 ∷ 0 ∷ 1 ∷ 0 ∷ 4 ∷ 4 ∷ 3 ∷ 0 ∷ [])
+    ++ (27 ∷ 2 ∷ 1 ∷ 0 ∷ 0 ∷ 0 ∷ 1 ∷ 7 ∷ 1 ∷ 0 ∷ 0 ∷ 0 ∷ [])
+    ++ (2 ∷ 1 ∷ 1 ∷ 0 ∷ 0 ∷ 0 ∷ 1 ∷ 8 ∷ 4 ∷ 0 ∷ 0 ∷ 2 ∷ []))
 unfolding computed packed_text packed_row packed_from packed
 example_rows = refl
 

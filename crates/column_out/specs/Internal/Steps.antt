@@ -1,9 +1,9 @@
 -- What the private functions promise; nothing here has to be believed, since no public function's contract cites it.
-use Rattle.std.specs.Prelude.{◌≡◌, List, ◌++◌, ℕ, ◌+◌, ◌-◌, ◌*◌, ◌/◌, ◌≤◌, length}
+use Rattle.std.specs.Prelude.{◌≡◌, List, ◌++◌, ℕ, ◌+◌, ◌-◌, ◌/◌, ◌≤◌, length}
 use Rattle.std.proofs.lemmas.List.Edits.{sets}
 use Rattle.tokenizer.specs.Answer.{done}
 use Rattle.datatype.specs.Limits.{max_text, max_rows}
-use Rattle.datatype.specs.Tree.{Forest, Label, count}
+use Rattle.datatype.specs.Tree.{Forest, Label}
 use Rattle.datatype.specs.Table.{row_words, table_of}
 use Rattle.packed.specs.Packed.{row_text, packed_text, packed_from, packed_size}
 use Rattle.column_out.specs.declared.pack.Packer.{Packer}
@@ -49,5 +49,5 @@ pub record Stays (source names table : List ℕ) (n : ℕ) (kept : Kept) : Type 
       ≡ packed_text left
   pub words : row_words_at source names table 0 0 kept.packed.rows
       ++ (stretch_words source names table (length (row_text (label_at source names table 0))) 1 (kept.first - 1)
-        ++ stretch_words source names table (length (row_text (label_at source names table 0)) + length (stretch_text source names table 1 (kept.first - 1))) kept.end (rows_in table - kept.end))
+      ++ stretch_words source names table (length (row_text (label_at source names table 0)) + length (stretch_text source names table 1 (kept.first - 1))) kept.end (rows_in table - kept.end))
       ≡ table_of (packed_from 0 left)

@@ -1,4 +1,4 @@
-use Rattle.std.proofs.Common.{◌-◌, ◌≡◌, ◌≤◌}
+use Rattle.std.proofs.Common.{◌-◌, ◌≡◌}
 use Rattle.subtrees.specs.Internal.Run.{Nests, forest_at}
 use Rattle.column_out.specs.Internal.Stretch.{tree_at}
 use Rattle.column_out.proofs.fields.field_row.Given as goal
