@@ -87,10 +87,12 @@ impl<'a> Packer<'a> {
             rows: tree.rows,
             at: i,
         };
+        let name = row.name(tree);
+        let zone = row.zone(tree.text);
         let words = packed_words(tree, i, self.byte, subtree);
         self.put_words(&words);
-        self.put_bytes(row.name(tree));
-        self.put_bytes(row.zone(tree.text));
+        self.put_bytes(name);
+        self.put_bytes(zone);
     }
 
     // Packs the rows from row `from` to row `end`, each over its own subtree.
