@@ -20,7 +20,7 @@ pub(crate) struct Packer<'a> {
 }
 
 // A word of a name or a zone: 0 where there is none.
-fn if_any(s: &[u8], n: usize) -> usize
+fn if_any(s: &[u8], n: u32) -> u32
     ensures { result ≡ if_any s.now n }
 {
     if s.is_empty() { 0 } else { n }
@@ -46,11 +46,12 @@ fn packed_words(tree: &Tree<'_>, i: usize, at: usize, subtree: u32) -> [u32; ROW
         row.union_id(),
         row.number(),
         row.scale(),
-        if_any(name, Field::IN_TEXT as usize) as u32,
-        if_any(name, at) as u32,
+        if_any(name, Field::IN_TEXT),
+        if_any(name, at as u32),
         name.len() as u32,
-        if_any(zone, at + name.len()) as u32,
+        if_any(zone, (at + name.len()) as u32),
         zone.len() as u32,
+        // The parent is set once all rows stand.
         0,
     ]
 }
