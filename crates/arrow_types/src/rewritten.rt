@@ -1,6 +1,6 @@
 // Rewriting a text for services: the answer as numbers.
 ghost use Rattle.std.specs.Prelude.{◌≡◌};
-ghost use Rattle.arrow_types.specs.Step.{step_of, bytes_printed, rows_read, number_at, place_at};
+ghost use Rattle.arrow_types.specs.Step.{told, told_of};
 ghost use Rattle.datatype_parse.specs.Parse.{parse_rows};
 ghost use Rattle.datatype_display.specs.Print.{default_spelling};
 ghost use Rattle.display_length.specs.declared.words.Spelling.TheVariants.{Micro};
@@ -12,7 +12,7 @@ use rewrite::NotRewritten;
 use round_trip::PrintedAndRead;
 
 // A rewrite's answer as five numbers, each 0 where there is none.
-#[tactic(auto, unfolding(parser::specs::Answer::refusal_in, rewrite::specs::Rewrite::rewritten_means, crate::specs::Step::step_of, crate::specs::Step::bytes_printed, crate::specs::Step::rows_read, crate::specs::Step::number_at, crate::specs::Step::place_at))]
+#[tactic(auto, unfolding(parser::specs::Answer::refusal_in, rewrite::specs::Rewrite::rewritten_means, crate::specs::Step::told_of))]
 fn step(
     answer: Result<PrintedAndRead, NotRewritten>,
     length: &mut usize,
@@ -20,11 +20,7 @@ fn step(
     number: &mut u32,
     place: &mut usize,
 ) -> u32
-    ensures step { result ≡ step_of (rewritten_means answer) }
-    ensures length { length.new ≡ bytes_printed (rewritten_means answer) }
-    ensures count { count.new ≡ rows_read (rewritten_means answer) }
-    ensures number { number.new ≡ number_at (rewritten_means answer) }
-    ensures place { place.new ≡ place_at (rewritten_means answer) }
+    ensures told { told result length.new count.new number.new place.new ≡ told_of (rewritten_means answer) }
 {
     *length = 0;
     *count = 0;
@@ -67,11 +63,7 @@ pub fn arrow_types_rewrite(
     number: &mut u32,
     place: &mut usize,
 ) -> u32
-    ensures step { result ≡ step_of (rewrite_answer default_spelling text.now rows.old out.old back.old) }
-    ensures length { length.new ≡ bytes_printed (rewrite_answer default_spelling text.now rows.old out.old back.old) }
-    ensures count { count.new ≡ rows_read (rewrite_answer default_spelling text.now rows.old out.old back.old) }
-    ensures number { number.new ≡ number_at (rewrite_answer default_spelling text.now rows.old out.old back.old) }
-    ensures place { place.new ≡ place_at (rewrite_answer default_spelling text.now rows.old out.old back.old) }
+    ensures told { told result length.new count.new number.new place.new ≡ told_of (rewrite_answer default_spelling text.now rows.old out.old back.old) }
     ensures contents { rows.new ≡ parse_rows text.now rows.old }
     ensures bytes { out.new ≡ rewrite_bytes default_spelling text.now rows.old out.old back.old }
     ensures again { back.new ≡ rewrite_back default_spelling text.now rows.old out.old back.old }
@@ -91,11 +83,7 @@ pub fn arrow_types_rewrite_micro(
     number: &mut u32,
     place: &mut usize,
 ) -> u32
-    ensures step { result ≡ step_of (rewrite_answer Micro text.now rows.old out.old back.old) }
-    ensures length { length.new ≡ bytes_printed (rewrite_answer Micro text.now rows.old out.old back.old) }
-    ensures count { count.new ≡ rows_read (rewrite_answer Micro text.now rows.old out.old back.old) }
-    ensures number { number.new ≡ number_at (rewrite_answer Micro text.now rows.old out.old back.old) }
-    ensures place { place.new ≡ place_at (rewrite_answer Micro text.now rows.old out.old back.old) }
+    ensures told { told result length.new count.new number.new place.new ≡ told_of (rewrite_answer Micro text.now rows.old out.old back.old) }
     ensures contents { rows.new ≡ parse_rows text.now rows.old }
     ensures bytes { out.new ≡ rewrite_bytes Micro text.now rows.old out.old back.old }
     ensures again { back.new ≡ rewrite_back Micro text.now rows.old out.old back.old }

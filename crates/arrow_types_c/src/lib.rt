@@ -15,7 +15,7 @@ ghost use Rattle.datatype_parse.specs.RowsToLend.{rows_to_lend};
 ghost use Rattle.datatype_display.specs.Print.{default_spelling, print_answer, print_bytes};
 ghost use Rattle.display_length.specs.declared.words.Spelling.TheVariants.{Micro};
 ghost use Rattle.rewrite.specs.Rewrite.{rewrite_answer, rewrite_bytes, rewrite_back};
-ghost use Rattle.arrow_types.specs.Step.{step_of, bytes_printed, rows_read, number_at, place_at};
+ghost use Rattle.arrow_types.specs.Step.{told, told_of};
 
 // Reads a type text into lent rows. The place is that of a refusal in the text, 0 where the text is accepted.
 #[unsafe(no_mangle)]
@@ -86,11 +86,7 @@ pub extern "C" fn arrow_types_rewrite(
     number: &mut u32,
     place: &mut usize,
 ) -> u32
-    ensures step { result ≡ step_of (rewrite_answer default_spelling text.now rows.old out.old back.old) }
-    ensures length { length.new ≡ bytes_printed (rewrite_answer default_spelling text.now rows.old out.old back.old) }
-    ensures count { count.new ≡ rows_read (rewrite_answer default_spelling text.now rows.old out.old back.old) }
-    ensures number { number.new ≡ number_at (rewrite_answer default_spelling text.now rows.old out.old back.old) }
-    ensures place { place.new ≡ place_at (rewrite_answer default_spelling text.now rows.old out.old back.old) }
+    ensures told { told result length.new count.new number.new place.new ≡ told_of (rewrite_answer default_spelling text.now rows.old out.old back.old) }
     ensures contents { rows.new ≡ parse_rows text.now rows.old }
     ensures bytes { out.new ≡ rewrite_bytes default_spelling text.now rows.old out.old back.old }
     ensures again { back.new ≡ rewrite_back default_spelling text.now rows.old out.old back.old }
@@ -110,11 +106,7 @@ pub extern "C" fn arrow_types_rewrite_micro(
     number: &mut u32,
     place: &mut usize,
 ) -> u32
-    ensures step { result ≡ step_of (rewrite_answer Micro text.now rows.old out.old back.old) }
-    ensures length { length.new ≡ bytes_printed (rewrite_answer Micro text.now rows.old out.old back.old) }
-    ensures count { count.new ≡ rows_read (rewrite_answer Micro text.now rows.old out.old back.old) }
-    ensures number { number.new ≡ number_at (rewrite_answer Micro text.now rows.old out.old back.old) }
-    ensures place { place.new ≡ place_at (rewrite_answer Micro text.now rows.old out.old back.old) }
+    ensures told { told result length.new count.new number.new place.new ≡ told_of (rewrite_answer Micro text.now rows.old out.old back.old) }
     ensures contents { rows.new ≡ parse_rows text.now rows.old }
     ensures bytes { out.new ≡ rewrite_bytes Micro text.now rows.old out.old back.old }
     ensures again { back.new ≡ rewrite_back Micro text.now rows.old out.old back.old }
