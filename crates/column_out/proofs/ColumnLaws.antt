@@ -56,6 +56,10 @@ without-rows standing (suc n) (node l kids next) t =
 
 -- ---- a sound Struct
 
+no_bytes : (m : List ℕ) → T (is_empty m) → m ≡ []
+no_bytes [] t = refl
+no_bytes (b ∷ m) t = absurd t
+
 module _ (root : Label) (fields : Forest Label) (s : SoundLabels root fields) (struct : root.kind ≡ 32) where
   rules : rules_at root ≡ rules_of (shape_of 32)
   rules = ap (λ (k : ℕ). rules_of (shape_of k)) struct
@@ -90,10 +94,6 @@ module _ (root : Label) (fields : Forest Label) (s : SoundLabels root fields) (s
       }
 
   -- such a root says what `Struct()` says
-  no_bytes : (m : List ℕ) → T (is_empty m) → m ≡ []
-  no_bytes [] t = refl
-  no_bytes (b ∷ m) t = absurd t
-
   pub root-empty : root ≡ empty_struct
   unfolding shape_of rules_of role_fits id_fits name_fits zone_fits
   root-empty =

@@ -114,7 +114,7 @@ module _ (text names table : List ℕ) where
           ∙ append_assoc own (kids-words ++ some-words) last
           ∙ ap (λ (l : List ℕ). own ++ l) (append_assoc kids-words some-words last ∙ ap (λ (l : List ℕ). kids-words ++ l) (c.words next-from))
           ∙ ap (λ (m : ℕ). words_of (packed_row at label) m ++ (kids-words ++ table_of (packed_from next-from (labels text names (without n next))))) rows
-          ∙ sym (packed_node text names table at label below (labels text names (without n next)))
+          ∙ sym (packed_node at label below (labels text names (without n next)))
 
       cut-later : Cut i (suc n) first (node r kids next)
       unfolding labels

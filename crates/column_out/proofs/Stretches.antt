@@ -1,5 +1,6 @@
 -- Stretches of a table's rows, packed.
 --   text_split, words_split   a stretch in two parts
+--   packed_node               the table of a packed node
 --   row_is                    the row of a table at which a run of trees stands
 --   node_text, node_words     a stretch that begins with a tree
 --   tree_text, tree_words     the stretch that is a run of trees
@@ -17,6 +18,12 @@ use Rattle.subtrees.proofs.RowList.{count_labels}
 use Rattle.packed.specs.Packed.{row_text, packed_text, packed_row, packed_from}
 use Rattle.packed.proofs.PackedLaws.{count-packed}
 use Rattle.column_out.specs.Internal.Stretch.{label_at, stretch_text, row_words_at, stretch_words}
+
+-- the table of a packed node
+pub packed_node : (at : ℕ) (l : Label) (kids next : Forest Label)
+    → table_of (packed_from at (node l kids next)) ≡ words_of (packed_row at l) (suc (count kids)) ++ (table_of (packed_from (at + length (row_text l)) kids) ++ table_of (packed_from (at + length (row_text l) + length (packed_text kids)) next))
+unfolding packed_from table_of
+packed_node at l kids next = rw (count-packed (at + length (row_text l)) kids)
 
 module _ (text names table : List ℕ) where
   abbrev packs : ℕ → ℕ → List ℕ
@@ -95,12 +102,6 @@ module _ (text names table : List ℕ) where
   tree_text (node r kids next) i rest s =
       node_text i r kids next rest s (count next) (tree_text kids (suc i) (table_of next ++ rest) (row-kids table i r kids next rest s))
       ∙ ap (λ (l : List ℕ). row_text (label_of text names r) ++ (packed_text (labels text names kids) ++ l)) (tree_text next (i + suc (count kids)) rest (row_next table i r kids next rest s))
-
-  -- the table of a packed node
-  pub packed_node : (at : ℕ) (l : Label) (kids next : Forest Label)
-      → table_of (packed_from at (node l kids next)) ≡ words_of (packed_row at l) (suc (count kids)) ++ (table_of (packed_from (at + length (row_text l)) kids) ++ table_of (packed_from (at + length (row_text l) + length (packed_text kids)) next))
-  unfolding packed_from table_of
-  packed_node at l kids next = rw (count-packed (at + length (row_text l)) kids)
 
   pub tree_words : (f : Forest Row) (at i : ℕ) (rest : List ℕ) → Stands table i f rest → stretch_words text names table at i (count f) ≡ table_of (packed_from at (labels text names f))
   unfolding labels

@@ -140,9 +140,6 @@ module _ (text names table : List ℕ) where
             let many = tree_some (forest_at table 1 (length table / row_words - 1)) 1 n first e in
             rw (sound, tree, is-struct, lt-ltb n (length (roots fields)) (omega (arith, field-count)), rest-is)
 
-        end : ℕ
-        end = first + rows_at table first
-
         before-is : first - 1 ≡ cut-out.before
         before-is = let b = cut-out.begins in omega arith
 
@@ -181,7 +178,7 @@ module _ (text names table : List ℕ) where
             rw (label-is, before-is, after-is, r)
             (ap (λ (l : List ℕ). words_of (packed_row 0 root) (suc (count rest)) ++ l) (cut-out.words size ∙ kids-words size)
             ∙ ap (λ (at : ℕ). words_of (packed_row 0 root) (suc (count rest)) ++ (table_of (packed_from at rest) ++ table_of (packed_from (at + length (packed_text rest)) ∅))) (sym z)
-            ∙ sym (packed_node text names table 0 root rest ∅))
+            ∙ sym (packed_node 0 root rest ∅))
 
         -- the bytes counted before the field and behind it
         text-long : length (packed_text (node root rest ∅)) ≡ length (stretch_text text names table 0 (first - 0)) + length (stretch_text text names table (first + rows_at table first) (rows_in table - (first + rows_at table first)))
