@@ -14,7 +14,8 @@
  *
  * A slice is lent as a pointer and the number of its elements. What the caller owes:
  * - no pointer is null, also where the length is 0, and each points at as many elements as its length says;
- * - what a call writes is no part of what it reads, and nothing else uses it during the call.
+ * - what a call writes is no part of what it reads, and nothing else uses it during the call;
+ * - a bool is true or false, as it is once it was assigned.
  * Everything else is checked: any bytes may be lent as a text, any words as rows.
  *
  * A tree is three slices: a text, the name list and the rows. The rows of a tree are the rows filled,
@@ -26,6 +27,7 @@
 #ifndef ARROW_TYPES_H
 #define ARROW_TYPES_H
 
+#include <stdbool.h>
 #include <stddef.h>
 #include <stdint.h>
 
@@ -34,9 +36,9 @@ extern "C" {
 #endif
 
 /* The version of the library and of this header. */
-#define ARROW_TYPES_VERSION "0.2.0"
+#define ARROW_TYPES_VERSION "0.3.0"
 #define ARROW_TYPES_VERSION_MAJOR 0
-#define ARROW_TYPES_VERSION_MINOR 2
+#define ARROW_TYPES_VERSION_MINOR 3
 #define ARROW_TYPES_VERSION_PATCH 0
 
 /* Words to a row. */
@@ -51,13 +53,17 @@ extern "C" {
 /* The most bytes of stack that a call takes. */
 #define ARROW_TYPES_MAX_STACK 65536
 
+/* The most needs that are checked at once. */
+#define ARROW_TYPES_MAX_NEEDS 32
+
 /* The name list, the three names that stand in no text, end to end, and how many bytes it has. */
 #define ARROW_TYPES_NAMES "itemrun_endsvalues"
 #define ARROW_TYPES_NAMES_LENGTH 18
 
 /*
  * The numbers of the refusals. 1 to 16 are the reader's: 1 and 2 come first, then the first that is met from left to
- * right. 17 to 19 are the printer's, in that order; depth and verdict refuse with 17 alone.
+ * right. 17 to 19 are the printer's, in that order; depth and verdict refuse with 17 alone. The check of needs refuses with
+ * 17 and 25 to 27, in that order. No function here refuses with 20 to 24.
  */
 enum arrow_types_refusal {
     ARROW_TYPES_TEXT_TOO_LONG = 1,       /* the text is longer than 16,384 bytes */
@@ -78,7 +84,10 @@ enum arrow_types_refusal {
     ARROW_TYPES_TRAILING_TEXT = 16,      /* something follows the type */
     ARROW_TYPES_NOT_SOUND = 17,          /* text and rows are no sound tree */
     ARROW_TYPES_NOT_LATIN = 18,          /* a name or zone to print in double quotes has a character above U+017F */
-    ARROW_TYPES_PRINT_TOO_LONG = 19      /* the printed text is longer than 16,384 bytes or the buffer */
+    ARROW_TYPES_PRINT_TOO_LONG = 19,     /* the printed text is longer than 16,384 bytes or the buffer */
+    ARROW_TYPES_NOT_STRUCT = 25,         /* the root is not a Struct */
+    ARROW_TYPES_TOO_MANY_NEEDS = 26,     /* there are more than 32 needs */
+    ARROW_TYPES_WRONG_NEED_NAME = 27     /* a need's name is empty or outside its text */
 };
 
 /* The sentence of a refusal, for a person: what the enum says of its number. 0 and other numbers are no refusal. */
@@ -105,6 +114,14 @@ static inline const char *arrow_types_sentence(uint32_t number)
         "text and rows are no sound tree",
         "a name or zone to print in double quotes has a character above U+017F",
         "the printed text is longer than 16,384 bytes or the buffer",
+        "this is no refusal",
+        "this is no refusal",
+        "this is no refusal",
+        "this is no refusal",
+        "this is no refusal",
+        "the root is not a Struct",
+        "there are more than 32 needs",
+        "a need's name is empty or outside its text",
     };
     return sentences[number < sizeof sentences / sizeof *sentences ? number : 0];
 }
@@ -316,6 +333,39 @@ uint32_t arrow_types_verdict(const uint8_t *text, size_t text_length,
                              const uint8_t *names, size_t names_length,
                              const uint32_t *rows, size_t rows_length,
                              uint32_t *yes, size_t *row);
+
+/*
+ * A column that is needed. The names of all needs stand in one text of needs, which need not be UTF-8 and in which they may
+ * overlap.
+ */
+struct arrow_types_need {
+    uint32_t name_start;  /* where the name starts in the text of needs */
+    uint32_t name_length; /* in bytes, 1 or more */
+    uint32_t kind;        /* word 0 of the field's row */
+    uint32_t number;      /* word 4: unit, length, precision, mode or sorted; 0 where the kind has none */
+    uint32_t scale;       /* word 5: a decimal's scale plus 128; 0 for other kinds */
+    bool null_allowed;    /* whether null is allowed; a non-null field is then as good as a nullable one */
+    bool zoned;           /* whether a zone must stand; where it is false none may */
+};
+
+/*
+ * Whether a tree has the columns that are needed: the slot file's own check.
+ *
+ * 0: *yes is 1 and *need is 0; or *yes is 0 and *need is the first need, from 0, that is not met.
+ * 17: the tree is not sound; 25: its root is not a Struct; 26: there are more than ARROW_TYPES_MAX_NEEDS needs; 27: some
+ *    need's name is empty or outside the text of needs. The first of these counts, before any answer; *yes and *need are 0.
+ *
+ * A need is met by the root's one field of its name: kind and both numbers are equal, the field is non-null unless null is
+ * allowed, and a zone is present exactly when asked for, whichever it is. A name that no field has fails, and so does one
+ * that two fields have. Names are compared by their bytes, from the text and from the name list alike. What a field contains
+ * is not looked at. With no needs the answer is yes.
+ */
+uint32_t arrow_types_needs(const uint8_t *text, size_t text_length,
+                           const uint8_t *names, size_t names_length,
+                           const uint32_t *rows, size_t rows_length,
+                           const uint8_t *needs_text, size_t needs_text_length,
+                           const struct arrow_types_need *needs, size_t needs_length,
+                           uint32_t *yes, size_t *need);
 
 /*
  * Where a field's name is; home, start and size are words 6 to 8 of its row.

@@ -631,18 +631,201 @@ static void eleven_words(void)
     CHECK(all(b.rows, WORDS, 7));
 }
 
+/* What is asked of the tree in a. The values beside those that are written must stay. */
+enum { UNWRITTEN = 99 };
+
+static uint32_t yes[3];
+static size_t unmet[3];
+
+/* Whether needs over a text get a status, and an answer: yes, or which is not met. */
+static int asks(const char *text, size_t length, const struct arrow_types_need *needs, size_t count,
+                uint32_t status, uint32_t is_yes, size_t which)
+{
+    for (size_t i = 0; i < 3; i++) {
+        yes[i] = UNWRITTEN;
+        unmet[i] = UNWRITTEN;
+    }
+    return arrow_types_needs(TREE(&a), (const uint8_t *)text, length, needs, count, &yes[1], &unmet[1]) == status
+        && yes[1] == is_yes && unmet[1] == which
+        && yes[0] == UNWRITTEN && yes[2] == UNWRITTEN && unmet[0] == UNWRITTEN && unmet[2] == UNWRITTEN;
+}
+
+/* Whether the tree in a meets one need, over the text of names of the needs below. */
+enum { SLOT, KWH, ITEM, TEXT_OF_NAMES = 11 };
+
+static const char names_needed[] = "slotkwhitem";
+
+static int meets(struct arrow_types_need need)
+{
+    return asks(names_needed, TEXT_OF_NAMES, &need, 1, 0, 1, 0);
+}
+
+static int fails(struct arrow_types_need need)
+{
+    return asks(names_needed, TEXT_OF_NAMES, &need, 1, 0, 0, 0);
+}
+
+/* The columns of a slot file, and an item. */
+static const struct arrow_types_need slot_file[] = {
+    {0, 4, ARROW_TYPES_KIND_TIMESTAMP, 0, 0, false, true},
+    {4, 3, ARROW_TYPES_KIND_DECIMAL64, 12, 3 + 128, true, false},
+    {7, 4, ARROW_TYPES_KIND_INT8, 0, 0, true, false},
+};
+
+static void needing(void)
+{
+    CHECK(sizeof(struct arrow_types_need) == 24);
+    CHECK(read_text(&a, "Struct(\"kwh\": Decimal64(12, 3), \"slot\": non-null Timestamp(s, \"CET\"), \"x\": Int8)") == 0);
+    CHECK(asks(names_needed, TEXT_OF_NAMES, slot_file, 2, 0, 1, 0));
+    CHECK(asks(names_needed, TEXT_OF_NAMES, slot_file, 3, 0, 0, 2));
+    CHECK(asks("", 0, slot_file, 0, 0, 1, 0));
+
+    /* Each word of a need, one at a time. */
+    struct arrow_types_need need = slot_file[KWH];
+    need.kind = ARROW_TYPES_KIND_DECIMAL128;
+    CHECK(fails(need));
+    need = slot_file[KWH];
+    need.number = 13;
+    CHECK(fails(need));
+    need = slot_file[KWH];
+    need.scale = 3;
+    CHECK(fails(need));
+    need = slot_file[SLOT];
+    need.name_start = 1;
+    CHECK(fails(need));
+    need = slot_file[SLOT];
+    need.name_length = 3;
+    CHECK(fails(need));
+
+    /* The first that is not met. */
+    struct arrow_types_need three[] = {slot_file[KWH], slot_file[SLOT], slot_file[ITEM]};
+    CHECK(asks(names_needed, TEXT_OF_NAMES, three, 3, 0, 0, 2));
+    three[1].number = 1;
+    CHECK(asks(names_needed, TEXT_OF_NAMES, three, 3, 0, 0, 1));
+    three[0].zoned = true;
+    CHECK(asks(names_needed, TEXT_OF_NAMES, three, 3, 0, 0, 0));
+}
+
+/* Whether a type meets a need whose null is allowed or not, and whose zone must stand or not: four answers. */
+static int meets_by(const char *text, struct arrow_types_need need, const int answers[4])
+{
+    int good = read_text(&a, text) == 0;
+    for (int i = 0; i < 4; i++) {
+        need.null_allowed = i / 2 != 0;
+        need.zoned = i % 2 != 0;
+        good = good && (answers[i] ? meets(need) : fails(need));
+    }
+    return good;
+}
+
+static void needing_null_and_zone(void)
+{
+    static const int non_null[] = {1, 0, 1, 0}, nullable[] = {0, 0, 1, 0};
+    static const int non_null_zone[] = {0, 1, 0, 1}, nullable_zone[] = {0, 0, 0, 1};
+    CHECK(meets_by("Struct(\"slot\": non-null Timestamp(s))", slot_file[SLOT], non_null));
+    CHECK(meets_by("Struct(\"slot\": Timestamp(s))", slot_file[SLOT], nullable));
+    CHECK(meets_by("Struct(\"slot\": non-null Timestamp(s, \"EET\"))", slot_file[SLOT], non_null_zone));
+    CHECK(meets_by("Struct(\"slot\": Timestamp(s, \"Z\"))", slot_file[SLOT], nullable_zone));
+    CHECK(meets_by("Struct(\"kwh\": non-null Decimal64(12, 3))", slot_file[KWH], non_null));
+}
+
+/* A name found twice, not at all, only further down, in the text or in the name list, and one that is not UTF-8. */
+static void needing_names(void)
+{
+    struct arrow_types_need item = slot_file[ITEM];
+    CHECK(read_text(&a, "Struct(\"item\": Int8)") == 0);
+    CHECK(meets(item));
+    CHECK(read_text(&a, "Struct(\"item\": Int8, \"item\": Int8)") == 0);
+    CHECK(fails(item));
+    CHECK(read_text(&a, "Struct(\"item\": Int8, \"b\": Utf8, \"item\": Utf8)") == 0);
+    CHECK(fails(item));
+    CHECK(read_text(&a, "Struct(\"items\": Int8, \"ite\": Int8)") == 0);
+    CHECK(fails(item));
+    CHECK(read_text(&a, "Struct(\"b\": List(Int8), \"c\": Struct(\"item\": Int8))") == 0);
+    CHECK(fails(item));
+    CHECK(read_text(&a, "Struct(\"b\": List(Int8), \"item\": Int8, \"c\": Struct(\"item\": Int8))") == 0);
+    CHECK(meets(item));
+
+    /* The second field has its name from the name list, the first from the text. */
+    static const uint32_t rows[] = {32, 3, 0, 0, 0, 0, 0, 0, 0, 0, 0, 0, 2, 1, 1, 0, 0, 0, 1, 0, 4, 0, 0, 0,
+                                    2, 1, 1, 0, 0, 0, 2, 0, 4, 0, 0, 0};
+    a = (struct tree){.text = (const uint8_t *)"other", .length = 5, .words = sizeof rows / sizeof *rows};
+    memcpy(a.rows, rows, sizeof rows);
+    CHECK(meets(item));
+    a.text = (const uint8_t *)"items";
+    CHECK(fails(item));
+
+    struct arrow_types_need odd = {0, 1, ARROW_TYPES_KIND_INT8, 0, 0, true, false};
+    CHECK(asks("\xff", 1, &odd, 1, 0, 0, 0));
+    CHECK(read_text(&a, "Struct(\"\xc3\xbc\": Int8)") == 0);
+    CHECK(asks("\xc3\xbc", 2, &odd, 1, 0, 0, 0));
+    odd.name_length = 2;
+    CHECK(asks("\xc3\xbc\xff", 3, &odd, 1, 0, 1, 0));
+}
+
+/* 32 needs and 33, and names that are empty or outside their text, behind a need that is not met. */
+static void needing_too_much(void)
+{
+    struct arrow_types_need needs[ARROW_TYPES_MAX_NEEDS + 1];
+    for (size_t i = 0; i <= ARROW_TYPES_MAX_NEEDS; i++)
+        needs[i] = slot_file[ITEM];
+    CHECK(read_text(&a, "Struct(\"item\": Int8)") == 0);
+    CHECK(asks(names_needed, TEXT_OF_NAMES, needs, ARROW_TYPES_MAX_NEEDS, 0, 1, 0));
+    CHECK(asks(names_needed, TEXT_OF_NAMES, needs, ARROW_TYPES_MAX_NEEDS + 1, ARROW_TYPES_TOO_MANY_NEEDS, 0, 0));
+    needs[31].kind = ARROW_TYPES_KIND_INT16;
+    CHECK(asks(names_needed, TEXT_OF_NAMES, needs, ARROW_TYPES_MAX_NEEDS, 0, 0, 31));
+
+    static const uint32_t wrong[][2] = {{0, 0}, {11, 0}, {12, 0}, {8, 4}, {11, 1}, {0, 12}, {UINT32_MAX, 1},
+                                        {0, UINT32_MAX}, {1, UINT32_MAX}, {UINT32_MAX, UINT32_MAX}};
+    needs[0].kind = ARROW_TYPES_KIND_INT16;
+    for (size_t i = 0; i < sizeof wrong / sizeof *wrong; i++) {
+        needs[1].name_start = wrong[i][0];
+        needs[1].name_length = wrong[i][1];
+        CHECK(asks(names_needed, TEXT_OF_NAMES, needs, 2, ARROW_TYPES_WRONG_NEED_NAME, 0, 0));
+        CHECK(asks(names_needed, TEXT_OF_NAMES, needs, 1, 0, 0, 0));
+    }
+    CHECK(asks("", 0, needs, 1, ARROW_TYPES_WRONG_NEED_NAME, 0, 0));
+}
+
+/* The refusals come in the order of their numbers. */
+static void needing_in_order(void)
+{
+    static struct arrow_types_need nameless[ARROW_TYPES_MAX_NEEDS + 1];
+    CHECK(read_text(&a, "Int8") == 0);
+    CHECK(asks("", 0, nameless, 0, ARROW_TYPES_NOT_STRUCT, 0, 0));
+    CHECK(asks("", 0, nameless, ARROW_TYPES_MAX_NEEDS + 1, ARROW_TYPES_NOT_STRUCT, 0, 0));
+    CHECK(read_text(&a, "List(Struct(\"item\": Int8))") == 0);
+    CHECK(asks(names_needed, TEXT_OF_NAMES, slot_file, 1, ARROW_TYPES_NOT_STRUCT, 0, 0));
+    a.rows[ARROW_TYPES_WORD_ROWS] = 2;
+    CHECK(asks("", 0, nameless, 0, ARROW_TYPES_NOT_SOUND, 0, 0));
+    CHECK(asks("", 0, nameless, ARROW_TYPES_MAX_NEEDS + 1, ARROW_TYPES_NOT_SOUND, 0, 0));
+    a.words = 0;
+    CHECK(asks("", 0, nameless, 0, ARROW_TYPES_NOT_SOUND, 0, 0));
+
+    CHECK(read_text(&a, "Struct()") == 0);
+    CHECK(asks("", 0, nameless, ARROW_TYPES_MAX_NEEDS + 1, ARROW_TYPES_TOO_MANY_NEEDS, 0, 0));
+    CHECK(asks("", 0, nameless, ARROW_TYPES_MAX_NEEDS, ARROW_TYPES_WRONG_NEED_NAME, 0, 0));
+    CHECK(asks("", 0, nameless, 0, 0, 1, 0));
+}
+
 /* Every number has a sentence of its own, and no other number has one. */
 static void sentences(void)
 {
+    enum { LAST = ARROW_TYPES_WRONG_NEED_NAME };
     const char *none = arrow_types_sentence(0);
-    for (uint32_t number = 1; number <= ARROW_TYPES_PRINT_TOO_LONG; number++) {
-        CHECK(strcmp(arrow_types_sentence(number), none) != 0);
-        for (uint32_t other = 1; other < number; other++)
+    unsigned refusals = 0;
+    for (uint32_t number = 1; number <= LAST; number++) {
+        int is_refusal = number <= ARROW_TYPES_PRINT_TOO_LONG || number >= ARROW_TYPES_NOT_STRUCT;
+        refusals += (unsigned)is_refusal;
+        CHECK((strcmp(arrow_types_sentence(number), none) != 0) == is_refusal);
+        for (uint32_t other = 1; is_refusal && other < number; other++)
             CHECK(strcmp(arrow_types_sentence(number), arrow_types_sentence(other)) != 0);
     }
-    CHECK(strcmp(arrow_types_sentence(ARROW_TYPES_PRINT_TOO_LONG + 1), none) == 0);
+    CHECK(refusals == 22);
+    CHECK(strcmp(arrow_types_sentence(LAST + 1), none) == 0);
     CHECK(strcmp(arrow_types_sentence(UINT32_MAX), none) == 0);
     CHECK(strcmp(arrow_types_sentence(ARROW_TYPES_NOT_UTF8), "the text is not UTF-8") == 0);
+    CHECK(strcmp(arrow_types_sentence(ARROW_TYPES_NOT_STRUCT), "the root is not a Struct") == 0);
 }
 
 /* And every step. */
@@ -681,6 +864,11 @@ int main(void)
     naming();
     parents();
     eleven_words();
+    needing();
+    needing_null_and_zone();
+    needing_names();
+    needing_too_much();
+    needing_in_order();
     sentences();
     step_sentences();
     version();

@@ -70,6 +70,15 @@ static void verdict(void)
     status = arrow_types_verdict(TREE, &yes, &size);
 }
 
+/* The root's fields of two names, where it is a Struct: the first need is met, so that the second is looked for too. */
+static void needs(void)
+{
+    static const struct arrow_types_need two[] = {
+        {0, 1, ARROW_TYPES_KIND_INT8, 0, 0, true, false}, {1, 1, ARROW_TYPES_KIND_STRUCT, 0, 0, true, false}};
+    uint32_t answer = arrow_types_needs(TREE, (const uint8_t *)"ab", 2, two, COUNT(two), &yes, &size);
+    status = answer != (rows[ARROW_TYPES_WORD_KIND] == ARROW_TYPES_KIND_STRUCT ? 0 : ARROW_TYPES_NOT_STRUCT);
+}
+
 static void set_parents(void)
 {
     arrow_types_set_parents(rows, words);
@@ -90,6 +99,7 @@ static struct call {
     {"arrow_types_depth", depth, 0, ""},
     {"arrow_types_equal", equal, 0, ""},
     {"arrow_types_verdict", verdict, 0, ""},
+    {"arrow_types_needs", needs, 0, ""},
     {"arrow_types_set_parents", set_parents, 0, ""},
 };
 

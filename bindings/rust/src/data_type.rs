@@ -103,7 +103,7 @@ impl DataType {
         Ok(DataType { text, rows })
     }
 
-    fn tree(&self) -> Tree<'_> {
+    pub(crate) fn tree(&self) -> Tree<'_> {
         Tree {
             text: self.text.as_bytes(),
             rows: &self.rows,

@@ -2,10 +2,12 @@
 
 use std::fmt;
 
-/// Why a text is not read or a tree not printed: document 01's numbers a caller may get.
+/// Why a text is not read, a tree not printed or needs not checked: document 01's numbers a caller may get, and those of
+/// document 02.
 ///
 /// 1 to 16 are the reader's: 1 and 2 come first, then the first that is met from left to right; reading answers them in
-/// a [`ReadError`](crate::ReadError), with their place. 17 to 19 are the printer's, in that order.
+/// a [`ReadError`](crate::ReadError), with their place. 17 to 19 are the printer's, in that order. 25 to 27 are
+/// those of [`DataType::first_unmet`](crate::DataType::first_unmet), in that order. There is none of 20 to 24.
 ///
 /// ```
 /// use arrow_types::{DataType, Error};
@@ -58,11 +60,17 @@ pub enum Error {
     NotLatin,
     /// The printed text would be longer than 16,384 bytes.
     PrintTooLong,
+    /// The root is not a Struct.
+    NotStruct = 25,
+    /// There are more than 32 needs.
+    TooManyNeeds,
+    /// The name of a need is empty, or outside its text.
+    WrongNeedName,
 }
 
 impl Error {
     /// Every refusal, in the order of the numbers.
-    pub const ALL: [Error; 19] = [
+    pub const ALL: [Error; 22] = [
         Error::TextTooLong,
         Error::NotUtf8,
         Error::TooDeep,
@@ -82,17 +90,21 @@ impl Error {
         Error::NotSound,
         Error::NotLatin,
         Error::PrintTooLong,
+        Error::NotStruct,
+        Error::TooManyNeeds,
+        Error::WrongNeedName,
     ];
 
-    /// The refusal's number, 1 to 19.
+    /// The refusal's number, 1 to 19 or 25 to 27.
     pub fn number(self) -> u32 {
         self as u32
     }
 
     /// The refusal that has a number.
     pub fn from_number(number: u32) -> Option<Error> {
-        let place = usize::try_from(number).ok()?.checked_sub(1)?;
-        Error::ALL.get(place).copied()
+        Error::ALL
+            .into_iter()
+            .find(|error| error.number() == number)
     }
 
     fn sentence(self) -> &'static str {
@@ -118,6 +130,9 @@ impl Error {
                 "a name or zone to print in double quotes has a character above U+017F"
             }
             Error::PrintTooLong => "the printed text is longer than 16,384 bytes or the buffer",
+            Error::NotStruct => "the root is not a Struct",
+            Error::TooManyNeeds => "there are more than 32 needs",
+            Error::WrongNeedName => "a need's name is empty or outside its text",
         }
     }
 }

@@ -118,6 +118,21 @@ unsafe extern "C" {
         row: *mut usize,
     ) -> u32;
 
+    fn arrow_types_needs(
+        text: *const u8,
+        text_length: usize,
+        names: *const u8,
+        names_length: usize,
+        rows: *const u32,
+        rows_length: usize,
+        needs_text: *const u8,
+        needs_text_length: usize,
+        needs: *const Need,
+        needs_length: usize,
+        yes: *mut u32,
+        need: *mut usize,
+    ) -> u32;
+
     fn arrow_types_set_parents(rows: *mut u32, rows_length: usize);
 
     fn arrow_types_name(
@@ -147,6 +162,19 @@ unsafe extern "C" {
 pub struct Tree<'a> {
     pub text: &'a [u8],
     pub rows: &'a [u32],
+}
+
+/// A need as the library takes it: `struct arrow_types_need` of the header.
+#[derive(Clone, Copy)]
+#[repr(C)]
+pub struct Need {
+    pub name_start: u32,
+    pub name_length: u32,
+    pub kind: u32,
+    pub number: u32,
+    pub scale: u32,
+    pub null_allowed: bool,
+    pub zoned: bool,
 }
 
 /// Reads a text into lent rows, for a service that keeps its own: how many are filled.
@@ -332,6 +360,31 @@ pub fn verdict(tree: Tree) -> Result<Option<usize>, Error> {
         )
     };
     answer(status, (yes == 0).then_some(row))
+}
+
+/// Whether a tree meets needs, whose names stand in a text: none for yes, else the first that is not met.
+pub fn needs(tree: Tree, needs_text: &[u8], needs: &[Need]) -> Result<Option<usize>, Error> {
+    let mut yes = 0;
+    let mut need = 0;
+    // SAFETY: as in `is_sound`; the locals `yes` and `need` are written. `Need` is laid out as C does it, and its flags are
+    // true or false.
+    let status = unsafe {
+        arrow_types_needs(
+            tree.text.as_ptr(),
+            tree.text.len(),
+            NAME_LIST.as_ptr(),
+            NAME_LIST.len(),
+            tree.rows.as_ptr(),
+            tree.rows.len(),
+            needs_text.as_ptr(),
+            needs_text.len(),
+            needs.as_ptr(),
+            needs.len(),
+            &mut yes,
+            &mut need,
+        )
+    };
+    answer(status, (yes == 0).then_some(need))
 }
 
 /// Sets the parents of rows.

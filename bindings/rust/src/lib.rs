@@ -1,6 +1,6 @@
 //! Reads the type texts of Apache Arrow into trees and prints them again, as the Rust crate arrow-schema 60.1.0 does.
 //!
-//! Reader, printer, rewrite, soundness, depth, equality and the layout verdict are those of the proved library
+//! Reader, printer, rewrite, soundness, depth, equality, the layout verdict and the check of needed columns are those of the proved library
 //! `arrow_types`, which is linked; this crate gives them the shape that a Rust service expects. 'Document 01' is the
 //! library's scope.
 //!
@@ -35,7 +35,8 @@
 //! Microseconds are printed as `us`; [`rewrite_with`] and [`DataType::print_with`] print them as `µs`, as arrow-schema does.
 //!
 //! Types are equal, ordered and hashed as trees, whatever their texts. [`DataType::timestamp`] and others put them together
-//! by hand; [`DataType::lossy`] shows a type in a log in any case.
+//! by hand; [`DataType::lossy`] shows a type in a log in any case. [`DataType::first_unmet`] says whether a type has the
+//! columns that a caller needs.
 //!
 //! A text is read into rows that each thread keeps, 49,152 bytes, of which it is lent as many as its length asks for
 //! ([`rows_to_lend`]), and the rows filled are copied out of them; so a [`DataType`] has two allocations, its text and
@@ -58,6 +59,7 @@ mod ffi;
 mod field;
 mod kind;
 mod lossy;
+mod need;
 mod order;
 mod pack;
 mod picture;
@@ -75,6 +77,7 @@ pub use ffi::{read, rows_to_lend};
 pub use field::Field;
 pub use kind::{IntervalUnit, Kind, TimeUnit, UnionMode};
 pub use lossy::Lossy;
+pub use need::Need;
 pub use read_error::ReadError;
 pub use rewrite::{RewriteError, rewrite, rewrite_with};
 pub use rows::{set_parents, widen_rows};
@@ -88,6 +91,9 @@ pub const MAX_ROWS: usize = 1_024;
 
 /// The most bytes that a text has, read or printed.
 pub const MAX_TEXT: usize = 16_384;
+
+/// The most needs that are checked at once.
+pub const MAX_NEEDS: usize = 32;
 
 /// The most bytes of stack that a call of the library takes.
 pub const MAX_STACK: usize = 65_536;

@@ -1,7 +1,9 @@
 //! The C header says the same as this crate: refusals with their sentences, kinds, the version and the limits.
 #![cfg(repository)]
 
-use arrow_types::{DataType, Error, Kind, MAX_ROWS, MAX_STACK, MAX_TEXT, ROW_WORDS, RewriteError};
+use arrow_types::{
+    DataType, Error, Kind, MAX_NEEDS, MAX_ROWS, MAX_STACK, MAX_TEXT, ROW_WORDS, RewriteError,
+};
 
 const HEADER: &str = include_str!("../../c/arrow_types.h");
 
@@ -66,11 +68,15 @@ fn strings(function: &str) -> Vec<String> {
     body.lines().map(string).collect()
 }
 
-/// The header's function says what the enum says. The first is that of 0.
+/// The header's function says what the enum says, and of every other number up to the last that it is no refusal.
 #[test]
 fn sentences() {
-    let mut expected = vec!["this is no refusal".to_owned()];
-    expected.extend(Error::ALL.map(|error| error.to_string()));
+    let sentence = |number| match Error::from_number(number) {
+        Some(error) => error.to_string(),
+        None => "this is no refusal".to_owned(),
+    };
+    let last = Error::ALL.map(Error::number).into_iter().max().unwrap();
+    let expected: Vec<String> = (0..=last).map(sentence).collect();
     assert_eq!(strings("arrow_types_sentence"), expected);
 }
 
@@ -121,6 +127,7 @@ fn limits() {
         ("MAX_ROWS", MAX_ROWS),
         ("MAX_TEXT", MAX_TEXT),
         ("NAMES_LENGTH", 18),
+        ("MAX_NEEDS", MAX_NEEDS),
         ("MAX_STACK", MAX_STACK),
     ] {
         let line = format!("#define ARROW_TYPES_{name} {value}\n");

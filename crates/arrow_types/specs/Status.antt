@@ -35,6 +35,10 @@ row_of (refused r) = 0
 row_of (done None) = 0
 row_of (done (Some i)) = i
 
+-- The first need that is not met is told as a verdict's row is.
+abbrev pub unmet_of : Out (Option ℕ) → ℕ
+unmet_of answer = row_of answer
+
 -- A number of a name's place, 0 where the name is empty.
 unfoldable pub if_named : List ℕ → ℕ → ℕ
 if_named [] n = 0

@@ -4,18 +4,21 @@
 #![tactic(auto)]
 
 ghost use Rattle.std.specs.Prelude.{◌≡◌, length};
-ghost use Rattle.arrow_types.specs.Status.{status_of, value_of, place_of, flag, yes_of, row_of, if_named};
+ghost use Rattle.arrow_types.specs.Status.{status_of, value_of, place_of, flag, yes_of, row_of, unmet_of, if_named};
 ghost use Rattle.datatype.specs.Tree.{name_of, zone_of};
 ghost use Rattle.subtrees.specs.Parents.{with_parents};
 ghost use Rattle.row_table.specs.Sound.{is_sound, depth_of};
 ghost use Rattle.subtrees.specs.Equal.{equal_trees};
 ghost use Rattle.layout.specs.Layout.{verdict_of};
+ghost use Rattle.needs.specs.Needs.{needs_of};
 ghost use Rattle.datatype_parse.specs.Parse.{parse_answer, parse_rows};
 ghost use Rattle.datatype_parse.specs.RowsToLend.{rows_to_lend};
 ghost use Rattle.datatype_display.specs.Print.{default_spelling, print_answer, print_bytes};
 ghost use Rattle.display_length.specs.declared.words.Spelling.TheVariants.{Micro};
 ghost use Rattle.rewrite.specs.Rewrite.{rewrite_answer, rewrite_bytes, rewrite_back};
 ghost use Rattle.arrow_types.specs.Step.{told, told_of};
+
+use needs::Need;
 
 // Reads a type text into lent rows. The place is that of a refusal in the text, 0 where the text is accepted.
 #[unsafe(no_mangle)]
@@ -211,4 +214,23 @@ pub extern "C" fn arrow_types_verdict(
     ensures row { row.new ≡ row_of (verdict_of text.now names.now rows.now) }
 {
     arrow_types::arrow_types_verdict(text, names, rows, yes, row)
+}
+
+// Whether a tree has the columns that are needed: whether it is yes, 1 or 0, and the first need that is not met, where it is
+// not. Each need has its name in the text of needs.
+#[unsafe(no_mangle)]
+pub extern "C" fn arrow_types_needs(
+    text: &[u8],
+    names: &[u8],
+    rows: &[u32],
+    needs_text: &[u8],
+    needs: &[Need],
+    yes: &mut u32,
+    need: &mut usize,
+) -> u32
+    ensures status { result ≡ status_of (needs_of text.now names.now rows.now needs_text.now needs.now) }
+    ensures yes { yes.new ≡ yes_of (needs_of text.now names.now rows.now needs_text.now needs.now) }
+    ensures need { need.new ≡ unmet_of (needs_of text.now names.now rows.now needs_text.now needs.now) }
+{
+    arrow_types::arrow_types_needs(text, names, rows, needs_text, needs, yes, need)
 }

@@ -1,5 +1,7 @@
 //! The comparisons. Every text goes to the model, to the Rust where it has a say, and to the port
-//! if it is there; every tree goes to their printers.
+//! if it is there; every tree goes to their printers, and to the check of needed columns.
+
+mod needs;
 
 use crate::generate::trees::{self, Letters, Tree};
 use crate::generate::{Random, places};
@@ -39,6 +41,8 @@ pub struct Check<'s> {
     pub parented: usize,
     /// Refusals of the port whose number and place were compared with the model's.
     pub placed: usize,
+    /// Checks of needed columns.
+    pub needs: needs::Tally,
     pub counts: Counts,
 }
 
@@ -54,6 +58,7 @@ impl<'s> Check<'s> {
             read_back: 0,
             parented: 0,
             placed: 0,
+            needs: needs::Tally::new(seed),
             counts: [0; 20],
         }
     }
@@ -181,6 +186,7 @@ impl<'s> Check<'s> {
         }
         self.subject_prints(tree, &printed);
         self.port_and_rust(tree, &rust);
+        self.needs(tree, Some(data_type));
     }
 
     /// A tree that is sound by the way it was made.
@@ -252,6 +258,7 @@ impl<'s> Check<'s> {
             self.differ_tree(tree, "not sound, yet printed or judged");
         }
         self.subject_prints(tree, &printed);
+        self.needs(tree, None);
     }
 
     /// Two sound trees: equal by the model exactly if the Rust's types are equal. Answers whether.

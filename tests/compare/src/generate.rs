@@ -3,6 +3,7 @@
 pub mod bytes;
 pub mod damage;
 pub mod limits;
+pub mod needs;
 pub mod places;
 pub mod sequences;
 pub mod texts;

@@ -8,6 +8,7 @@ mod generate;
 mod known;
 mod lines;
 mod model;
+mod needs;
 mod oracle;
 mod prints;
 mod sample;
@@ -28,7 +29,7 @@ use std::io::Read;
 use std::process::ExitCode;
 
 const USAGE: &str = "\
-compare run [seed=N] [sequences=N] [texts=N] [trees=N]
+compare run [seed=N] [sequences=N] [texts=N] [trees=N] [columns=N]
     compares generated texts and trees; exit status 1 if any difference is found
 compare texts FILE [seed=N]
     writes texts with their answers, for a replay without Rust
@@ -68,7 +69,10 @@ fn main() -> ExitCode {
 fn command(arguments: &[String]) -> Result<ExitCode, String> {
     let (name, rest) = arguments.split_first().ok_or("no command")?;
     match name.as_str() {
-        "run" => run(&settings(rest, &["seed", "sequences", "texts", "trees"])?),
+        "run" => run(&settings(
+            rest,
+            &["seed", "sequences", "texts", "trees", "columns"],
+        )?),
         "texts" | "tables" | "prints" | "prints_us" => {
             let (file, rest) = rest.split_first().ok_or("no file")?;
             let seed = settings(rest, &["seed"])?.get("seed").copied().unwrap_or(1);
@@ -191,6 +195,7 @@ fn run(settings: &BTreeMap<String, u64>) -> Result<ExitCode, String> {
     let sequence_count = setting("sequences", 400_000) as usize;
     let text_count = setting("texts", 600_000) as usize;
     let tree_count = setting("trees", 400_000) as usize;
+    let column_count = setting("columns", 200_000) as usize;
     let subject = subject::linked();
     let mut report = Report {
         check: Check::new(subject.as_deref(), seed),
@@ -341,9 +346,12 @@ fn run(settings: &BTreeMap<String, u64>) -> Result<ExitCode, String> {
         "tables whose parents the port set: {}",
         report.check.parented
     );
+    report.check.columns(column_count);
+    let needs = &report.check.needs;
+    needs.print();
     let differences = report.check.differences();
-    println!("differences: {differences}");
-    Ok(if differences == 0 {
+    println!("\ndifferences: {differences}");
+    Ok(if differences == 0 && needs.is_full() {
         ExitCode::SUCCESS
     } else {
         ExitCode::FAILURE

@@ -4,6 +4,7 @@
 //! The Rust recurses without a limit, so call this from a thread with a large stack.
 
 use crate::model::{self, MOST_BYTES, WORDS, refusal};
+use crate::needs::{Need, Needed};
 use arrow_schema::{
     ArrowError, DataType, Field, Fields, IntervalUnit, TimeUnit, UnionFields, UnionMode,
 };
@@ -410,6 +411,33 @@ fn judge(data_type: &DataType, next: &mut usize, broken: &mut Vec<usize>) {
         }
         _ => {}
     }
+}
+
+/// Whether a type has the needed columns, as its own `Fields` find them: yes (`None`) or the first need that is not met.
+/// Nothing for a type that is no Struct. The needs' names are inside their text.
+pub fn needs(data_type: &DataType, needed: &Needed) -> Option<Option<usize>> {
+    let DataType::Struct(fields) = data_type else {
+        return None;
+    };
+    let is_met = |need: &Need| {
+        let name = &needed.text[need.start as usize..][..need.size as usize];
+        str::from_utf8(name).is_ok_and(|name| meets(fields, name, need))
+    };
+    Some(needed.needs.iter().position(|need| !is_met(need)))
+}
+
+fn meets(fields: &Fields, name: &str, need: &Need) -> bool {
+    let Some((at, field)) = fields.find(name) else {
+        return false;
+    };
+    let data_type = field.data_type();
+    let alone = fields[at + 1..].iter().all(|other| other.name() != name);
+    let row = &rows(data_type)[0];
+    let zoned = matches!(data_type, DataType::Timestamp(_, Some(_)));
+    alone
+        && (row.kind, row.number, row.scale) == (need.kind, need.number, need.scale)
+        && (need.nullable || !field.is_nullable())
+        && zoned == need.zoned
 }
 
 /// The Rust's type for a sound table.

@@ -2,6 +2,9 @@
 //! Without that feature only model and Rust are compared.
 
 use crate::model::{Refused, Spelling};
+#[cfg(feature = "subject")]
+use crate::needs::Need;
+use crate::needs::{Answer, Needed, Table};
 
 /// What is compared of the port.
 pub trait Subject {
@@ -20,6 +23,9 @@ pub trait Subject {
 
     /// Sets the parents of rows.
     fn set_parents(&self, rows: &mut [u32]);
+
+    /// Whether a tree has the columns that are needed.
+    fn needs(&self, tree: Table, needed: &Needed) -> Answer;
 }
 
 #[cfg(not(feature = "subject"))]
@@ -74,6 +80,21 @@ unsafe extern "C" {
     ) -> u32;
 
     fn arrow_types_set_parents(rows: *mut u32, rows_length: usize);
+
+    fn arrow_types_needs(
+        text: *const u8,
+        text_length: usize,
+        list: *const u8,
+        list_length: usize,
+        rows: *const u32,
+        rows_length: usize,
+        needs_text: *const u8,
+        needs_text_length: usize,
+        needs: *const Need,
+        needs_length: usize,
+        yes: *mut u32,
+        need: *mut usize,
+    ) -> u32;
 }
 
 #[cfg(feature = "subject")]
@@ -139,6 +160,33 @@ impl Subject for Linked {
 
     fn set_parents(&self, rows: &mut [u32]) {
         unsafe { arrow_types_set_parents(rows.as_mut_ptr(), rows.len()) }
+    }
+
+    fn needs(&self, (text, list, rows): Table, needed: &Needed) -> Answer {
+        let mut yes = u32::MAX;
+        let mut need = usize::MAX;
+        let status = unsafe {
+            arrow_types_needs(
+                text.as_ptr(),
+                text.len(),
+                list.as_ptr(),
+                list.len(),
+                rows.as_ptr(),
+                rows.len(),
+                needed.text.as_ptr(),
+                needed.text.len(),
+                needed.needs.as_ptr(),
+                needed.needs.len(),
+                &mut yes,
+                &mut need,
+            )
+        };
+        match (status, yes, need) {
+            (0, 1, 0) => Ok(None),
+            (0, 0, need) => Ok(Some(need)),
+            (number, 0, 0) => Err(number),
+            answer => panic!("status, yes and need are {answer:?}"),
+        }
     }
 }
 

@@ -1,11 +1,14 @@
 //! Tests of the harness itself: parts of the model that nothing else shows, and that a port with a
 //! fault is caught.
 
+mod needs;
+
 use crate::check::{self, Check};
 use crate::generate::trees::{self, Letters};
 use crate::generate::{Random, damage, texts};
 use crate::known;
 use crate::model::{self, Limits, MOST_BYTES, MOST_ROWS, NAME_LIST, Refused, Spelling, WORDS};
+use crate::needs::{Answer, Needed, Table};
 use crate::subject::{self, Subject};
 
 #[test]
@@ -351,6 +354,8 @@ enum Fault {
     NoBreakSpaceAsItself,
     U0180LetThrough,
     U017fRefused,
+    /// One in the check of needed columns.
+    Needs(needs::Fault),
 }
 
 /// The model as a port, with a fault.
@@ -512,6 +517,14 @@ impl Subject for Port {
             _ => {}
         }
         rows.copy_from_slice(&set);
+    }
+
+    fn needs(&self, table: Table, needed: &Needed) -> Answer {
+        let fault = match self.0 {
+            Fault::Needs(fault) => fault,
+            _ => needs::Fault::None,
+        };
+        needs::faulty(fault, table, needed)
     }
 }
 

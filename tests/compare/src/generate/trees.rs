@@ -103,19 +103,31 @@ pub fn sound(random: &mut Random, letters: Letters, rows: usize) -> Tree {
         _ => random.between(4, 120),
     };
     let text = text(random, letters, length);
-    let mut grower = Grower {
-        random,
-        bounds: text
-            .char_indices()
-            .map(|(at, _)| at)
-            .chain([text.len()])
-            .collect(),
-        text: &text,
-        rows: Vec::new(),
-        room: rows,
-        levels: MOST_LEVELS,
-    };
+    let mut grower = Grower::new(random, &text, rows);
     grower.grow(1, Row::default());
+    tree(text.as_bytes(), &grower.rows)
+}
+
+/// A sound tree whose root is a Struct of up to 40 fields: names often stand twice, and many fields are timestamps.
+pub fn columns(random: &mut Random, letters: Letters) -> Tree {
+    let length = [0, 4, 30, 300][random.below(4)];
+    let text = text(random, letters, length);
+    let mut grower = Grower::new(random, &text, 80);
+    grower.rows.push(Row {
+        kind: kind::STRUCT,
+        ..Row::default()
+    });
+    let most = [3, 10, 40][grower.random.below(3)];
+    for _ in 0..grower.random.below(most + 1) {
+        let field = grower.field(false, None);
+        if grower.random.one_in(3) {
+            grower.timestamp(field);
+        } else {
+            let levels = grower.random.below(9);
+            grower.grow(MOST_LEVELS - levels, field);
+        }
+    }
+    grower.rows[0].rows = grower.rows.len() as u32;
     tree(text.as_bytes(), &grower.rows)
 }
 
@@ -130,7 +142,19 @@ struct Grower<'a> {
     levels: usize,
 }
 
-impl Grower<'_> {
+impl<'a> Grower<'a> {
+    fn new(random: &'a mut Random, text: &'a str, room: usize) -> Grower<'a> {
+        let bounds = text.char_indices().map(|(at, _)| at);
+        Grower {
+            random,
+            bounds: bounds.chain([text.len()]).collect(),
+            text,
+            rows: Vec::new(),
+            room,
+            levels: MOST_LEVELS,
+        }
+    }
+
     /// A non-empty part of the text; none if that is empty.
     fn part(&mut self) -> Option<(u32, u32)> {
         let characters = self.bounds.len() - 1;
@@ -193,6 +217,19 @@ impl Grower<'_> {
             1 => i32::MAX as u32 - self.random.below(2) as u32,
             _ => self.random.below(100) as u32,
         }
+    }
+
+    fn timestamp(&mut self, row: Row) {
+        let zone = self.part().filter(|_| self.random.one_in(2));
+        let (zone_start, zone_length) = zone.unwrap_or((0, 0));
+        self.rows.push(Row {
+            kind: kind::TIMESTAMP,
+            rows: 1,
+            number: self.random.below(4) as u32,
+            zone_start,
+            zone_length,
+            ..row
+        });
     }
 
     fn grow(&mut self, level: usize, row: Row) {

@@ -1,0 +1,4 @@
+pub mod ColumnLaws
+pub mod NeedLaws
+pub mod FirstLaws
+pub mod EqualNeeds

@@ -1,0 +1,4 @@
+pub mod Answer
+pub mod Needs
+pub mod Examples
+pub mod Internal
