@@ -11,8 +11,8 @@ impl DataType {
     ///
     /// It is refused, by the first of these that holds, if the type is not a Struct ([`Error::NotStruct`]), if it has no
     /// such field ([`Error::NoSuchField`]), or if names and zones take more than 16,384 bytes, end to end
-    /// ([`Error::NoRoom`]). The last is met by types that were put together alone, whose names may overlap or stand in the
-    /// name list; what was read has more bytes in its text.
+    /// ([`Error::NoRoom`]). No type that was read is refused with the last: its text has more bytes than its names and zones.
+    /// In types from stored rows names may overlap, or stand in the name list.
     ///
     /// ```
     /// use arrow_types::{DataType, Error};
