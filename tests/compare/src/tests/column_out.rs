@@ -147,14 +147,7 @@ pub fn faulty(
     text_left: &mut [u8],
 ) -> Answer {
     let rows = model::from_words(words);
-    let field = match fault {
-        Fault::CountedFromOne => field.wrapping_sub(1),
-        Fault::FieldOf32Bits => field as u32 as usize,
-        Fault::LastForOnePast if field > 0 && column_out::rows_of(&rows, field).is_none() => {
-            field - 1
-        }
-        _ => field,
-    };
+    let field = taken(fault, &rows, field);
     let lent = (rows_left.len(), text_left.len());
     if let Some(number) = refused(fault, (text, list, words), &rows, field, lent) {
         return Err(number);
@@ -181,6 +174,18 @@ pub fn faulty(
         Fault::LengthLent => (left.len(), lent.1),
         _ => (left.len(), packed.len()),
     })
+}
+
+/// Which field is taken.
+fn taken(fault: Fault, rows: &[Row], field: usize) -> usize {
+    match fault {
+        Fault::CountedFromOne => field.wrapping_sub(1),
+        Fault::FieldOf32Bits => field as u32 as usize,
+        Fault::LastForOnePast if field > 0 && column_out::rows_of(rows, field).is_none() => {
+            field - 1
+        }
+        _ => field,
+    }
 }
 
 /// The refusals but 28, in an order and with bounds of the fault.
