@@ -36,9 +36,9 @@ extern "C" {
 #endif
 
 /* The version of the library and of this header. */
-#define ARROW_TYPES_VERSION "0.3.0"
+#define ARROW_TYPES_VERSION "0.4.0"
 #define ARROW_TYPES_VERSION_MAJOR 0
-#define ARROW_TYPES_VERSION_MINOR 3
+#define ARROW_TYPES_VERSION_MINOR 4
 #define ARROW_TYPES_VERSION_PATCH 0
 
 /* Words to a row. */
@@ -63,7 +63,8 @@ extern "C" {
 /*
  * The numbers of the refusals. 1 to 16 are the reader's: 1 and 2 come first, then the first that is met from left to
  * right. 17 to 19 are the printer's, in that order; depth and verdict refuse with 17 alone. The check of needs refuses with
- * 17 and 25 to 27, in that order. No function here refuses with 20 to 24.
+ * 17 and 25 to 27, in that order, and taking a column out with 17, 25, 29 and 28, in that order. No function here refuses
+ * with 20 to 24.
  */
 enum arrow_types_refusal {
     ARROW_TYPES_TEXT_TOO_LONG = 1,       /* the text is longer than 16,384 bytes */
@@ -87,7 +88,9 @@ enum arrow_types_refusal {
     ARROW_TYPES_PRINT_TOO_LONG = 19,     /* the printed text is longer than 16,384 bytes or the buffer */
     ARROW_TYPES_NOT_STRUCT = 25,         /* the root is not a Struct */
     ARROW_TYPES_TOO_MANY_NEEDS = 26,     /* there are more than 32 needs */
-    ARROW_TYPES_WRONG_NEED_NAME = 27     /* a need's name is empty or outside its text */
+    ARROW_TYPES_WRONG_NEED_NAME = 27,    /* a need's name is empty or outside its text */
+    ARROW_TYPES_NO_ROOM = 28,            /* there is no room for the rows, or for their names and zones */
+    ARROW_TYPES_NO_SUCH_FIELD = 29       /* there is no such field */
 };
 
 /* The sentence of a refusal, for a person: what the enum says of its number. 0 and other numbers are no refusal. */
@@ -122,6 +125,8 @@ static inline const char *arrow_types_sentence(uint32_t number)
         "the root is not a Struct",
         "there are more than 32 needs",
         "a need's name is empty or outside its text",
+        "there is no room for the rows, or for their names and zones",
+        "there is no such field",
     };
     return sentences[number < sizeof sentences / sizeof *sentences ? number : 0];
 }
@@ -366,6 +371,29 @@ uint32_t arrow_types_needs(const uint8_t *text, size_t text_length,
                            const uint8_t *needs_text, size_t needs_text_length,
                            const struct arrow_types_need *needs, size_t needs_length,
                            uint32_t *yes, size_t *need);
+
+/*
+ * Takes a column out of a tree whose root is a Struct: the field of a number, from 0, with all that stands below it. What
+ * stays is a tree of its own, in rows_left over text_left, which hold nothing of what was taken out.
+ *
+ * 0: the first ARROW_TYPES_ROW_WORDS * *count words of rows_left are the rows of the Struct of the other fields, in order, and
+ *    the first *length bytes of text_left are their text, with no zero behind it; what stands behind both is as it was. The
+ *    text is the names and zones end to end, by rows, the name before the zone; names from the name list stand in it too.
+ *    That tree is sound. Without its only field the Struct is empty: 1 row, and no byte.
+ * 17: the tree is not sound; 25: its root is not a Struct; 29: it has no such field; 28: there are too few words for the
+ *    rows, or too few bytes for the text, or it would be longer than ARROW_TYPES_MAX_TEXT. The first of these counts;
+ *    *count and *length are 0, and nothing else is changed.
+ *
+ * As many words as rows_length and ARROW_TYPES_MAX_TEXT bytes are as much as is ever used. The text may be longer than the
+ * tree's own, where names overlap in that or stand in the name list. Words that make no whole row are not used.
+ */
+uint32_t arrow_types_take_column_out(const uint8_t *text, size_t text_length,
+                                     const uint8_t *names, size_t names_length,
+                                     const uint32_t *rows, size_t rows_length,
+                                     size_t field,
+                                     uint32_t *rows_left, size_t rows_left_length,
+                                     uint8_t *text_left, size_t text_left_length,
+                                     size_t *count, size_t *length);
 
 /*
  * Where a field's name is; home, start and size are words 6 to 8 of its row.

@@ -808,10 +808,159 @@ static void needing_in_order(void)
     CHECK(asks("", 0, nameless, 0, 0, 1, 0));
 }
 
+/* What stays of the tree in a without a field. What stands around it must stay as it was. */
+static uint32_t left_rows[WORDS + 2];
+static uint8_t left_text[ARROW_TYPES_MAX_TEXT + 3];
+static size_t left_count[3], left_length[3];
+static struct tree left, expected_left;
+
+static uint32_t take_out(size_t field, size_t words, size_t bytes)
+{
+    for (size_t i = 0; i < WORDS + 2; i++)
+        left_rows[i] = 7;
+    memset(left_text, 'x', sizeof left_text);
+    for (size_t i = 0; i < 3; i++)
+        left_count[i] = left_length[i] = UNWRITTEN;
+    return arrow_types_take_column_out(TREE(&a), field, left_rows + 1, words, left_text + 1, bytes,
+                                       &left_count[1], &left_length[1]);
+}
+
+/* Whether so many rows and bytes are answered, and nothing but these was written. */
+static int wrote(size_t count, size_t length)
+{
+    size_t words = count * ARROW_TYPES_ROW_WORDS;
+    return left_count[1] == count && left_length[1] == length
+        && left_rows[0] == 7 && all(left_rows + 1 + words, WORDS + 1 - words, 7)
+        && left_text[0] == 'x' && untouched(left_text + 1 + length, sizeof left_text - 1 - length)
+        && left_count[0] == UNWRITTEN && left_count[2] == UNWRITTEN
+        && left_length[0] == UNWRITTEN && left_length[2] == UNWRITTEN;
+}
+
+/* Whether a field stays with a number, and nothing is written. */
+static int keeps(size_t field, size_t words, size_t bytes, uint32_t number)
+{
+    return take_out(field, words, bytes) == number && wrote(0, 0);
+}
+
+/* Whether two trees are sound, equal, as deep as one another and print alike. */
+static int same(const struct tree *tree, const struct tree *other)
+{
+    static uint8_t out[2][ARROW_TYPES_MAX_TEXT];
+    size_t depth[2], length[2];
+    return arrow_types_is_sound(TREE(tree)) == 1 && arrow_types_equal(TREE(tree), TREE(other)) == 1
+        && arrow_types_depth(TREE(tree), &depth[0]) == 0 && arrow_types_depth(TREE(other), &depth[1]) == 0
+        && depth[0] == depth[1]
+        && arrow_types_print(TREE(tree), out[0], sizeof out[0], &length[0]) == 0
+        && arrow_types_print(TREE(other), out[1], sizeof out[1], &length[1]) == 0
+        && length[0] == length[1] && memcmp(out[0], out[1], length[0]) == 0;
+}
+
+/* Whether the tree in a without a field is another, over a text, with so much room as is lent. */
+static int stays(size_t field, const char *packed, size_t words, size_t bytes)
+{
+    size_t length = strlen(packed), count = expected_left.words / ARROW_TYPES_ROW_WORDS;
+    if (take_out(field, words, bytes) != 0 || !wrote(count, length) || memcmp(left_text + 1, packed, length) != 0)
+        return 0;
+    left.text = left_text + 1;
+    left.length = length;
+    left.words = expected_left.words;
+    memcpy(left.rows, left_rows + 1, left.words * sizeof *left.rows);
+    return same(&left, &expected_left);
+}
+
+/* The same of a type, with all room and with just enough; where a word or a byte is missing nothing is written. */
+static int leaves(const char *text, size_t field, const char *packed, const char *expected)
+{
+    size_t length = strlen(packed);
+    if (read_text(&a, text) != 0 || read_text(&expected_left, expected) != 0)
+        return 0;
+    size_t words = expected_left.words;
+    return stays(field, packed, WORDS, ARROW_TYPES_MAX_TEXT) && stays(field, packed, words, length)
+        && stays(field, packed, words + ARROW_TYPES_ROW_WORDS - 1, ARROW_TYPES_MAX_TEXT + 1)
+        && keeps(field, words - 1, length, ARROW_TYPES_NO_ROOM)
+        && keeps(field, 0, ARROW_TYPES_MAX_TEXT, ARROW_TYPES_NO_ROOM)
+        && (length == 0 || keeps(field, words, length - 1, ARROW_TYPES_NO_ROOM));
+}
+
+static void taking_out(void)
+{
+    static const char row[] = "Struct(\"slot\": non-null Timestamp(s, \"CET\"), \"tenant\": Utf8, \"kwh\": Decimal64(12, 3))";
+    CHECK(leaves(row, 0, "tenantkwh", "Struct(\"tenant\": Utf8, \"kwh\": Decimal64(12, 3))"));
+    CHECK(leaves(row, 1, "slotCETkwh", "Struct(\"slot\": non-null Timestamp(s, \"CET\"), \"kwh\": Decimal64(12, 3))"));
+    CHECK(leaves(row, 2, "slotCETtenant", "Struct(\"slot\": non-null Timestamp(s, \"CET\"), \"tenant\": Utf8)"));
+    CHECK(leaves("Struct(\"tenant\": List(Timestamp(s, \"CET\")))", 0, "", "Struct()"));
+
+    /* What stands below a field goes with it, and names of the name list become text. */
+    static const char nested[] = "Struct(\"a\": Struct(\"b\": List(Int8), \"c\": Timestamp(ms, \"EET\")), \"d\": "
+                                 "RunEndEncoded(non-null Int32, Utf8), \"e\": Dictionary(Int8, List(Int8)))";
+    CHECK(leaves(nested, 0, "drun_endsvalueseitem",
+                 "Struct(\"d\": RunEndEncoded(non-null Int32, Utf8), \"e\": Dictionary(Int8, List(Int8)))"));
+    CHECK(leaves(nested, 1, "abitemcEETeitem",
+                 "Struct(\"a\": Struct(\"b\": List(Int8), \"c\": Timestamp(ms, \"EET\")), \"e\": Dictionary(Int8, List(Int8)))"));
+    CHECK(leaves("Struct(\"a\": Int8, \"u\": Union(Dense, 5: (\"x\": Int8), 3: (\"y\": Timestamp(s, \"Z\"))))", 0, "uxyZ",
+                 "Struct(\"u\": Union(Dense, 5: (\"x\": Int8), 3: (\"y\": Timestamp(s, \"Z\"))))"));
+
+    /* The rows word by word: places in the text, home 1 and the parents. */
+    static const uint32_t rows[] = {32, 4, 0, 0, 0, 0, 0, 0, 0, 0, 0, 0, 27, 2, 1, 0, 0, 0, 1, 0, 1, 0, 0, 0,
+                                    2, 1, 1, 0, 0, 0, 1, 1, 4, 0, 0, 1, 13, 1, 2, 0, 0, 0, 1, 5, 1, 6, 3, 0};
+    CHECK(leaves("Struct(\"a\": Struct(\"b\": Int8), \"l\": List(Int8), \"t\": non-null Timestamp(s, \"CET\"))", 0, "litemtCET",
+                 "Struct(\"l\": List(Int8), \"t\": non-null Timestamp(s, \"CET\"))"));
+    CHECK(left.words == sizeof rows / sizeof *rows && memcmp(left.rows, rows, sizeof rows) == 0);
+}
+
+/* A Struct of three Int8 fields, named by so many bytes from the start of a text, by its first byte and by its last. */
+static void overlap(uint32_t length)
+{
+    static uint8_t text[ARROW_TYPES_MAX_TEXT];
+    const uint32_t rows[] = {32, 4, 0, 0, 0, 0, 0, 0, 0, 0, 0, 0, 2, 1, 1, 0, 0, 0, 1, 0, length, 0, 0, 0,
+                             2, 1, 1, 0, 0, 0, 1, 0, 1, 0, 0, 0, 2, 1, 1, 0, 0, 0, 1, sizeof text - 1, 1, 0, 0, 0};
+    memset(text, 'n', sizeof text);
+    a = (struct tree){.text = text, .length = sizeof text, .words = sizeof rows / sizeof *rows};
+    memcpy(a.rows, rows, sizeof rows);
+}
+
+/* Names that share bytes share none where they are packed, and 16,384 bytes are the most. */
+static void taking_out_of_overlap(void)
+{
+    overlap(ARROW_TYPES_MAX_TEXT);
+    CHECK(keeps(1, WORDS, ARROW_TYPES_MAX_TEXT + 1, ARROW_TYPES_NO_ROOM));
+    CHECK(keeps(2, WORDS, ARROW_TYPES_MAX_TEXT, ARROW_TYPES_NO_ROOM));
+    CHECK(take_out(0, WORDS, 2) == 0 && wrote(3, 2) && memcmp(left_text + 1, "nn", 2) == 0);
+    overlap(ARROW_TYPES_MAX_TEXT - 1);
+    CHECK(take_out(1, WORDS, ARROW_TYPES_MAX_TEXT) == 0 && wrote(3, ARROW_TYPES_MAX_TEXT));
+    CHECK(keeps(1, WORDS, ARROW_TYPES_MAX_TEXT - 1, ARROW_TYPES_NO_ROOM));
+}
+
+/* 17, 25, 29 and 28, in that order. */
+static void taking_out_in_order(void)
+{
+    CHECK(read_text(&a, "Int8") == 0);
+    CHECK(keeps(0, WORDS, ARROW_TYPES_MAX_TEXT, ARROW_TYPES_NOT_STRUCT));
+    CHECK(keeps(SIZE_MAX, 0, 0, ARROW_TYPES_NOT_STRUCT));
+    a.rows[ARROW_TYPES_WORD_KIND] = 41;
+    CHECK(keeps(SIZE_MAX, 0, 0, ARROW_TYPES_NOT_SOUND));
+    a.words = 0;
+    CHECK(keeps(0, WORDS, ARROW_TYPES_MAX_TEXT, ARROW_TYPES_NOT_SOUND));
+    CHECK(read_text(&a, "List(Struct(\"a\": Int8))") == 0);
+    CHECK(keeps(0, WORDS, ARROW_TYPES_MAX_TEXT, ARROW_TYPES_NOT_STRUCT));
+
+    CHECK(read_text(&a, "Struct(\"a\": Struct(\"b\": Int8, \"c\": Int8))") == 0);
+    CHECK(keeps(1, WORDS, ARROW_TYPES_MAX_TEXT, ARROW_TYPES_NO_SUCH_FIELD));
+    CHECK(keeps(1, 0, 0, ARROW_TYPES_NO_SUCH_FIELD));
+    CHECK(keeps(SIZE_MAX, 0, 0, ARROW_TYPES_NO_SUCH_FIELD));
+    CHECK(keeps(0, 0, 0, ARROW_TYPES_NO_ROOM));
+    CHECK(keeps(0, ARROW_TYPES_ROW_WORDS - 1, 0, ARROW_TYPES_NO_ROOM));
+    CHECK(take_out(0, ARROW_TYPES_ROW_WORDS, 0) == 0 && wrote(1, 0));
+    a.rows[ARROW_TYPES_WORD_ROWS] = 3;
+    CHECK(keeps(1, 0, 0, ARROW_TYPES_NOT_SOUND));
+    CHECK(read_text(&a, "Struct()") == 0);
+    CHECK(keeps(0, WORDS, ARROW_TYPES_MAX_TEXT, ARROW_TYPES_NO_SUCH_FIELD));
+}
+
 /* Every number has a sentence of its own, and no other number has one. */
 static void sentences(void)
 {
-    enum { LAST = ARROW_TYPES_WRONG_NEED_NAME };
+    enum { LAST = ARROW_TYPES_NO_SUCH_FIELD };
     const char *none = arrow_types_sentence(0);
     unsigned refusals = 0;
     for (uint32_t number = 1; number <= LAST; number++) {
@@ -821,11 +970,12 @@ static void sentences(void)
         for (uint32_t other = 1; is_refusal && other < number; other++)
             CHECK(strcmp(arrow_types_sentence(number), arrow_types_sentence(other)) != 0);
     }
-    CHECK(refusals == 22);
+    CHECK(refusals == 24);
     CHECK(strcmp(arrow_types_sentence(LAST + 1), none) == 0);
     CHECK(strcmp(arrow_types_sentence(UINT32_MAX), none) == 0);
     CHECK(strcmp(arrow_types_sentence(ARROW_TYPES_NOT_UTF8), "the text is not UTF-8") == 0);
     CHECK(strcmp(arrow_types_sentence(ARROW_TYPES_NOT_STRUCT), "the root is not a Struct") == 0);
+    CHECK(strcmp(arrow_types_sentence(ARROW_TYPES_NO_SUCH_FIELD), "there is no such field") == 0);
 }
 
 /* And every step. */
@@ -869,6 +1019,9 @@ int main(void)
     needing_names();
     needing_too_much();
     needing_in_order();
+    taking_out();
+    taking_out_of_overlap();
+    taking_out_in_order();
     sentences();
     step_sentences();
     version();

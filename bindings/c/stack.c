@@ -79,6 +79,16 @@ static void needs(void)
     status = answer != (rows[ARROW_TYPES_WORD_KIND] == ARROW_TYPES_KIND_STRUCT ? 0 : ARROW_TYPES_NOT_STRUCT);
 }
 
+/* Each of the two fields, where the root is a Struct: one leaves all that is deeper, one takes it out. */
+static void take_column_out(void)
+{
+    uint32_t expected = rows[ARROW_TYPES_WORD_KIND] == ARROW_TYPES_KIND_STRUCT ? 0 : ARROW_TYPES_NOT_STRUCT;
+    status = 0;
+    for (size_t field = 0; field < 2; field++)
+        if (arrow_types_take_column_out(TREE, field, back, WORDS, out, sizeof out, &count, &size) != expected)
+            status = 1;
+}
+
 static void set_parents(void)
 {
     arrow_types_set_parents(rows, words);
@@ -100,6 +110,7 @@ static struct call {
     {"arrow_types_equal", equal, 0, ""},
     {"arrow_types_verdict", verdict, 0, ""},
     {"arrow_types_needs", needs, 0, ""},
+    {"arrow_types_take_column_out", take_column_out, 0, ""},
     {"arrow_types_set_parents", set_parents, 0, ""},
 };
 

@@ -2,12 +2,14 @@
 
 use std::fmt;
 
-/// Why a text is not read, a tree not printed or needs not checked: document 01's numbers a caller may get, and those of
-/// document 02.
+/// Why a text is not read, a tree not printed, needs not checked or a column not taken out: document 01's numbers a caller
+/// may get, and those of document 02.
 ///
 /// 1 to 16 are the reader's: 1 and 2 come first, then the first that is met from left to right; reading answers them in
 /// a [`ReadError`](crate::ReadError), with their place. 17 to 19 are the printer's, in that order. 25 to 27 are
-/// those of [`DataType::first_unmet`](crate::DataType::first_unmet), in that order. There is none of 20 to 24.
+/// those of [`DataType::first_unmet`](crate::DataType::first_unmet), in that order.
+/// [`DataType::without_field`](crate::DataType::without_field) refuses with 25, 29 and 28, in that order. There is none
+/// of 20 to 24.
 ///
 /// ```
 /// use arrow_types::{DataType, Error};
@@ -66,11 +68,15 @@ pub enum Error {
     TooManyNeeds,
     /// The name of a need is empty, or outside its text.
     WrongNeedName,
+    /// The names and zones of what stays take more than 16,384 bytes, end to end.
+    NoRoom,
+    /// There is no field of that number.
+    NoSuchField,
 }
 
 impl Error {
     /// Every refusal, in the order of the numbers.
-    pub const ALL: [Error; 22] = [
+    pub const ALL: [Error; 24] = [
         Error::TextTooLong,
         Error::NotUtf8,
         Error::TooDeep,
@@ -93,9 +99,11 @@ impl Error {
         Error::NotStruct,
         Error::TooManyNeeds,
         Error::WrongNeedName,
+        Error::NoRoom,
+        Error::NoSuchField,
     ];
 
-    /// The refusal's number, 1 to 19 or 25 to 27.
+    /// The refusal's number, 1 to 19 or 25 to 29.
     pub fn number(self) -> u32 {
         self as u32
     }
@@ -133,6 +141,8 @@ impl Error {
             Error::NotStruct => "the root is not a Struct",
             Error::TooManyNeeds => "there are more than 32 needs",
             Error::WrongNeedName => "a need's name is empty or outside its text",
+            Error::NoRoom => "there is no room for the rows, or for their names and zones",
+            Error::NoSuchField => "there is no such field",
         }
     }
 }

@@ -133,6 +133,22 @@ unsafe extern "C" {
         need: *mut usize,
     ) -> u32;
 
+    fn arrow_types_take_column_out(
+        text: *const u8,
+        text_length: usize,
+        names: *const u8,
+        names_length: usize,
+        rows: *const u32,
+        rows_length: usize,
+        field: usize,
+        rows_left: *mut u32,
+        rows_left_length: usize,
+        text_left: *mut u8,
+        text_left_length: usize,
+        count: *mut usize,
+        length: *mut usize,
+    ) -> u32;
+
     fn arrow_types_set_parents(rows: *mut u32, rows_length: usize);
 
     fn arrow_types_name(
@@ -385,6 +401,37 @@ pub fn needs(tree: Tree, needs_text: &[u8], needs: &[Need]) -> Result<Option<usi
         )
     };
     answer(status, (yes == 0).then_some(need))
+}
+
+/// Takes a field out of a tree whose root is a Struct: how many rows and how many bytes of what is lent are filled by what
+/// stays.
+pub fn take_column_out(
+    tree: Tree,
+    field: usize,
+    rows_left: &mut [u32],
+    text_left: &mut [u8],
+) -> Result<(usize, usize), Error> {
+    let (mut count, mut length) = (0, 0);
+    // SAFETY: as in `is_sound`; all that is written is borrowed mutably, each by itself, or a local, so it is no part of the
+    // tree or the name list, nor of one another.
+    let status = unsafe {
+        arrow_types_take_column_out(
+            tree.text.as_ptr(),
+            tree.text.len(),
+            NAME_LIST.as_ptr(),
+            NAME_LIST.len(),
+            tree.rows.as_ptr(),
+            tree.rows.len(),
+            field,
+            rows_left.as_mut_ptr(),
+            rows_left.len(),
+            text_left.as_mut_ptr(),
+            text_left.len(),
+            &mut count,
+            &mut length,
+        )
+    };
+    answer(status, (count, length))
 }
 
 /// Sets the parents of rows.

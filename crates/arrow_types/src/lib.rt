@@ -18,11 +18,13 @@ ghost use Rattle.display_length.specs.declared.words.Spelling.TheVariants.{Micro
 
 mod needed;
 mod rewritten;
+mod taken;
 
 use datatype::{Field, Tree};
 use display_length::Spelling;
 pub use needed::arrow_types_needs;
 pub use rewritten::{arrow_types_rewrite, arrow_types_rewrite_micro};
+pub use taken::arrow_types_take_column_out;
 use tokenizer::Refusal;
 
 // An answer as two numbers: the status, and the value, 0 where it was refused.

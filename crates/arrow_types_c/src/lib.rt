@@ -11,6 +11,8 @@ ghost use Rattle.row_table.specs.Sound.{is_sound, depth_of};
 ghost use Rattle.subtrees.specs.Equal.{equal_trees};
 ghost use Rattle.layout.specs.Layout.{verdict_of};
 ghost use Rattle.needs.specs.Needs.{needs_of};
+ghost use Rattle.arrow_types.specs.Taken.{rows_of, bytes_of};
+ghost use Rattle.column_out.specs.ColumnOut.{column_out_answer, column_out_rows, column_out_bytes};
 ghost use Rattle.datatype_parse.specs.Parse.{parse_answer, parse_rows};
 ghost use Rattle.datatype_parse.specs.RowsToLend.{rows_to_lend};
 ghost use Rattle.datatype_display.specs.Print.{default_spelling, print_answer, print_bytes};
@@ -233,4 +235,27 @@ pub extern "C" fn arrow_types_needs(
     ensures need { need.new ≡ unmet_of (needs_of text.now names.now rows.now needs_text.now needs.now) }
 {
     arrow_types::arrow_types_needs(text, names, rows, needs_text, needs, yes, need)
+}
+
+// Takes a field, counted from 0, out of a tree whose root is a Struct: what stays stands in lent rows, over a lent text.
+#[unsafe(no_mangle)]
+pub extern "C" fn arrow_types_take_column_out<'a>(
+    text: &'a [u8],
+    names: &'a [u8],
+    rows: &[u32],
+    field: usize,
+    rows_left: &mut [u32],
+    text_left: &mut [u8],
+    count: &mut usize,
+    length: &mut usize,
+) -> u32
+    ensures status { result ≡ status_of (column_out_answer text.now names.now rows.now field rows_left.old text_left.old) }
+    ensures count { count.new ≡ rows_of (column_out_answer text.now names.now rows.now field rows_left.old text_left.old) }
+    ensures length { length.new ≡ bytes_of (column_out_answer text.now names.now rows.now field rows_left.old text_left.old) }
+    ensures contents { rows_left.new ≡ column_out_rows text.now names.now rows.now field rows_left.old text_left.old }
+    ensures bytes { text_left.new ≡ column_out_bytes text.now names.now rows.now field rows_left.old text_left.old }
+{
+    arrow_types::arrow_types_take_column_out(
+        text, names, rows, field, rows_left, text_left, count, length,
+    )
 }

@@ -1,6 +1,7 @@
 //! The comparisons. Every text goes to the model, to the Rust where it has a say, and to the port
-//! if it is there; every tree goes to their printers, and to the check of needed columns.
+//! if it is there; every tree goes to their printers, and to the check of needed columns, and has columns taken out.
 
+mod column_out;
 mod needs;
 
 use crate::generate::trees::{self, Letters, Tree};
@@ -43,6 +44,8 @@ pub struct Check<'s> {
     pub placed: usize,
     /// Checks of needed columns.
     pub needs: needs::Tally,
+    /// Columns taken out.
+    pub taken: column_out::Tally,
     pub counts: Counts,
 }
 
@@ -59,6 +62,7 @@ impl<'s> Check<'s> {
             parented: 0,
             placed: 0,
             needs: needs::Tally::new(seed),
+            taken: column_out::Tally::new(seed),
             counts: [0; 20],
         }
     }
@@ -187,6 +191,7 @@ impl<'s> Check<'s> {
         self.subject_prints(tree, &printed);
         self.port_and_rust(tree, &rust);
         self.needs(tree, Some(data_type));
+        self.columns_out(tree, Some(data_type));
     }
 
     /// A tree that is sound by the way it was made.
@@ -259,6 +264,7 @@ impl<'s> Check<'s> {
         }
         self.subject_prints(tree, &printed);
         self.needs(tree, None);
+        self.columns_out(tree, None);
     }
 
     /// Two sound trees: equal by the model exactly if the Rust's types are equal. Answers whether.

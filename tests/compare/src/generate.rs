@@ -1,6 +1,7 @@
 //! Generators of texts and trees. Each is fixed by its seed and counts.
 
 pub mod bytes;
+pub mod column_out;
 pub mod damage;
 pub mod limits;
 pub mod needs;

@@ -2,6 +2,7 @@
 //! trees. README.md says more.
 
 mod check;
+mod column_out;
 #[cfg(feature = "subject")]
 mod count;
 mod generate;
@@ -347,11 +348,13 @@ fn run(settings: &BTreeMap<String, u64>) -> Result<ExitCode, String> {
         report.check.parented
     );
     report.check.columns(column_count);
-    let needs = &report.check.needs;
+    report.check.long_names(column_count / 50);
+    let (needs, taken) = (&report.check.needs, &report.check.taken);
     needs.print();
+    taken.print();
     let differences = report.check.differences();
     println!("\ndifferences: {differences}");
-    Ok(if differences == 0 && needs.is_full() {
+    Ok(if differences == 0 && needs.is_full() && taken.is_full() {
         ExitCode::SUCCESS
     } else {
         ExitCode::FAILURE

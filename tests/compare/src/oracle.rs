@@ -3,8 +3,9 @@
 //!
 //! The Rust recurses without a limit, so call this from a thread with a large stack.
 
+use crate::column_out::NO_FIELD;
 use crate::model::{self, MOST_BYTES, WORDS, refusal};
-use crate::needs::{Need, Needed};
+use crate::needs::{NOT_STRUCT, Need, Needed};
 use arrow_schema::{
     ArrowError, DataType, Field, Fields, IntervalUnit, TimeUnit, UnionFields, UnionMode,
 };
@@ -438,6 +439,17 @@ fn meets(fields: &Fields, name: &str, need: &Need) -> bool {
         && (row.kind, row.number, row.scale) == (need.kind, need.number, need.scale)
         && (need.nullable || !field.is_nullable())
         && zoned == need.zoned
+}
+
+/// A Struct without one of its `Fields`, counted from 0, or the number of the refusal.
+pub fn take_out(data_type: &DataType, field: usize) -> Result<DataType, u32> {
+    let DataType::Struct(fields) = data_type else {
+        return Err(NOT_STRUCT);
+    };
+    fields.get(field).ok_or(NO_FIELD)?;
+    let others = fields.iter().enumerate().filter(|(at, _)| *at != field);
+    let others: Fields = others.map(|(_, other)| other.clone()).collect();
+    Ok(DataType::Struct(others))
 }
 
 /// The Rust's type for a sound table.

@@ -1,6 +1,7 @@
 //! The port: the static library of the crate `arrow_types`, linked with the feature `subject` (build.rs).
 //! Without that feature only model and Rust are compared.
 
+use crate::column_out;
 use crate::model::{Refused, Spelling};
 #[cfg(feature = "subject")]
 use crate::needs::Need;
@@ -26,6 +27,15 @@ pub trait Subject {
 
     /// Whether a tree has the columns that are needed.
     fn needs(&self, tree: Table, needed: &Needed) -> Answer;
+
+    /// Takes a field out: fills `rows` and `text` with what stays and answers row count and packed length.
+    fn take_column_out(
+        &self,
+        tree: Table,
+        field: usize,
+        rows: &mut [u32],
+        text: &mut [u8],
+    ) -> column_out::Answer;
 }
 
 #[cfg(not(feature = "subject"))]
@@ -94,6 +104,22 @@ unsafe extern "C" {
         needs_length: usize,
         yes: *mut u32,
         need: *mut usize,
+    ) -> u32;
+
+    fn arrow_types_take_column_out(
+        text: *const u8,
+        text_length: usize,
+        names: *const u8,
+        names_length: usize,
+        rows: *const u32,
+        rows_length: usize,
+        field: usize,
+        rows_left: *mut u32,
+        rows_left_length: usize,
+        text_left: *mut u8,
+        text_left_length: usize,
+        count: *mut usize,
+        length: *mut usize,
     ) -> u32;
 }
 
@@ -187,6 +213,36 @@ impl Subject for Linked {
             (number, 0, 0) => Err(number),
             answer => panic!("status, yes and need are {answer:?}"),
         }
+    }
+
+    fn take_column_out(
+        &self,
+        (text, list, rows): Table,
+        field: usize,
+        rows_left: &mut [u32],
+        text_left: &mut [u8],
+    ) -> column_out::Answer {
+        let mut count = usize::MAX;
+        let mut length = usize::MAX;
+        let status = unsafe {
+            arrow_types_take_column_out(
+                text.as_ptr(),
+                text.len(),
+                list.as_ptr(),
+                list.len(),
+                rows.as_ptr(),
+                rows.len(),
+                field,
+                rows_left.as_mut_ptr(),
+                rows_left.len(),
+                text_left.as_mut_ptr(),
+                text_left.len(),
+                &mut count,
+                &mut length,
+            )
+        };
+        let (count, length) = (answer(status, count), answer(status, length));
+        Ok((count?, length?))
     }
 }
 

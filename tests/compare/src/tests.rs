@@ -1,6 +1,7 @@
 //! Tests of the harness itself: parts of the model that nothing else shows, and that a port with a
 //! fault is caught.
 
+mod column_out;
 mod needs;
 
 use crate::check::{self, Check};
@@ -356,6 +357,8 @@ enum Fault {
     U017fRefused,
     /// One in the check of needed columns.
     Needs(needs::Fault),
+    /// One in taking a column out.
+    ColumnOut(column_out::Fault),
 }
 
 /// The model as a port, with a fault.
@@ -525,6 +528,20 @@ impl Subject for Port {
             _ => needs::Fault::None,
         };
         needs::faulty(fault, table, needed)
+    }
+
+    fn take_column_out(
+        &self,
+        table: Table,
+        field: usize,
+        rows: &mut [u32],
+        text: &mut [u8],
+    ) -> crate::column_out::Answer {
+        let fault = match self.0 {
+            Fault::ColumnOut(fault) => fault,
+            _ => column_out::Fault::None,
+        };
+        column_out::faulty(fault, table, field, rows, text)
     }
 }
 

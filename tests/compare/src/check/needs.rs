@@ -60,6 +60,7 @@ impl Tally {
 
 impl Check<'_> {
     /// Checks so many trees that are made for it: Structs of columns, and a few of any kind; some are changed, some broken.
+    /// Columns are taken out of them too.
     pub fn columns(&mut self, count: usize) {
         for _ in 0..count {
             let random = &mut self.needs.random;
@@ -78,6 +79,7 @@ impl Check<'_> {
             let sound = model::sound(text, list, words);
             let data_type = sound.then(|| oracle::data_type(text, list, words));
             self.needs(&tree, data_type.as_ref());
+            self.columns_out(&tree, data_type.as_ref());
         }
     }
 

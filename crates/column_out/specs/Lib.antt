@@ -1,0 +1,3 @@
+pub mod ColumnOut
+pub mod Examples
+pub mod Internal

@@ -1,0 +1,65 @@
+// Taking a column out of a Struct: the field goes with all that stands below it, and what stays is packed into fresh lent
+// rows and a fresh lent text.
+
+#![tactic(auto)]
+
+ghost use Rattle.std.specs.Prelude.{◌≡◌};
+ghost use Rattle.column_out.specs.ColumnOut.{number_of, taken_means, column_out_answer, column_out_rows, column_out_bytes};
+
+mod fields;
+mod pack;
+
+use crate::fields::what_stays;
+use crate::pack::Packer;
+use datatype::Tree;
+use datatype::rows::ROW_WORDS;
+use packed::Packed;
+use subtrees::set_first_parents;
+
+// Why a column was not taken out, by document 02's numbers.
+#[derive(Clone, Copy, Debug, PartialEq, Eq)]
+pub enum NotTaken {
+    NotSound = 17, // text and rows are no sound tree
+    NotStruct = 25, // the root is not a Struct
+    NoRoom = 28, // rows or text have no room for what stays
+    NoSuchField = 29, // the root has no such field
+}
+
+impl NotTaken {
+    // The number of document 02.
+    pub fn number(self) -> u32
+        ensures { result ≡ number_of self }
+    {
+        self as u32
+    }
+}
+
+// Takes a field, counted from 0, out of a sound tree whose root is a Struct: the rows of what stays stand at the start of
+// the rows lent, over the packed text at the start of the text lent. A refusal changes neither.
+pub fn take_column_out(
+    tree: Tree<'_>,
+    field: usize,
+    rows: &mut [u32],
+    text: &mut [u8],
+) -> Result<Packed, NotTaken>
+    ensures answer { taken_means result ≡ column_out_answer tree.entry.text.now tree.entry.names.now tree.entry.rows.now field rows.old text.old }
+    ensures contents { rows.new ≡ column_out_rows tree.entry.text.now tree.entry.names.now tree.entry.rows.now field rows.old text.old }
+    ensures bytes { text.new ≡ column_out_bytes tree.entry.text.now tree.entry.names.now tree.entry.rows.now field rows.old text.old }
+{
+    let kept = what_stays(&tree, field)?;
+    let packed = kept.packed;
+    if !packed.fits(rows.len(), text.len()) {
+        return Err(NotTaken::NoRoom);
+    }
+    let mut packer = Packer {
+        rows,
+        word: 0,
+        text,
+        byte: 0,
+    };
+    packer.put_row(&tree, 0, packed.rows as u32);
+    packer.put_rows(&tree, 1, kept.first);
+    packer.put_rows(&tree, kept.end, tree.rows.len() / ROW_WORDS);
+    set_first_parents(packer.rows, packed.rows);
+    Ok(packed)
+}

@@ -1,0 +1,2 @@
+pub mod PackedLaws
+pub mod LentLaws

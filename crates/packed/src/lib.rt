@@ -1,0 +1,25 @@
+// Names and zones packed into a text of their own: definitions and laws, with no code but what says how much is packed.
+
+#![tactic(auto)]
+
+ghost use Rattle.std.specs.Prelude.{◌≡◌};
+ghost use Rattle.packed.specs.Packed.{size_fits};
+
+use datatype::rows::{MAX_TEXT, rows_lent};
+
+// How many rows a packed tree has, and how many bytes its packed text.
+#[derive(Clone, Copy, Debug, PartialEq, Eq)]
+pub struct Packed {
+    pub rows: usize,
+    pub bytes: usize,
+}
+
+impl Packed {
+    // Whether it has room in lent rows of so many words and in a lent text of so many bytes.
+    #[tactic(auto, unfolding(crate::specs::Packed::size_fits))]
+    pub fn fits(self, words: usize, bytes: usize) -> bool
+        ensures { result ≡ size_fits self words bytes }
+    {
+        self.rows <= rows_lent(words) && self.bytes <= bytes.min(MAX_TEXT)
+    }
+}
