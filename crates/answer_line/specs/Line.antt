@@ -1,5 +1,5 @@
 -- The line program (document 01, 'The line program').
-use Rattle.std.specs.Prelude.{Bool, ◌&&◌, List, [], ◌∷◌, ◌++◌, ℕ, suc, ◌+◌, ◌*◌, min, length, drop, leb, eqb, if◌then◌else◌, Option, Some, None}
+use Rattle.std.specs.Prelude.{Bool, ◌&&◌, List, [], ◌∷◌, ◌++◌, ℕ, suc, ◌+◌, ◌*◌, min, length, drop, nat_le, nat_eq, if◌then◌else◌, Option, Some, None}
 use Rattle.tokenizer.specs.Text.{bytes}
 use Rattle.tokenizer.specs.Answer.{Refusal, Out, refused, done}
 use Rattle.datatype.specs.Limits.{max_text, max_rows}
@@ -38,7 +38,7 @@ longer c (l ∷ ls) = (c ∷ l) ∷ ls
 
 unfoldable pub lines_of : List ℕ → List (List ℕ)
 lines_of [] = []
-lines_of (c ∷ s) = let rest = lines_of s in if eqb c 10 then [] ∷ rest else longer c rest
+lines_of (c ∷ s) = let rest = lines_of s in if nat_eq c 10 then [] ∷ rest else longer c rest
 
 -- What the program prints.
 abbrev pub answers : List (List ℕ) → List ℕ
@@ -60,7 +60,7 @@ answer_bytes = 11 + max_text + 1
 
 -- Whether the buffers hold the rows and the answer of every line.
 abbrev pub room_for : List ℕ → List ℕ → Bool
-room_for rows out = leb line_words (length rows) && leb answer_bytes (length out)
+room_for rows out = nat_le line_words (length rows) && nat_le answer_bytes (length out)
 
 -- What is answered: how many bytes are printed for the line; nothing where there is no room.
 unfoldable pub line_answered : List ℕ → List ℕ → List ℕ → Option ℕ
@@ -81,7 +81,7 @@ line_out line rows out =
 -- How many bytes stand before the first newline: all of them where there is none.
 unfoldable pub before_newline : List ℕ → ℕ
 before_newline [] = 0
-before_newline (c ∷ s) = let more = suc (before_newline s) in if eqb c 10 then 0 else more
+before_newline (c ∷ s) = let more = suc (before_newline s) in if nat_eq c 10 then 0 else more
 
 -- Where the line that begins at a place ends: at the first newline there or behind it, else at the end of the input.
 unfoldable pub line_end : List ℕ → ℕ → ℕ

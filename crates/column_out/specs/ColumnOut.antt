@@ -1,6 +1,6 @@
 -- Taking a column out (document 02, 'Take a column out, give the room back'): a field of a Struct goes with all that stands
 -- below it, and the names and zones that stay are packed into fresh lent rows and text.
-use Rattle.std.specs.Prelude.{Bool, false, Result, Ok, Err, List, [], ◌∷◌, ℕ, zero, suc, length, ltb, eqb, if◌then◌else◌}
+use Rattle.std.specs.Prelude.{Bool, false, Result, Ok, Err, List, [], ◌∷◌, ℕ, zero, suc, length, nat_lt, nat_eq, if◌then◌else◌}
 use Rattle.tokenizer.specs.Answer.{Out, refused, done, refuse, ◌>>=◌}
 use Rattle.datatype.specs.Kind.{struct_kind}
 use Rattle.datatype.specs.Tree.{Forest, ∅, node, roots, Label}
@@ -30,7 +30,7 @@ taken_out n (node root fields next) = node root (without n fields) next
 -- Whether a tree's root is a Struct, and how many fields it has.
 abbrev pub is_struct : Forest Label → Bool
 is_struct ∅ = false
-is_struct (node root fields next) = eqb root.kind struct_kind
+is_struct (node root fields next) = nat_eq root.kind struct_kind
 
 abbrev pub field_count : Forest Label → ℕ
 field_count ∅ = 0
@@ -40,7 +40,7 @@ field_count (node root fields next) = length (roots fields)
 unfoldable pub tree_left : List ℕ → List ℕ → List ℕ → ℕ → Out (Forest Label)
 tree_left text names table n =
     let tree = tree_of text names table in
-    let left = if ltb n (field_count tree) then done (taken_out n tree) else refuse 29 in
+    let left = if nat_lt n (field_count tree) then done (taken_out n tree) else refuse 29 in
     let of_struct = if is_struct tree then left else refuse 25 in
     if is_sound text names table then of_struct else refuse 17
 

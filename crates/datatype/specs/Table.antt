@@ -1,5 +1,5 @@
 -- The row table: twelve words a row, parent first (document 01, 'The row table').
-use Rattle.std.specs.Prelude.{◌&&◌, List, [], ◌∷◌, ◌++◌, ℕ, zero, suc, ◌+◌, ◌*◌, ◌-◌, ◌/◌, min, length, take, drop, get_or, leb, if◌then◌else◌}
+use Rattle.std.specs.Prelude.{◌&&◌, List, [], ◌∷◌, ◌++◌, ℕ, zero, suc, ◌+◌, ◌*◌, ◌-◌, ◌/◌, min, length, take, drop, get_or, nat_le, if◌then◌else◌}
 use Rattle.std.proofs.Math.Option.{Option, none, some}
 use Rattle.datatype.specs.Limits.{max_rows}
 use Rattle.datatype.specs.Tree.{Forest, ∅, node, count, Row, Label, labels}
@@ -56,7 +56,7 @@ view_with (suc f) (w ∷ ws) =
     let below = view_with f (take (row_words * (rows - 1)) behind) in
     let beyond = view_with f (drop (row_words * (rows - 1)) behind) in
     let nested = join (row_of (w ∷ ws)) below beyond in
-    if leb 1 rows && leb (row_words * rows) (length (w ∷ ws)) then nested else none
+    if nat_le 1 rows && nat_le (row_words * rows) (length (w ∷ ws)) then nested else none
 
 unfoldable pub view_of : List ℕ → Option (Forest Row)
 view_of table = view_with (length table) table

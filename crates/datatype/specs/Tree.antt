@@ -1,5 +1,5 @@
 -- Trees, rows and what a tree says (document 01, 'The row table').
-use Rattle.std.specs.Prelude.{List, [], ◌∷◌, ℕ, zero, suc, ◌+◌, max, length, take, drop, leb, if◌then◌else◌}
+use Rattle.std.specs.Prelude.{List, [], ◌∷◌, ℕ, zero, suc, ◌+◌, max, length, take, drop, nat_le, if◌then◌else◌}
 use Rattle.tokenizer.specs.Text.{bytes}
 
 -- A run of trees side by side: the first tree's root, the run of its children, and the run of its later siblings.
@@ -67,7 +67,7 @@ name_list = bytes "itemrun_endsvalues"
 
 -- A part of a list, empty where it runs past the end.
 abbrev pub part : List ℕ → ℕ → ℕ → List ℕ
-part s start size = if leb (start + size) (length s) then take size (drop start s) else []
+part s start size = if nat_le (start + size) (length s) then take size (drop start s) else []
 
 -- A name handed back as a part of the text or of the name list, empty where home, start and length do not fit.
 unfoldable pub name_of : List ℕ → List ℕ → ℕ → ℕ → ℕ → List ℕ

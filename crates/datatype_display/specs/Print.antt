@@ -1,5 +1,5 @@
 -- The printer's answer and its buffer (document 01, 'Numbers a caller may get': 17, 18 and 19, in that order).
-use Rattle.std.specs.Prelude.{List, ◌++◌, ℕ, min, length, drop, leb, if◌then◌else◌}
+use Rattle.std.specs.Prelude.{List, ◌++◌, ℕ, min, length, drop, nat_le, if◌then◌else◌}
 use Rattle.tokenizer.specs.Answer.{Out, refused, done, refuse}
 use Rattle.datatype.specs.Limits.{max_text}
 use Rattle.datatype.specs.Table.{tree_of}
@@ -18,7 +18,7 @@ unfoldable pub print : Spelling → List ℕ → List ℕ → List ℕ → ℕ �
 print spelling text names table room =
     let tree = tree_of text names table in
     let printed = display spelling tree in
-    let fits = if leb (length printed) (min room max_text) then done printed else refuse 19 in
+    let fits = if nat_le (length printed) (min room max_text) then done printed else refuse 19 in
     let latin = if quoted_latin tree then fits else refuse 18 in
     if is_sound text names table then latin else refuse 17
 

@@ -1,5 +1,5 @@
 -- The public reader (document 01, 'Types' and 'Numbers a caller may get'): a whole text, and the words lent for its rows.
-use Rattle.std.specs.Prelude.{Bool, ◌&&◌, List, ◌++◌, ℕ, length, drop, replicate, eqb, if◌then◌else◌}
+use Rattle.std.specs.Prelude.{Bool, ◌&&◌, List, ◌++◌, ℕ, length, drop, replicate, nat_eq, if◌then◌else◌}
 use Rattle.tokenizer.specs.Answer.{Out, refused, done, refuse_at, ◌>>=◌}
 use Rattle.tokenizer.specs.Token.{token_at, value_of, no_token}
 use Rattle.datatype.specs.Tree.{Forest, count, Row}
@@ -9,7 +9,7 @@ use Rattle.parser.specs.Parse.{single, place_at, stands, first_type}
 
 -- The text ends here, but for spaces.
 unfoldable pub text_over : List ℕ → ℕ → Bool
-text_over text at = stands text no_token at && eqb (value_of (token_at text at).kind) 5
+text_over text at = stands text no_token at && nat_eq (value_of (token_at text at).kind) 5
 
 -- The tree of a text, with so many rows lent, or the refusal. The whole text is a type: nothing but spaces follows it, or it
 -- is refused where that begins.

@@ -1,5 +1,5 @@
 -- The printed text of a tree, and its length (document 01, 'Printing').
-use Rattle.std.specs.Prelude.{Bool, true, false, ◌&&◌, ◌||◌, List, [], ◌∷◌, ◌++◌, map, ℕ, zero, suc, ◌+◌, ◌-◌, ◌/◌, ◌%◌, length, get_or, leb, ltb, eqb, if◌then◌else◌}
+use Rattle.std.specs.Prelude.{Bool, true, false, ◌&&◌, ◌||◌, List, [], ◌∷◌, ◌++◌, map, ℕ, zero, suc, ◌+◌, ◌-◌, ◌/◌, ◌%◌, length, get_or, nat_le, nat_lt, nat_eq, if◌then◌else◌}
 use Rattle.tokenizer.specs.Text.{bytes, same}
 use Rattle.tokenizer.specs.Words.{words, ◌is◌}
 use Rattle.tokenizer.specs.declared.TokenKind.TheVariants.{X}
@@ -17,7 +17,7 @@ kind_word k = (get_or words k ("" is X)).word
 
 -- The same of any number: what is no kind has no word.
 unfoldable pub kind_text : ℕ → List ℕ
-kind_text k = if ltb k kinds then kind_word k else []
+kind_text k = if nat_lt k kinds then kind_word k else []
 
 -- Microseconds, in the spelling chosen; that of the Rust is `Micro`.
 unfoldable pub microsecond_text : Spelling → List ℕ
@@ -45,16 +45,16 @@ sorted_text (suc n) = bytes "sorted"
 
 -- A scale, of which word 5 is 128 more.
 unfoldable pub scale_text : ℕ → List ℕ
-scale_text scale = if ltb scale 128 then (45 ∷ digits (128 - scale)) else digits (scale - 128)
+scale_text scale = if nat_lt scale 128 then (45 ∷ digits (128 - scale)) else digits (scale - 128)
 
 -- ---- double-quoted strings, as Rust's {:?}
 
 abbrev pub hex_digit : ℕ → ℕ
-hex_digit n = if ltb n 10 then 48 + n else (87 + n)
+hex_digit n = if nat_lt n 10 then 48 + n else (87 + n)
 
 -- The lowercase hex digits of a byte, with no zero before them.
 abbrev pub hex : ℕ → List ℕ
-hex c = if ltb c 16 then hex_digit c ∷ [] else hex_digit (c / 16) ∷ hex_digit (c % 16) ∷ []
+hex c = if nat_lt c 16 then hex_digit c ∷ [] else hex_digit (c / 16) ∷ hex_digit (c % 16) ∷ []
 
 -- A character up to U+00FF by its number.
 unfoldable pub unicode_text : ℕ → List ℕ
@@ -62,24 +62,24 @@ unicode_text c = bytes "\\u{" ++ (hex c ++ bytes "}")
 
 -- The byte C2 begins the characters U+0080 to U+00BF, and no others; the byte behind it is the character's number.
 abbrev pub is_lead : ℕ → Bool
-is_lead c = eqb c 0xC2
+is_lead c = nat_eq c 0xC2
 
 -- What is written at a byte between the marks: at C2 nothing, since what it becomes is written at the byte behind it.
 unfoldable pub escape : ℕ → List ℕ
 escape c =
-    if eqb c 34 then bytes "\\\""
-    else if eqb c 92 then bytes "\\\\"
-    else if eqb c 0 then bytes "\\0"
-    else if eqb c 9 then bytes "\\t"
-    else if eqb c 13 then bytes "\\r"
-    else if eqb c 10 then bytes "\\n"
-    else if ltb c 32 || eqb c 127 then unicode_text c
+    if nat_eq c 34 then bytes "\\\""
+    else if nat_eq c 92 then bytes "\\\\"
+    else if nat_eq c 0 then bytes "\\0"
+    else if nat_eq c 9 then bytes "\\t"
+    else if nat_eq c 13 then bytes "\\r"
+    else if nat_eq c 10 then bytes "\\n"
+    else if nat_lt c 32 || nat_eq c 127 then unicode_text c
     else if is_lead c then []
     else c ∷ []
 
 -- What is written at a byte behind C2: U+0080 to U+00A0 and U+00AD are written by their number.
 unfoldable pub escape_pair : ℕ → List ℕ
-escape_pair c = if (leb 0x80 c && leb c 0xA0) || eqb c 0xAD then unicode_text c else 0xC2 ∷ c ∷ []
+escape_pair c = if (nat_le 0x80 c && nat_le c 0xA0) || nat_eq c 0xAD then unicode_text c else 0xC2 ∷ c ∷ []
 
 -- The same of a byte behind C2 or not, and of all bytes of a string.
 unfoldable pub escape_next : Bool → ℕ → List ℕ
@@ -104,7 +104,7 @@ pub record Shown : Type 0 where
   pub text : List ℕ
 
 unfoldable pub nullity_text : Label → List ℕ
-nullity_text l = if eqb l.role 2 then bytes "non-null " else []
+nullity_text l = if nat_eq l.role 2 then bytes "non-null " else []
 
 -- "name": [non-null ]type
 unfoldable pub field_text : Shown → List ℕ

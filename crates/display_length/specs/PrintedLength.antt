@@ -1,6 +1,6 @@
 -- What is printed in double quotes, and the printed length of a tree (document 01, 'Numbers a caller may get': 17 and
 -- 18, in that order).
-use Rattle.std.specs.Prelude.{Bool, true, false, not, ◌&&◌, ◌||◌, List, [], ◌∷◌, ℕ, leb, if◌then◌else◌}
+use Rattle.std.specs.Prelude.{Bool, true, false, not, ◌&&◌, ◌||◌, List, [], ◌∷◌, ℕ, nat_le, if◌then◌else◌}
 use Rattle.tokenizer.specs.Text.{all}
 use Rattle.tokenizer.specs.Answer.{Out, done, refuse}
 use Rattle.datatype.specs.Kind.{Shape, leaf, timestamp, time, interval, fixed, list, fixed_list, struct, union, dictionary, decimal, mapping, run_end_encoded, shape_of}
@@ -31,7 +31,7 @@ quotes_names run_end_encoded (r ∷ v ∷ ks) = not (default_names r v)
 -- Characters up to U+017F alone, which are Unicode's blocks Basic Latin, Latin-1 Supplement and Latin Extended-A: in UTF-8,
 -- bytes up to C5.
 abbrev pub is_latin : List ℕ → Bool
-is_latin s = all (λ c. leb c 0xC5) s
+is_latin s = all (λ c. nat_le c 0xC5) s
 
 abbrev pub names_latin : List Label → Bool
 names_latin [] = true

@@ -1,7 +1,7 @@
 -- The layout verdict (document 01, 'The layout verdict').
-use Rattle.std.specs.Prelude.{Option, Some, None, Bool, true, ◌&&◌, List, ℕ, suc, ◌+◌, leb, if◌then◌else◌}
+use Rattle.std.specs.Prelude.{Option, Some, None, Bool, true, ◌&&◌, List, ℕ, suc, ◌+◌, nat_le, if◌then◌else◌}
 use Rattle.tokenizer.specs.Answer.{Out, done, refuse}
-use Rattle.datatype.specs.Kind.{Shape, leaf, timestamp, time, interval, fixed, list, fixed_list, struct, union, dictionary, decimal, mapping, run_end_encoded, shape_of}
+use Rattle.datatype.specs.Kind.{Shape, dictionary, run_end_encoded, shape_of}
 use Rattle.datatype.specs.Tree.{Forest, ∅, node, count, Label}
 use Rattle.datatype.specs.Table.{tree_of}
 use Rattle.row_table.specs.Sound.{is_sound}
@@ -14,24 +14,14 @@ pub data Asked : Type 0 where
 -- Int64.
 unfoldable pub kind_allowed : Asked → ℕ → Bool
 kind_allowed anything k = true
-kind_allowed key k = leb 2 k && leb k 9
-kind_allowed run_end k = leb 3 k && leb k 5
+kind_allowed key k = nat_le 2 k && nat_le k 9
+kind_allowed run_end k = nat_le 3 k && nat_le k 5
 
 -- What is asked of a shape's first child; nothing is asked of the later ones.
 unfoldable pub asked_of_first : Shape → Asked
-asked_of_first leaf = anything
-asked_of_first timestamp = anything
-asked_of_first time = anything
-asked_of_first interval = anything
-asked_of_first fixed = anything
-asked_of_first list = anything
-asked_of_first fixed_list = anything
-asked_of_first struct = anything
-asked_of_first union = anything
 asked_of_first dictionary = key
-asked_of_first decimal = anything
-asked_of_first mapping = anything
 asked_of_first run_end_encoded = run_end
+asked_of_first _ = anything
 
 abbrev pub first : Option ℕ → Option ℕ → Option ℕ
 first None later = later

@@ -1,6 +1,6 @@
 -- The slot file's own check (document 02): whether a tree has the columns that are needed. A file fits when its root is a
 -- Struct and each need is met by the root's one field of that name.
-use Rattle.std.specs.Prelude.{Option, Some, None, Bool, true, false, not, ◌&&◌, ◌||◌, List, [], ◌∷◌, ℕ, suc, ◌+◌, length, filter, leb, ltb, eqb, if◌then◌else◌}
+use Rattle.std.specs.Prelude.{Option, Some, None, Bool, true, false, not, ◌&&◌, ◌||◌, List, [], ◌∷◌, ℕ, suc, ◌+◌, length, filter, nat_le, nat_lt, nat_eq, if◌then◌else◌}
 use Rattle.std.specs.Bool.{beq}
 use Rattle.tokenizer.specs.Text.{same, is_empty}
 use Rattle.tokenizer.specs.Answer.{Out, done, refuse, ◌>>=◌}
@@ -23,7 +23,7 @@ need_name text n = part text n.start n.size
 
 -- The name is not empty and lies inside its text, which need not be UTF-8.
 abbrev pub is_named : List ℕ → Need → Bool
-is_named text n = leb 1 n.size && leb (n.start + n.size) (length text)
+is_named text n = nat_le 1 n.size && nat_le (n.start + n.size) (length text)
 
 unfoldable pub are_named : List ℕ → List Need → Bool
 are_named text [] = true
@@ -34,7 +34,7 @@ are_named text (n ∷ ns) = is_named text n && are_named text ns
 -- The root is a Struct.
 abbrev pub is_struct : Forest Label → Bool
 is_struct ∅ = false
-is_struct (node l kids next) = eqb l.kind struct_kind
+is_struct (node l kids next) = nat_eq l.kind struct_kind
 
 -- What the root's fields say.
 abbrev pub fields_of : Forest Label → List Label
@@ -55,7 +55,7 @@ only (l ∷ m ∷ ls) = None
 
 -- Non-null (role 2) unless null is allowed.
 unfoldable pub role_allowed : Bool → ℕ → Bool
-role_allowed null_allowed role = null_allowed || eqb role 2
+role_allowed null_allowed role = null_allowed || nat_eq role 2
 
 -- A zone is present exactly when asked for.
 unfoldable pub zone_allowed : Bool → List ℕ → Bool
@@ -64,7 +64,7 @@ zone_allowed zoned zone = beq (not (is_empty zone)) zoned
 module _ (kind number scale : ℕ) (null_allowed zoned : Bool) where
   -- A field is as needed: kind and numbers equal, and role and zone as the need has them.
   unfoldable pub is_needed : Label → Bool
-  is_needed l = eqb l.kind kind && eqb l.number number && eqb l.scale scale && role_allowed null_allowed l.role && zone_allowed zoned l.zone
+  is_needed l = nat_eq l.kind kind && nat_eq l.number number && nat_eq l.scale scale && role_allowed null_allowed l.role && zone_allowed zoned l.zone
 
   abbrev pub is_needed_one : Option Label → Bool
   is_needed_one None = false
@@ -103,6 +103,6 @@ module _ (text names table : List ℕ) where
   unfoldable pub needs_of : List ℕ → List Need → Out (Option ℕ)
   needs_of needs_text needs = do
     fields ← columns_of
-    if ltb max_needs (length needs) then refuse 26
+    if nat_lt max_needs (length needs) then refuse 26
         else if not (are_named needs_text needs) then refuse 27
         else done (first_unmet needs_text fields 0 needs)

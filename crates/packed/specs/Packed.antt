@@ -1,6 +1,6 @@
 -- Names and zones packed into a text of their own (document 02, 'Take a column out, give the room back'): row order, name
 -- before zone, home 1 for each name.
-use Rattle.std.specs.Prelude.{Bool, ◌&&◌, List, [], ◌∷◌, ◌++◌, ℕ, ◌+◌, min, length, drop, leb}
+use Rattle.std.specs.Prelude.{Bool, ◌&&◌, List, [], ◌∷◌, ◌++◌, ℕ, ◌+◌, min, length, drop, nat_le}
 use Rattle.datatype.specs.Limits.{max_text}
 use Rattle.datatype.specs.Tree.{Forest, ∅, node, count, Row, Label}
 use Rattle.datatype.specs.Table.{table_of, rows_lent}
@@ -62,7 +62,7 @@ packed_size f = record { rows = count f; bytes = length (packed_text f) }
 
 -- So many rows and bytes have room in lent rows of so many words and in a lent text of so many bytes, of which 16,384 count.
 unfoldable pub size_fits : Packed → ℕ → ℕ → Bool
-size_fits size words bytes = leb size.rows (rows_lent words) && leb size.bytes (min bytes max_text)
+size_fits size words bytes = nat_le size.rows (rows_lent words) && nat_le size.bytes (min bytes max_text)
 
 -- What lent rows hold when a tree is packed into them: its rows, and past them what they held before.
 unfoldable pub packed_rows : Forest Label → List ℕ → List ℕ

@@ -1,7 +1,7 @@
 -- The reader (document 01, 'Types' and 'Numbers a caller may get'). A definition for each `parse_` function of the Rust.
 -- A place is a number of bytes into the text. What is met first, from left to right, decides. A refusal's place is that of
 -- the last token taken, one that is only looked at not counting (document 02, [2]).
-use Rattle.std.specs.Prelude.{Bool, List, ◌++◌, map, ℕ, zero, suc, ◌+◌, ◌-◌, ◌%◌, ◌^◌, length, drop, replicate, leb, eqb, if◌then◌else◌}
+use Rattle.std.specs.Prelude.{Bool, List, ◌++◌, map, ℕ, zero, suc, ◌+◌, ◌-◌, ◌%◌, ◌^◌, length, drop, replicate, nat_le, nat_eq, if◌then◌else◌}
 use Rattle.tokenizer.specs.Answer.{Out, refused, done, refuse_at, ◌>>=◌}
 use Rattle.tokenizer.specs.Utf8.{is_utf8}
 use Rattle.tokenizer.specs.Token.{Standing, token_at, sort_of, value_of, is_negative, place_of, no_token, lparen, rparen, comma, colon, integer, double_quoted, single_quoted, type_word, time_unit, interval_unit, union_mode, map_sorted, nullability, field_word, some_word, none_word, x_word}
@@ -106,7 +106,7 @@ scale_of k = if is_negative k then 128 - value_of k else (128 + value_of k)
 
 -- The refusal at a token that is not of the sort needed: 9, or its own where there is no token.
 abbrev pub refusal_of : Out TokenKind → ℕ
-refusal_of k = if eqb (sort_of k) no_token then value_of k else 9
+refusal_of k = if nat_eq (sort_of k) no_token then value_of k else 9
 
 -- A refusal at the place that a token has.
 abbrev pub refuse_last : {A : Type 0} → ℕ → Out ℕ → Out A
@@ -125,11 +125,11 @@ module _ (text : List ℕ) where
   unfoldable pub need : ℕ → ℕ → Out Standing
   need sort at =
       let t = token_at text at in
-      if eqb (sort_of t.kind) sort then done t else refuse_at (refusal_of t.kind) (place_at at)
+      if nat_eq (sort_of t.kind) sort then done t else refuse_at (refusal_of t.kind) (place_at at)
 
   -- A token is only looked at.
   unfoldable pub stands : ℕ → ℕ → Bool
-  stands sort at = eqb (sort_of (token_at text at).kind) sort
+  stands sort at = nat_eq (sort_of (token_at text at).kind) sort
 
   -- Nullability may be left out: nullable is the default. The role, and the place behind the word.
   unfoldable pub role_at : ℕ → ℕ
@@ -158,7 +158,7 @@ module _ (text : List ℕ) where
   unfoldable pub number_in : ℕ → ℕ → ℕ → Out Standing
   number_in least most at = do
     t ← need integer at
-    if leb (value_of t.kind) (if is_negative t.kind then least else most) then done t else refuse_at 10 (place_at at)
+    if nat_le (value_of t.kind) (if is_negative t.kind then least else most) then done t else refuse_at 10 (place_at at)
 
   -- A length: signed 32 bits, not negative. A precision: 0 to 255. A scale or a union id: signed 8 bits.
   abbrev pub length_at : ℕ → Out Standing
@@ -330,7 +330,7 @@ module _ (text : List ℕ) where
     unfoldable pub named_run_ends : ℕ → ℕ → Out Fields
     named_run_ends at rows = do
       r ← field_at 0 at rows
-      s ← (if eqb r.row.role 2 then done r else refuse_last 13 (last_token at r.row.kind r.next))
+      s ← (if nat_eq r.row.role 2 then done r else refuse_last 13 (last_token at r.row.kind r.next))
       c ← need comma s.next
       v ← field_at 0 c.next (rows - rows_in r)
       done (record { trees = pair r v; next = v.next })
@@ -338,7 +338,7 @@ module _ (text : List ℕ) where
     -- In the short form: two types, and nullable run ends are refused at once.
     unfoldable pub default_run_ends : ℕ → ℕ → Out Fields
     default_run_ends at rows =
-        if eqb (role_at at) 2 then (do
+        if nat_eq (role_at at) 2 then (do
           r ← default_field run_ends at rows
           c ← need comma r.next
           v ← default_field values c.next (rows - rows_in r)
@@ -354,7 +354,7 @@ module _ (text : List ℕ) where
     entries_at at rows = do
       t ← field_at 0 at rows
       let number = entries_refusal t.row.role t.row.kind (map (λ r. r.role) (roots t.kids))
-      if eqb number 0 then done t else refuse_last number (last_token at t.row.kind t.next)
+      if nat_eq number 0 then done t else refuse_last number (last_token at t.row.kind t.next)
 
     -- FixedSizeList's child behind the length: `x` and a full list field, or a comma and a type, nullable `item`.
     unfoldable pub fixed_list_field : ℕ → ℕ → Out Tree
@@ -456,7 +456,7 @@ unfoldable pub first_type : List ℕ → ℕ → Out Tree
 first_type text rows =
     let tree = type_at text max_levels 0 rows in
     let utf8 = if is_utf8 text then tree else refuse_at 2 0 in
-    if leb (length text) max_text then utf8 else refuse_at 1 max_text
+    if nat_le (length text) max_text then utf8 else refuse_at 1 max_text
 
 -- What is answered for it: the place behind it and its row count, or the refusal.
 unfoldable pub read_of : Out Tree → Out Extent

@@ -1,7 +1,7 @@
 -- A stored sample of the printer, in a spelling: how many cases, then the cases. A case is the bytes lent, the text, the name list, the
 -- status, the printed bytes, the number of the rows' words, and the words. The bytes lent hold `unprinted` before; those
 -- behind the printed ones are to hold it still. A refusal prints none.
-use Rattle.std.specs.Prelude.{Bool, ◌&&◌, List, ℕ, min, drop, replicate, eqb}
+use Rattle.std.specs.Prelude.{Bool, ◌&&◌, List, ℕ, min, drop, replicate, nat_eq}
 use Rattle.tokenizer.specs.Text.{same, all}
 use Rattle.tokenizer.specs.Answer.{Out}
 use Rattle.datatype.specs.Tree.{part}
@@ -33,11 +33,11 @@ bytes_of sample n = part sample n.next n.value
 
 -- An answer has this status and this value.
 unfoldable pub is_answer : Out ℕ → ℕ → ℕ → Bool
-is_answer answer status value = eqb (status_of answer) status && eqb (value_of answer) value
+is_answer answer status value = nat_eq (status_of answer) status && nat_eq (value_of answer) value
 
 -- A buffer holds these bytes, so many, and past them what it held before.
 unfoldable pub leaves_bytes : List ℕ → ℕ → List ℕ → Bool
-leaves_bytes out size printed = same (part out 0 size) printed && all (eqb unprinted) (drop size out)
+leaves_bytes out size printed = same (part out 0 size) printed && all (nat_eq unprinted) (drop size out)
 
 -- The printer gives a tree the status and the printed bytes of a case, in a spelling, and leaves the rest of so many bytes lent.
 unfoldable pub gives_print : Spelling → List ℕ → List ℕ → List ℕ → ℕ → PrintCase → List ℕ → Bool

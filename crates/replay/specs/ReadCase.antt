@@ -1,7 +1,7 @@
 -- The stored sample of the reader: how many cases, then the cases. A case is the words lent, the text's length, the text,
 -- the status, the value and the place (`arrow_types/Status`), and the words of as many rows as the value says. The words lent hold
 -- `unread` before; those behind the rows are to hold it still, or 0 where the text is refused.
-use Rattle.std.specs.Prelude.{Bool, ◌&&◌, List, ◌++◌, ℕ, ◌*◌, ◌-◌, min, replicate, eqb, if◌then◌else◌}
+use Rattle.std.specs.Prelude.{Bool, ◌&&◌, List, ◌++◌, ℕ, ◌*◌, ◌-◌, min, replicate, nat_eq, if◌then◌else◌}
 use Rattle.tokenizer.specs.Text.{same}
 use Rattle.datatype.specs.Tree.{part}
 use Rattle.datatype.specs.Table.{row_words}
@@ -27,11 +27,11 @@ read_case_at sample at =
 
 -- How many words a case is lent: those stored with it, or, read again where it is accepted, those of its rows to lend.
 unfoldable pub words_lent : Bool → ReadCase → ℕ
-words_lent again case = if again && eqb case.status 0 then row_words * rows_to_lend case.size else case.lent
+words_lent again case = if again && nat_eq case.status 0 then row_words * rows_to_lend case.size else case.lent
 
 -- What the words behind the rows are to hold.
 abbrev pub rest_of : ℕ → ℕ
-rest_of status = if eqb status 0 then unread else 0
+rest_of status = if nat_eq status 0 then unread else 0
 
 -- The words that a reader leaves, of so many lent, and the place behind those of them that are stored.
 unfoldable pub left_words : List ℕ → ReadCase → ℕ → List ℕ
@@ -46,7 +46,7 @@ after_case sample case lent = after_numbers sample (min (row_words * case.value)
 unfoldable pub gives : List ℕ → ℕ → ℕ → ℕ → ℕ → List ℕ → Bool
 gives text lent status value place left =
     let answer = parse_answer text (replicate lent unread) in
-    eqb (status_of answer) status && eqb (value_of answer) value && eqb (place_of answer) place && same (parse_rows text (replicate lent unread)) left
+    nat_eq (status_of answer) status && nat_eq (value_of answer) value && nat_eq (place_of answer) place && same (parse_rows text (replicate lent unread)) left
 
 -- The tally with one case more, which is lent so many words and is to leave so many.
 unfoldable pub one_case : List ℕ → Tally → ReadCase → ℕ → ℕ → Tally

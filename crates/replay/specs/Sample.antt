@@ -1,6 +1,6 @@
 -- Stored samples: numbers in decimal, each with one byte behind it, and bytes with their count before them and one byte
 -- behind them. What stands past the end of a sample is empty.
-use Rattle.std.specs.Prelude.{None, Some, Bool, true, false, List, [], ◌∷◌, ℕ, zero, suc, ◌+◌, ◌*◌, ◌-◌, min, length, drop, ltb, if◌then◌else◌}
+use Rattle.std.specs.Prelude.{None, Some, Bool, true, false, List, [], ◌∷◌, ℕ, zero, suc, ◌+◌, ◌*◌, ◌-◌, min, length, drop, nat_lt, if◌then◌else◌}
 use Rattle.std.specs.Option.{option_or}
 use Rattle.replay.specs.declared.Number.{Number}
 use Rattle.replay.specs.declared.Tally.{Tally}
@@ -15,7 +15,7 @@ unfoldable pub number_from : ℕ → ℕ → List ℕ → Number
 number_from value at [] = record { value = value; next = at }
 number_from value at (b ∷ bs) =
     let more = number_from (shift value (b - 48)) (suc at) bs in
-    if ltb b 48 then record { value = value; next = suc at } else more
+    if nat_lt b 48 then record { value = value; next = suc at } else more
 
 unfoldable pub number_at : List ℕ → ℕ → Number
 number_at sample at = number_from 0 at (drop at sample)

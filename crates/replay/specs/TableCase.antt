@@ -3,7 +3,7 @@
 -- is a word of the first table, the value that it is set to, and what is then to be answered: whether the table is sound
 -- (1 or 0), status and value of its depth and of its verdict, whether it equals the other (1 or 0), and the name and the
 -- zone of the row that has the word.
-use Rattle.std.specs.Prelude.{Option, Some, None, Bool, ◌&&◌, List, ℕ, suc, ◌*◌, ◌/◌, min, drop, set, eqb}
+use Rattle.std.specs.Prelude.{Option, Some, None, Bool, ◌&&◌, List, ℕ, suc, ◌*◌, ◌/◌, min, drop, set, nat_eq}
 use Rattle.tokenizer.specs.Text.{same}
 use Rattle.tokenizer.specs.Answer.{Out, refused, done}
 use Rattle.datatype.specs.Tree.{label_of}
@@ -59,14 +59,14 @@ verdict_value (done None) = 0
 verdict_value (done (Some i)) = suc i
 
 unfoldable pub is_verdict : Out (Option ℕ) → ℕ → ℕ → Bool
-is_verdict answer status value = eqb (status_of answer) status && eqb (verdict_value answer) value
+is_verdict answer status value = nat_eq (status_of answer) status && nat_eq (verdict_value answer) value
 
 -- A table is sound or not, and has the depth and the verdict, as a case says.
 unfoldable pub tree_alike : List ℕ → List ℕ → List ℕ → TableCase → Bool
 tree_alike text names words case =
-    eqb (flag (is_sound text names words)) case.sound
-    && eqb (status_of (depth_of text names words)) case.depth.status
-    && eqb (value_of (depth_of text names words)) case.depth.value
+    nat_eq (flag (is_sound text names words)) case.sound
+    && nat_eq (status_of (depth_of text names words)) case.depth.status
+    && nat_eq (value_of (depth_of text names words)) case.depth.value
     && is_verdict (verdict_of text names words) case.verdict.status case.verdict.value
 
 -- The row that has the word has this name and this zone.
@@ -82,7 +82,7 @@ change_alike sample table words other others case =
     let names = bytes_of sample table.names in
     tree_alike text names words case
     && row_alike text names words case.place (bytes_of sample case.name) (bytes_of sample case.zone)
-    && eqb (flag (equal_trees text names (bytes_of sample other.text) (bytes_of sample other.names) words others)) case.equal
+    && nat_eq (flag (equal_trees text names (bytes_of sample other.text) (bytes_of sample other.names) words others)) case.equal
 
 -- ---- all of them
 

@@ -1,5 +1,5 @@
 // Replaying the samples of the printer.
-ghost use Rattle.std.specs.Prelude.{◌≡◌, length, eqb};
+ghost use Rattle.std.specs.Prelude.{◌≡◌, length, nat_eq};
 ghost use Rattle.tokenizer.specs.Text.{all};
 ghost use Rattle.tokenizer.specs.Answer.{answer_of};
 ghost use Rattle.replay.specs.Sample.{most_words, most_bytes};
@@ -48,7 +48,7 @@ fn is_answer(answer: Result<usize, Refusal>, status: u32, value: u32) -> bool
 
 // Whether all bytes have a value.
 fn all_are(bytes: &[u8], value: u8) -> bool
-    ensures { result ≡ all (eqb value) bytes.now }
+    ensures { result ≡ all (nat_eq value) bytes.now }
 {
     bytes.iter().all(|b| value == *b)
 }

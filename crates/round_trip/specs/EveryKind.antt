@@ -1,6 +1,6 @@
 -- Demand 3's conditions can be met, by computation: the characters that they allow are the 314 that the demand says, and a
 -- tree that has every one of the 41 kinds, and names and a zone of all these characters, meets them.
-use Rattle.std.specs.Prelude.{◌≡◌, refl, Bool, true, false, ◌&&◌, ◌||◌, List, [], ◌∷◌, ◌++◌, ℕ, zero, suc, length, eqb, if◌then◌else◌}
+use Rattle.std.specs.Prelude.{◌≡◌, refl, Bool, true, false, ◌&&◌, ◌||◌, List, [], ◌∷◌, ◌++◌, ℕ, zero, suc, length, nat_eq, if◌then◌else◌}
 use Prim.Native.Char.{code}
 use Prim.Native.String.{String}
 use Prim.Native.String as S
@@ -84,7 +84,7 @@ conditions_met Micro = refl
 -- Every kind from 0 to 40 stands in it.
 abbrev pub has_kind : ℕ → Forest Row → Bool
 has_kind k ∅ = false
-has_kind k (node r kids next) = eqb r.kind k || has_kind k kids || has_kind k next
+has_kind k (node r kids next) = nat_eq r.kind k || has_kind k kids || has_kind k next
 
 abbrev pub has_kinds_below : ℕ → Forest Row → Bool
 has_kinds_below zero f = true

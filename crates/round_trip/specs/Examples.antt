@@ -1,6 +1,6 @@
 -- Texts to try (document 01): those marked P, and some more, given by the definitions with 1,024 rows and 16,384 output
 -- bytes lent.
-use Rattle.std.specs.Prelude.{◌≡◌, refl, Bool, true, false, ◌&&◌, List, [], ◌∷◌, ℕ, eqb}
+use Rattle.std.specs.Prelude.{◌≡◌, refl, Bool, true, false, ◌&&◌, List, [], ◌∷◌, ℕ, nat_eq}
 use Prim.Native.String.{String}
 use Rattle.tokenizer.specs.Text.{bytes, same}
 use Rattle.tokenizer.specs.Answer.{Out, refused, done}
@@ -39,16 +39,16 @@ prints_as (done t) s = same t s
 
 -- The printer refuses with this number.
 abbrev pub refuses_with : Out (List ℕ) → ℕ → Bool
-refuses_with (refused r) n = eqb r.number n
+refuses_with (refused r) n = nat_eq r.number n
 refuses_with (done t) n = false
 
 abbrev pub meets : List ℕ → Out (Forest Row) → Expected → Bool
 meets text (refused r) (rows n) = false
-meets text (refused r) (refusal n) = eqb r.number n
+meets text (refused r) (refusal n) = nat_eq r.number n
 meets text (refused r) (prints s) = false
 meets text (refused r) (prints_in spelling s) = false
 meets text (refused r) (unprintable n) = false
-meets text (done f) (rows n) = eqb (count f) n
+meets text (done f) (rows n) = nat_eq (count f) n
 meets text (done f) (refusal n) = false
 meets text (done f) (prints s) = prints_as (print default_spelling text name_list (table_of f) max_text) (bytes s)
 meets text (done f) (prints_in spelling s) = prints_as (print spelling text name_list (table_of f) max_text) (bytes s)

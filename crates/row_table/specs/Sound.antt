@@ -1,5 +1,5 @@
 -- Sound trees, clause by clause (document 01, 'The row table'), and the depth of one.
-use Rattle.std.specs.Prelude.{Bool, true, false, ◌&&◌, ◌||◌, List, [], ◌∷◌, map, ℕ, zero, suc, ◌+◌, ◌^◌, length, leb, ltb, eqb, if◌then◌else◌}
+use Rattle.std.specs.Prelude.{Bool, true, false, ◌&&◌, ◌||◌, List, [], ◌∷◌, map, ℕ, zero, suc, ◌+◌, ◌^◌, length, nat_le, nat_lt, nat_eq, if◌then◌else◌}
 use Rattle.std.proofs.Math.Option.{Option, none, some}
 use Rattle.tokenizer.specs.Text.{same, is_empty}
 use Rattle.tokenizer.specs.Answer.{Out, done, refuse}
@@ -34,15 +34,15 @@ pub data Standing : Type 0 where
 
 -- The role: 0 for a bare row, 1 or 2 for a field.
 unfoldable pub role_fits : Standing → ℕ → Bool
-role_fits bare role = eqb role 0
-role_fits field role = eqb role 1 || eqb role 2
-role_fits union_field role = eqb role 1 || eqb role 2
+role_fits bare role = nat_eq role 0
+role_fits field role = nat_eq role 1 || nat_eq role 2
+role_fits union_field role = nat_eq role 1 || nat_eq role 2
 
 -- The union id: 0 to 127 for a field of a union, else unused.
 unfoldable pub id_fits : Standing → ℕ → Bool
-id_fits bare id = eqb id 0
-id_fits field id = eqb id 0
-id_fits union_field id = ltb id 128
+id_fits bare id = nat_eq id 0
+id_fits field id = nat_eq id 0
+id_fits union_field id = nat_lt id 128
 
 -- A field's name is not empty and is UTF-8; a bare row has none.
 abbrev pub is_name : List ℕ → Bool
@@ -95,40 +95,33 @@ ids_of ls = map (λ l. l.union_id) ls
 -- Map's child is a non-null Struct of two whose first is non-null.
 abbrev pub entries_fit : Forest Label → Bool
 entries_fit ∅ = false
-entries_fit (node l kids next) = eqb (entries_refusal l.role l.kind (roles_of (roots kids))) 0
+entries_fit (node l kids next) = nat_eq (entries_refusal l.role l.kind (roles_of (roots kids))) 0
 
 -- Run ends are non-null.
 abbrev pub run_ends_fit : Forest Label → Bool
 run_ends_fit ∅ = false
-run_ends_fit (node l kids next) = eqb l.role 2
+run_ends_fit (node l kids next) = nat_eq l.role 2
 
 -- What some shapes ask besides: the units of Time32 and Time64, the decimals' numbers, union ids that are distinct
 -- among siblings, Map's child, run ends.
 unfoldable pub shape_fits : Shape → Label → Forest Label → Bool
-shape_fits leaf l kids = true
-shape_fits timestamp l kids = true
 shape_fits time l kids = unit_fits l.kind l.number
-shape_fits interval l kids = true
-shape_fits fixed l kids = true
-shape_fits list l kids = true
-shape_fits fixed_list l kids = true
-shape_fits struct l kids = true
 shape_fits union l kids = ids_fit (ids_of (roots kids))
-shape_fits dictionary l kids = true
 shape_fits decimal l kids = decimal_fits l.kind l.number l.scale
 shape_fits mapping l kids = entries_fit kids
 shape_fits run_end_encoded l kids = run_ends_fit kids
+shape_fits _ l kids = true
 
 -- One row, by its standing, over its children.
 unfoldable pub row_fits : Standing → Label → Forest Label → Bool
 row_fits standing l kids =
     let shape = shape_of l.kind in
-    ltb l.kind kinds
+    nat_lt l.kind kinds
     && arity_fits (rules_of shape).children (length (roots kids))
     && role_fits standing l.role
     && id_fits standing l.union_id
-    && ltb l.number (rules_of shape).params
-    && ltb l.scale (rules_of shape).scales
+    && nat_lt l.number (rules_of shape).params
+    && nat_lt l.scale (rules_of shape).scales
     && name_fits standing l.name
     && zone_fits (rules_of shape).zoned l.zone
     && shape_fits shape l kids
@@ -142,18 +135,18 @@ rows_fit standing (node l kids next) = row_fits standing l kids && rows_fit (rul
 
 -- The three parts of the name list that a name may be.
 abbrev pub is_listed : ℕ → ℕ → Bool
-is_listed start size = (eqb start 0 && eqb size 4) || (eqb start 4 && eqb size 8) || (eqb start 12 && eqb size 6)
+is_listed start size = (nat_eq start 0 && nat_eq size 4) || (nat_eq start 4 && nat_eq size 8) || (nat_eq start 12 && nat_eq size 6)
 
 -- A bare row has home 0, and start and length unused. A field has home 1, a name of one byte or more inside the text,
 -- or home 2 and one of the three parts.
 unfoldable pub name_placed : List ℕ → Row → Bool
 name_placed text r =
-    if eqb r.role 0 then eqb r.home 0 && eqb r.name_start 0 && eqb r.name_length 0
-    else ((eqb r.home 1 && leb 1 r.name_length && leb (r.name_start + r.name_length) (length text)) || (eqb r.home 2 && is_listed r.name_start r.name_length))
+    if nat_eq r.role 0 then nat_eq r.home 0 && nat_eq r.name_start 0 && nat_eq r.name_length 0
+    else ((nat_eq r.home 1 && nat_le 1 r.name_length && nat_le (r.name_start + r.name_length) (length text)) || (nat_eq r.home 2 && is_listed r.name_start r.name_length))
 
 -- A zone lies inside the text; with length 0 there is none, and its start is 0.
 unfoldable pub zone_placed : List ℕ → Row → Bool
-zone_placed text r = if eqb r.zone_length 0 then eqb r.zone_start 0 else leb (r.zone_start + r.zone_length) (length text)
+zone_placed text r = if nat_eq r.zone_length 0 then nat_eq r.zone_start 0 else nat_le (r.zone_start + r.zone_length) (length text)
 
 unfoldable pub placed : List ℕ → Forest Row → Bool
 placed text ∅ = true
@@ -166,11 +159,11 @@ placed text (node r kids next) = name_placed text r && zone_placed text r && pla
 unfoldable pub view_sound : List ℕ → List ℕ → Option (Forest Row) → Bool
 view_sound text names none = false
 view_sound text names (some f) =
-    eqb (length (roots f)) 1 && leb (count f) max_rows && leb (depth f) max_levels && placed text f && rows_fit bare (labels text names f) && parents_right 0 0 f
+    nat_eq (length (roots f)) 1 && nat_le (count f) max_rows && nat_le (depth f) max_levels && placed text f && rows_fit bare (labels text names f) && parents_right 0 0 f
 
 -- Whether text, name list and row words are a sound tree.
 unfoldable pub is_sound : List ℕ → List ℕ → List ℕ → Bool
-is_sound text names table = leb (length text) max_text && is_utf8 text && same names name_list && view_sound text names (view_of table)
+is_sound text names table = nat_le (length text) max_text && is_utf8 text && same names name_list && view_sound text names (view_of table)
 
 -- ---- its depth, else 17
 

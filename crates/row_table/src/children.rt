@@ -1,5 +1,5 @@
 // What a kind asks of its children: how many there are, and what some shapes ask besides.
-ghost use Rattle.std.specs.Prelude.{◌≡◌, ◌-◌, ◌*◌, ◌≤◌, ◌<◌, true, length, eqb};
+ghost use Rattle.std.specs.Prelude.{◌≡◌, ◌-◌, ◌*◌, ◌≤◌, ◌<◌, true, length, nat_eq};
 ghost use Rattle.datatype.specs.Table.{row_words};
 ghost use Rattle.datatype.specs.Tree.{∅, roots};
 ghost use Rattle.subtrees.specs.Internal.Run.{is_run, run_at};
@@ -56,7 +56,7 @@ impl Children<'_> {
     // Whether there is one child.
     #[tactic(auto, using(crate::proofs::ChildLaws::counts))]
     fn is_one(self) -> bool
-        ensures { result ≡ eqb (length (roots (trees self.entry.run.rows.now self.entry.run.start self.entry.run.end))) 1 }
+        ensures { result ≡ nat_eq (length (roots (trees self.entry.run.rows.now self.entry.run.start self.entry.run.end))) 1 }
     {
         let run = self.run;
         run.start < run.end && run.start + run.first_row().subtree() == run.end
@@ -65,7 +65,7 @@ impl Children<'_> {
     // Whether there are two children: they are whole trees, which `subtrees` cannot say of the rows that it asks it of.
     #[tactic(auto, using(crate::proofs::ChildLaws::counts))]
     fn are_two(self) -> bool
-        ensures { result ≡ eqb (length (roots (trees self.entry.run.rows.now self.entry.run.start self.entry.run.end))) 2 }
+        ensures { result ≡ nat_eq (length (roots (trees self.entry.run.rows.now self.entry.run.start self.entry.run.end))) 2 }
     {
         let Run { rows, start, end } = self.run;
         if start == end {

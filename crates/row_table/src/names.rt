@@ -1,5 +1,5 @@
 // Where names and zones stand: in the name list, or in the text, where they cut no character.
-ghost use Rattle.std.specs.Prelude.{◌≡◌, ◌&&◌, ◌||◌, eqb};
+ghost use Rattle.std.specs.Prelude.{◌≡◌, ◌&&◌, ◌||◌, nat_eq};
 ghost use Rattle.tokenizer.specs.Text.{same};
 ghost use Rattle.datatype.specs.Kind.{shape_of};
 ghost use Rattle.datatype.specs.Tree.{name_list};
@@ -20,7 +20,7 @@ pub(crate) fn is_name_list(names: &[u8]) -> bool
 
 // Whether a name is one of the three default names, by the part of the name list that it is.
 fn is_listed(name: Field) -> bool
-    ensures { result ≡ (eqb name.home 2 && is_listed name.start name.size) }
+    ensures { result ≡ (nat_eq name.home 2 && is_listed name.start name.size) }
 {
     matches!(
         name,
@@ -30,7 +30,7 @@ fn is_listed(name: Field) -> bool
 
 // Whether a bare row has neither role nor name.
 fn is_bare(role: u32, name: Field) -> bool
-    ensures { result ≡ (eqb role 0 && eqb name.home 0 && eqb name.start 0 && eqb name.size 0) }
+    ensures { result ≡ (nat_eq role 0 && nat_eq name.home 0 && nat_eq name.start 0 && nat_eq name.size 0) }
 {
     role == 0 && name.home == 0 && name.start == 0 && name.size == 0
 }
@@ -47,7 +47,7 @@ fn part_fits(text: &str, start: u32, size: u32) -> bool
 
 // Whether a name stands in the text, where it fits, or in the name list, as one of the three default names.
 fn is_named(text: &str, name: Field) -> bool
-    ensures { result ≡ (eqb name.home 1 && part_fits text.now name.start name.size || eqb name.home 2 && is_listed name.start name.size) }
+    ensures { result ≡ (nat_eq name.home 1 && part_fits text.now name.start name.size || nat_eq name.home 2 && is_listed name.start name.size) }
 {
     match name.home {
         Field::IN_TEXT => part_fits(text, name.start, name.size),

@@ -1,5 +1,5 @@
 -- Map's entries (document 01, 'The row table'), as a row of any table with its subtree.
-use Rattle.std.specs.Prelude.{List, [], ℕ, ◌+◌, ◌*◌, ◌-◌, length, get_or, leb, if◌then◌else◌}
+use Rattle.std.specs.Prelude.{List, [], ℕ, ◌+◌, ◌*◌, ◌-◌, length, get_or, nat_le, if◌then◌else◌}
 use Rattle.std.specs.declared.result.Result.{Result}
 use Rattle.std.specs.declared.result.Result.TheVariants.{Ok, Err}
 use Rattle.std.proofs.Math.Option.{Option, none, some}
@@ -26,4 +26,4 @@ refused_with (Err e) = number_of e
 unfoldable pub entries_refusal_at : List ℕ → ℕ → ℕ
 entries_refusal_at table i =
     let refusal = entries_refusal (get_or table (row_words * i + 2) 0) (get_or table (row_words * i + 0) 0) (field_roles table i) in
-    if leb (row_words * (i + 1)) (length table) then refusal else 14
+    if nat_le (row_words * (i + 1)) (length table) then refusal else 14

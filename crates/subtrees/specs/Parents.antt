@@ -1,6 +1,6 @@
 -- Parents of rows (document 02, 'Rows that know their parent'): word 11 of a row is its parent's row number, 0 for the
 -- root.
-use Rattle.std.specs.Prelude.{Bool, true, ◌&&◌, List, [], ◌∷◌, ◌++◌, ℕ, zero, suc, ◌+◌, ◌*◌, ◌/◌, length, set, ltb, eqb, if◌then◌else◌}
+use Rattle.std.specs.Prelude.{Bool, true, ◌&&◌, List, [], ◌∷◌, ◌++◌, ℕ, zero, suc, ◌+◌, ◌*◌, ◌/◌, length, set, nat_lt, nat_eq, if◌then◌else◌}
 use Rattle.datatype.specs.Tree.{Forest, ∅, node, count, Row}
 use Rattle.datatype.specs.Table.{row_words, table_of, rows_lent, rows_at, parent_word_at}
 
@@ -51,7 +51,7 @@ table_with f = table_of (parented f)
 -- A run has its parents right: soundness asks it of a tree.
 unfoldable pub parents_right : ℕ → ℕ → Forest Row → Bool
 parents_right p i ∅ = true
-parents_right p i (node r kids next) = eqb r.parent p && parents_right i (suc i) kids && parents_right p (i + suc (count kids)) next
+parents_right p i (node r kids next) = nat_eq r.parent p && parents_right i (suc i) kids && parents_right p (i + suc (count kids)) next
 
 -- ---- of any table
 
@@ -60,7 +60,7 @@ unfoldable pub holder : List ℕ → ℕ → ℕ → ℕ
 holder table i zero = 0
 holder table i (suc p) =
     let before = holder table i p in
-    if ltb i (p + rows_at table p) then p else before
+    if nat_lt i (p + rows_at table p) then p else before
 
 -- The parent of row i: the last row before it whose subtree holds it; 0 for the root.
 abbrev pub parent_at : List ℕ → ℕ → ℕ
@@ -78,7 +78,7 @@ with_parents table = parents_set table (rows_lent (length table))
 -- Whether n rows from row i on have their parents.
 unfoldable pub fit_from : List ℕ → ℕ → ℕ → Bool
 fit_from table i zero = true
-fit_from table i (suc n) = eqb (parent_word_at table i) (parent_at table i) && fit_from table (suc i) n
+fit_from table i (suc n) = nat_eq (parent_word_at table i) (parent_at table i) && fit_from table (suc i) n
 
 -- Whether each whole row of a table has its parent.
 unfoldable pub parents_fit : List ℕ → Bool

@@ -1,5 +1,5 @@
 // Map's entries: a non-null Struct of two fields, the first of them, the key, non-null.
-ghost use Rattle.std.specs.Prelude.{◌≡◌, length, eqb};
+ghost use Rattle.std.specs.Prelude.{◌≡◌, length, nat_eq};
 ghost use Rattle.subtrees.specs.MapEntries.{listed, refused_with, entries_refusal_at};
 ghost use Rattle.subtrees.specs.Internal.Beside.{behind_at, beside};
 
@@ -28,7 +28,7 @@ fn behind(rows: &[u32], at: usize, end: usize) -> Option<usize>
 // nothing is known.
 #[tactic(auto, using(crate::proofs::SiblingLaws::beside_steps), unfolding(crate::specs::Internal::Beside::behind_at))]
 fn are_two(rows: &[u32], first: usize, end: usize) -> bool
-    ensures { result ≡ eqb (length (listed (beside 2 rows.now first end))) 2 }
+    ensures { result ≡ nat_eq (length (listed (beside 2 rows.now first end))) 2 }
 {
     let Some(second) = behind(rows, first, end) else {
         return false;

@@ -1,5 +1,5 @@
 -- The tokens of a text, as they are read one behind another, and how many they are.
-use Rattle.std.specs.Prelude.{Bool, not, List, [], ◌∷◌, ℕ, zero, suc, length, eqb, if◌then◌else◌}
+use Rattle.std.specs.Prelude.{Bool, not, List, [], ◌∷◌, ℕ, zero, suc, length, nat_eq, if◌then◌else◌}
 use Rattle.tokenizer.specs.Answer.{Out, number_of}
 use Rattle.tokenizer.specs.Token.{Standing, token_at, sort_of, value_of, no_token}
 use Rattle.tokenizer.specs.declared.TokenKind.{TokenKind}
@@ -7,7 +7,7 @@ use Rattle.token_stream.specs.declared.TokenCount.{TokenCount}
 
 -- A token is read: the text does not end there, and the token is not broken.
 abbrev pub is_read : Out TokenKind → Bool
-is_read k = not (eqb (sort_of k) no_token)
+is_read k = not (nat_eq (sort_of k) no_token)
 
 -- The tokens from a place on, up to the first that is not read; `most` of them at most.
 unfoldable pub tokens_from : List ℕ → ℕ → ℕ → List Standing

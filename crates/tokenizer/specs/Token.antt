@@ -1,5 +1,5 @@
 -- Tokens (document 01, 'Tokens').
-use Rattle.std.specs.Prelude.{Bool, true, false, not, ℤ, pos, negsuc, neg_ℤ, nat_abs, ◌&&◌, ◌||◌, List, [], ◌∷◌, ℕ, zero, suc, ◌+◌, ◌*◌, ◌-◌, ◌^◌, length, drop, leb, eqb, if◌then◌else◌}
+use Rattle.std.specs.Prelude.{Bool, true, false, not, ℤ, pos, negsuc, neg_ℤ, nat_abs, ◌&&◌, ◌||◌, List, [], ◌∷◌, ℕ, zero, suc, ◌+◌, ◌*◌, ◌-◌, ◌^◌, length, drop, nat_le, nat_eq, if◌then◌else◌}
 use Rattle.std.proofs.Math.Option.{Option, none, some, map}
 use Rattle.tokenizer.specs.Text.{all}
 use Rattle.tokenizer.specs.Answer.{Out, refused, done, refuse, ◌>>=◌}
@@ -149,7 +149,7 @@ token_or_refusal s = s.kind >>= λ k. done (record { kind = k; start = s.start; 
 
 -- Its place: its first byte, of a quoted string the opening mark (document 02, [2]).
 abbrev pub is_string : Out TokenKind → Bool
-is_string k = eqb (sort_of k) double_quoted || eqb (sort_of k) single_quoted
+is_string k = nat_eq (sort_of k) double_quoted || nat_eq (sort_of k) single_quoted
 
 abbrev pub place_of : Out TokenKind → ℕ → ℕ
 place_of k start = if is_string k then start - 1 else start
@@ -158,7 +158,7 @@ place_of k start = if is_string k then start - 1 else start
 
 -- What ends a word: one of the four marks, or a space.
 unfoldable pub is_separator : ℕ → Bool
-is_separator c = eqb c 40 || eqb c 41 || eqb c 44 || eqb c 58 || eqb c 32
+is_separator c = nat_eq c 40 || nat_eq c 41 || nat_eq c 44 || nat_eq c 58 || nat_eq c 32
 
 -- The word that a text begins with.
 unfoldable pub word_of : List ℕ → List ℕ
@@ -166,7 +166,7 @@ word_of [] = []
 word_of (c ∷ s) = let more = c ∷ word_of s in if is_separator c then [] else more
 
 unfoldable pub is_digit : ℕ → Bool
-is_digit c = leb 48 c && leb c 57
+is_digit c = nat_le 48 c && nat_le c 57
 
 -- The number that decimal digits spell, behind a number v that was spelled before them.
 unfoldable pub number_from : ℕ → List ℕ → ℕ
@@ -176,7 +176,7 @@ number_from v (c ∷ s) = number_from (v * 10 + (c - 48)) s
 -- A number of signed 64 bits: its sign and its digits, of which there is one at least.
 abbrev pub is_number : Bool → List ℕ → Bool
 is_number negative [] = false
-is_number negative (d ∷ ds) = all is_digit (d ∷ ds) && leb (number_from 0 (d ∷ ds)) (if negative then 2 ^ 63 else (2 ^ 63 - 1))
+is_number negative (d ∷ ds) = all is_digit (d ∷ ds) && nat_le (number_from 0 (d ∷ ds)) (if negative then 2 ^ 63 else (2 ^ 63 - 1))
 
 -- A number with its sign: -0 is 0.
 abbrev pub signed : Bool → ℕ → ℤ
@@ -190,20 +190,20 @@ unfoldable pub word_kind : List ℕ → Out TokenKind
 word_kind [] = refuse 8
 word_kind (c ∷ w) =
     let word = find (c ∷ w) words in
-    if eqb c 45 then number_kind true w else if is_digit c then number_kind false (c ∷ w) else word
+    if nat_eq c 45 then number_kind true w else if is_digit c then number_kind false (c ∷ w) else word
 
 -- ---- quoted strings
 
 -- The escape behind a byte: a backslash sets it, and only the mark clears it.
 abbrev pub escaped_after : ℕ → Bool → ℕ → Bool
-escaped_after quote escaped c = if eqb c 92 then true else if eqb c quote then false else escaped
+escaped_after quote escaped c = if nat_eq c 92 then true else if nat_eq c quote then false else escaped
 
 -- How many bytes stand before the mark that ends the string, if one does.
 unfoldable pub until_quote : ℕ → Bool → List ℕ → Option ℕ
 until_quote quote escaped [] = none
 until_quote quote escaped (c ∷ s) =
     let more = map suc (until_quote quote (escaped_after quote escaped c) s) in
-    if eqb c quote && not escaped then some 0 else more
+    if nat_eq c quote && not escaped then some 0 else more
 
 -- A string whose opening mark stands at a place: none where it never ends (6) or is empty (7).
 abbrev pub string_token : TokenKind → ℕ → Option ℕ → Standing
@@ -221,13 +221,13 @@ token_from at (c ∷ s) =
     let double = string_token DoubleQuotedString at (until_quote 34 false s) in
     let single = string_token SingleQuotedString at (until_quote 39 false s) in
     let word = token (word_kind (word_of (c ∷ s))) at (length (word_of (c ∷ s))) in
-    if eqb c 32 then skipped
-    else if eqb c 40 then token (done LParen) at 1
-    else if eqb c 41 then token (done RParen) at 1
-    else if eqb c 44 then token (done Comma) at 1
-    else if eqb c 58 then token (done Colon) at 1
-    else if eqb c 34 then double
-    else if eqb c 39 then single
+    if nat_eq c 32 then skipped
+    else if nat_eq c 40 then token (done LParen) at 1
+    else if nat_eq c 41 then token (done RParen) at 1
+    else if nat_eq c 44 then token (done Comma) at 1
+    else if nat_eq c 58 then token (done Colon) at 1
+    else if nat_eq c 34 then double
+    else if nat_eq c 39 then single
     else word
 
 unfoldable pub token_at : List ℕ → ℕ → Standing

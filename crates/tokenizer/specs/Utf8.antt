@@ -1,6 +1,6 @@
 -- UTF-8 as a Rust `&str` has it: no surrogates, no overlong forms, nothing above U+10FFFF.
 -- An automaton over the bytes, so that what is UTF-8 in two parts is UTF-8 when they are joined.
-use Rattle.std.specs.Prelude.{Bool, ◌&&◌, List, [], ◌∷◌, ℕ, leb, ltb, eqb, if◌then◌else◌}
+use Rattle.std.specs.Prelude.{Bool, ◌&&◌, List, [], ◌∷◌, ℕ, nat_le, nat_lt, nat_eq, if◌then◌else◌}
 
 -- The states: between characters; one, two or three more bytes of any value; the byte behind E0, ED, F0 or F4, whose
 -- range is narrower; and no UTF-8 any more.
@@ -34,32 +34,32 @@ broken = 8
 -- The state behind a character's first byte.
 abbrev pub first_byte : ℕ → ℕ
 first_byte b =
-    if ltb b 0x80 then between
-    else if ltb b 0xC2 then broken
-    else if ltb b 0xE0 then one_more
-    else if eqb b 0xE0 then after_e0
-    else if eqb b 0xED then after_eD
-    else if ltb b 0xF0 then two_more
-    else if eqb b 0xF0 then after_f0
-    else if ltb b 0xF4 then three_more
-    else if eqb b 0xF4 then after_f4
+    if nat_lt b 0x80 then between
+    else if nat_lt b 0xC2 then broken
+    else if nat_lt b 0xE0 then one_more
+    else if nat_eq b 0xE0 then after_e0
+    else if nat_eq b 0xED then after_eD
+    else if nat_lt b 0xF0 then two_more
+    else if nat_eq b 0xF0 then after_f0
+    else if nat_lt b 0xF4 then three_more
+    else if nat_eq b 0xF4 then after_f4
     else broken
 
 -- A further byte from lo to hi leads to the state q.
 abbrev pub further : ℕ → ℕ → ℕ → ℕ → ℕ
-further lo hi b q = if leb lo b && leb b hi then q else broken
+further lo hi b q = if nat_le lo b && nat_le b hi then q else broken
 
 -- The state behind one byte.
 unfoldable pub utf8_step : ℕ → ℕ → ℕ
 utf8_step q b =
-    if eqb q between then first_byte b
-    else if eqb q one_more then further 0x80 0xBF b between
-    else if eqb q two_more then further 0x80 0xBF b one_more
-    else if eqb q three_more then further 0x80 0xBF b two_more
-    else if eqb q after_e0 then further 0xA0 0xBF b one_more
-    else if eqb q after_eD then further 0x80 0x9F b one_more
-    else if eqb q after_f0 then further 0x90 0xBF b two_more
-    else if eqb q after_f4 then further 0x80 0x8F b two_more
+    if nat_eq q between then first_byte b
+    else if nat_eq q one_more then further 0x80 0xBF b between
+    else if nat_eq q two_more then further 0x80 0xBF b one_more
+    else if nat_eq q three_more then further 0x80 0xBF b two_more
+    else if nat_eq q after_e0 then further 0xA0 0xBF b one_more
+    else if nat_eq q after_eD then further 0x80 0x9F b one_more
+    else if nat_eq q after_f0 then further 0x90 0xBF b two_more
+    else if nat_eq q after_f4 then further 0x80 0x8F b two_more
     else broken
 
 -- The state behind a list of bytes.
@@ -69,4 +69,4 @@ utf8_state q (b ∷ s) = utf8_state (utf8_step q b) s
 
 -- A list of bytes is UTF-8.
 unfoldable pub is_utf8 : List ℕ → Bool
-is_utf8 s = eqb (utf8_state between s) between
+is_utf8 s = nat_eq (utf8_state between s) between

@@ -1,6 +1,6 @@
 -- What the printer's private functions promise; nothing here has to be believed, since no public function's contract
 -- cites it.
-use Rattle.std.specs.Prelude.{◌≡◌, Bool, true, false, not, ◌&&◌, ◌||◌, List, [], ◌∷◌, ◌++◌, ℕ, ◌+◌, ◌≤◌, ◌<◌, length, take, drop, leb, ltb, eqb, if◌then◌else◌}
+use Rattle.std.specs.Prelude.{◌≡◌, Bool, true, false, not, ◌&&◌, ◌||◌, List, [], ◌∷◌, ◌++◌, ℕ, ◌+◌, ◌≤◌, ◌<◌, length, take, drop, nat_le, nat_lt, nat_eq, if◌then◌else◌}
 use Rattle.std.proofs.lemmas.List.Edits.{sets}
 use Rattle.tokenizer.specs.Text.{bytes}
 use Rattle.datatype.specs.Kind.{Shape}
@@ -31,7 +31,7 @@ pub record Wrote (before : Printer) (s : List ℕ) (after : Printer) : Type 0 wh
 
 -- A byte that is not escaped between double quotes, where it is not behind C2.
 unfoldable pub is_shown : ℕ → Bool
-is_shown c = leb 32 c && not (eqb c 34) && not (eqb c 92) && not (eqb c 127)
+is_shown c = nat_le 32 c && not (nat_eq c 34) && not (nat_eq c 92) && not (nat_eq c 127)
 
 abbrev pub no_lead : ℕ → Bool
 no_lead c = not (is_lead c)
@@ -50,12 +50,12 @@ pub record Ran (before : List ℕ) (at : ℕ) (s : List ℕ) (n : ℕ) (after : 
 
 -- No types stand below one of a kind.
 unfoldable pub is_alone : ℕ → Bool
-is_alone k = ltb k 27 || (leb 35 k && leb k 38)
+is_alone k = nat_lt k 27 || (nat_le 35 k && nat_le k 38)
 
 -- ---- parts of fields
 
 unfoldable pub nullability : ℕ → List ℕ
-nullability role = if eqb role 2 then bytes "non-null " else []
+nullability role = if nat_eq role 2 then bytes "non-null " else []
 
 -- A comma where a field follows.
 unfoldable pub comma : Bool → List ℕ

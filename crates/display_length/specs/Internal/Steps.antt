@@ -1,6 +1,6 @@
 -- What private functions of this crate promise; nothing here has to be believed, since no public function's contract
 -- cites it.
-use Rattle.std.specs.Prelude.{◌≡◌, Bool, true, false, not, ◌&&◌, ◌||◌, List, ℕ, ◌+◌, ◌-◌, ◌≤◌, length, T, leb, ltb, eqb, if◌then◌else◌}
+use Rattle.std.specs.Prelude.{◌≡◌, Bool, true, false, not, ◌&&◌, ◌||◌, List, ℕ, ◌+◌, ◌-◌, ◌≤◌, length, T, nat_le, nat_lt, nat_eq, if◌then◌else◌}
 use Rattle.tokenizer.specs.Text.{all}
 use Rattle.datatype.specs.Limits.{max_text}
 use Rattle.datatype.specs.Kind.{Shape, leaf, timestamp, time, interval, fixed, list, fixed_list, struct, union, dictionary, decimal, mapping, run_end_encoded, shape_of}
@@ -39,14 +39,14 @@ row_latin l kids = is_latin l.zone && (not (quotes_names (shape_of l.kind) kids)
 
 -- Latin bytes of which only the double quote is escaped.
 unfoldable pub is_clean : ℕ → Bool
-is_clean c = leb 32 c && not (eqb c 92) && not (eqb c 127) && not (is_lead c) && leb c 0xC5
+is_clean c = nat_le 32 c && not (nat_eq c 92) && not (nat_eq c 127) && not (is_lead c) && nat_le c 0xC5
 
 unfoldable pub is_no_mark : ℕ → Bool
-is_no_mark c = not (eqb c 34)
+is_no_mark c = not (nat_eq c 34)
 
 -- A byte's weight, at most C5 where it is clean.
 abbrev pub clean_weight : ℕ → ℕ
-clean_weight c = if ltb c 32 || eqb c 92 || eqb c 127 || is_lead c then 255 else c
+clean_weight c = if nat_lt c 32 || nat_eq c 92 || nat_eq c 127 || is_lead c then 255 else c
 
 -- Bytes no longer than a text, and clean ones where the code takes them to be.
 pub record Clean (clean : Bool) (s : List ℕ) : Type 0 where
@@ -67,14 +67,11 @@ behind_length spelling timestamp l = 2 + length (unit_text spelling l.number) + 
 behind_length spelling time l = 2 + length (unit_text spelling l.number)
 behind_length spelling interval l = 2 + length (interval_text l.number)
 behind_length spelling fixed l = 2 + length (digits l.number)
-behind_length spelling list l = 2
 behind_length spelling fixed_list l = 5 + length (digits l.number)
-behind_length spelling struct l = 2
 behind_length spelling union l = 2 + length (mode_text l.number)
-behind_length spelling dictionary l = 2
 behind_length spelling decimal l = 4 + length (digits l.number) + length (scale_text l.scale)
 behind_length spelling mapping l = 4 + length (sorted_text l.number)
-behind_length spelling run_end_encoded l = 2
+behind_length spelling _ l = 2
 
 unfoldable pub row_length : Spelling → Label → ℕ
 row_length spelling l = word_length l.kind + behind_length spelling (shape_of l.kind) l
@@ -85,7 +82,7 @@ comma_length true = 0
 comma_length false = 2
 
 unfoldable pub nullity_length : ℕ → ℕ
-nullity_length role = if eqb role 2 then 9 else 0
+nullity_length role = if nat_eq role 2 then 9 else 0
 
 -- A field without its type: its name, where names print in double quotes, and its nullability.
 unfoldable pub field_length : Bool → Label → ℕ
@@ -94,19 +91,14 @@ field_length false l = nullity_length l.role
 
 -- What stands around a child's type, by the parent's shape.
 unfoldable pub around_length : Shape → Bool → Bool → Label → ℕ
-around_length leaf quotes first l = 0
-around_length timestamp quotes first l = 0
-around_length time quotes first l = 0
-around_length interval quotes first l = 0
-around_length fixed quotes first l = 0
 around_length list quotes first l = nullity_length l.role + length (list_name_text l.name)
 around_length fixed_list quotes first l = nullity_length l.role + length (list_name_text l.name)
 around_length struct quotes first l = comma_length first + field_length quotes l
 around_length union quotes first l = 6 + length (digits l.union_id) + field_length quotes l
 around_length dictionary quotes first l = comma_length first
-around_length decimal quotes first l = 0
 around_length mapping quotes first l = field_length quotes l
 around_length run_end_encoded quotes first l = comma_length first + field_length quotes l
+around_length _ quotes first l = 0
 
 -- The types of a run of children, with what stands around them.
 unfoldable pub children_length : Spelling → Shape → Bool → Bool → Forest Label → ℕ

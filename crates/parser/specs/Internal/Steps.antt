@@ -1,6 +1,6 @@
 -- What the reader's own functions keep of an answer, and how answers and rows match the definitions. This is how the
 -- code finds its way; what must be believed is in Parse.antt.
-use Rattle.std.specs.Prelude.{◌≡◌, Option, Some, None, Result, Ok, Bool, ◌||◌, List, [], ◌∷◌, ◌++◌, ℕ, ℤ, ◌+◌, ◌*◌, ◌/◌, ◌≤◌, ◌<◌, length, drop, eqb, if◌then◌else◌}
+use Rattle.std.specs.Prelude.{◌≡◌, Option, Some, None, Result, Ok, Bool, ◌||◌, List, [], ◌∷◌, ◌++◌, ℕ, ℤ, ◌+◌, ◌*◌, ◌/◌, ◌≤◌, ◌<◌, length, drop, nat_eq, if◌then◌else◌}
 use Rattle.std.proofs.lemmas.List.Edits.{sets}
 use Rattle.tokenizer.specs.Answer.{Refusal, Out, refused, done, refuse_at}
 use Rattle.tokenizer.specs.Token.{Standing, token_or_refusal, place_of, value_of, is_negative, signed, lparen, rparen, comma, colon}
@@ -20,10 +20,10 @@ use Rattle.parser.specs.declared.rows.Head.{Head}
 
 -- The sort of a mark, and whether a byte is one.
 abbrev pub mark_sort : ℕ → ℕ
-mark_sort c = if eqb c 40 then lparen else if eqb c 41 then rparen else if eqb c 44 then comma else colon
+mark_sort c = if nat_eq c 40 then lparen else if nat_eq c 41 then rparen else if nat_eq c 44 then comma else colon
 
 abbrev pub is_mark : ℕ → Bool
-is_mark c = eqb c 40 || eqb c 41 || eqb c 44 || eqb c 58
+is_mark c = nat_eq c 40 || nat_eq c 41 || nat_eq c 44 || nat_eq c 58
 
 -- A token that is taken whatever its sort; what is none is refused at its place.
 abbrev pub placed : {A : Type 0} → ℕ → Out A → Out A

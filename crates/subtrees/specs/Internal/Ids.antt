@@ -1,6 +1,6 @@
 -- How the code finds union ids fresh, one after the other, by a bit for each that it met. Nothing here has to be
 -- believed, since no public function's contract cites it.
-use Rattle.std.specs.Prelude.{Bool, true, false, not, ◌&&◌, List, [], ◌∷◌, ℕ, ◌*◌, ◌/◌, ◌%◌, ◌^◌, ltb, eqb}
+use Rattle.std.specs.Prelude.{Bool, true, false, not, ◌&&◌, List, [], ◌∷◌, ℕ, ◌*◌, ◌/◌, ◌%◌, ◌^◌, nat_lt, nat_eq}
 use Rattle.std.specs.Int.RustNames.{bit_and, bit_or}
 use Rattle.std.proofs.Math.Option.{Option, none, some}
 use Rattle.subtrees.specs.Internal.Beside.{beside}
@@ -8,7 +8,7 @@ use Rattle.subtrees.specs.Internal.Beside.{beside}
 -- Ids from 0 to 127, each once, and none whose bit is set.
 unfoldable pub fresh_ids : ℕ → List ℕ → Bool
 fresh_ids seen [] = true
-fresh_ids seen (x ∷ xs) = ltb x 128 && not (eqb (bit_and (seen / 2 ^ x) 1) 1) && fresh_ids (bit_or seen (1 * 2 ^ x % 2 ^ 128)) xs
+fresh_ids seen (x ∷ xs) = nat_lt x 128 && not (nat_eq (bit_and (seen / 2 ^ x) 1) 1) && fresh_ids (bit_or seen (1 * 2 ^ x % 2 ^ 128)) xs
 
 abbrev pub all_fresh : ℕ → Option (List ℕ) → Bool
 all_fresh seen none = false
