@@ -3,7 +3,8 @@ use Rattle.std.specs.Prelude.{◌≡◌, refl, List, ℕ, length, None}
 use Rattle.tokenizer.specs.Text.{bytes}
 use Rattle.datatype_parse.specs.Internal.Computed as parser
 use Rattle.datatype_display.specs.Internal.Computed as printer
-use Rattle.answer_line.specs.Line.{line_answer, lines_of, output, line_answered}
+use Rattle.input_lines.specs.Lines.{lines_of}
+use Rattle.answer_line.specs.Line.{line_answer, output, line_answered}
 
 pub sample : output (bytes "Struct(\"slot\": non-null Timestamp(Second), \"kwh\": Decimal64(12, 3),)\nFixedSizeList(4, Int32)\nRunEndEncoded(Int32, Utf8)\n")
     ≡ bytes "ok 3 2 Struct(\"slot\": non-null Timestamp(s), \"kwh\": Decimal64(12, 3))\nok 2 2 FixedSizeList(4 x Int32)\nno 13 13\n"

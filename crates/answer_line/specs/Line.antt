@@ -1,5 +1,5 @@
 -- The line program (document 01, 'The line program').
-use Rattle.std.specs.Prelude.{Bool, ◌&&◌, List, [], ◌∷◌, ◌++◌, ℕ, suc, ◌+◌, ◌*◌, min, length, drop, nat_le, nat_eq, if◌then◌else◌, Option, Some, None}
+use Rattle.std.specs.Prelude.{Bool, ◌&&◌, List, [], ◌∷◌, ◌++◌, ℕ, ◌+◌, ◌*◌, length, drop, nat_le, if◌then◌else◌, Option, Some, None}
 use Rattle.tokenizer.specs.Text.{bytes}
 use Rattle.tokenizer.specs.Answer.{Refusal, Out, refused, done}
 use Rattle.datatype.specs.Limits.{max_text, max_rows}
@@ -8,6 +8,7 @@ use Rattle.datatype.specs.Table.{row_words, table_of}
 use Rattle.datatype_parse.specs.Parse.{parse, parse_rows}
 use Rattle.output.specs.Digits.{digits}
 use Rattle.datatype_display.specs.Print.{default_spelling, print}
+use Rattle.input_lines.specs.Lines.{lines_of}
 
 -- `no`, the number and, of a refusal of the reader, the place (document 02, [2]).
 abbrev pub place_text : Option ℕ → List ℕ
@@ -30,15 +31,6 @@ read_line text (done f) = ok_line f (print default_spelling text name_list (tabl
 -- What is printed for one line, whose newline is cut off.
 unfoldable pub line_answer : List ℕ → List ℕ
 line_answer text = read_line text (parse text max_rows)
-
--- The lines of the input: a last one without a newline counts unless it is empty.
-abbrev pub longer : ℕ → List (List ℕ) → List (List ℕ)
-longer c [] = (c ∷ []) ∷ []
-longer c (l ∷ ls) = (c ∷ l) ∷ ls
-
-unfoldable pub lines_of : List ℕ → List (List ℕ)
-lines_of [] = []
-lines_of (c ∷ s) = let rest = lines_of s in if nat_eq c 10 then [] ∷ rest else longer c rest
 
 -- What the program prints.
 abbrev pub answers : List (List ℕ) → List ℕ
@@ -75,14 +67,3 @@ unfoldable pub line_out : List ℕ → List ℕ → List ℕ → List ℕ
 line_out line rows out =
     let printed = line_answer line in
     if room_for rows out then printed ++ drop (length printed) out else out
-
--- ---- where a line ends
-
--- How many bytes stand before the first newline: all of them where there is none.
-unfoldable pub before_newline : List ℕ → ℕ
-before_newline [] = 0
-before_newline (c ∷ s) = let more = suc (before_newline s) in if nat_eq c 10 then 0 else more
-
--- Where the line that begins at a place ends: at the first newline there or behind it, else at the end of the input.
-unfoldable pub line_end : List ℕ → ℕ → ℕ
-line_end input from = min (from + before_newline (drop from input)) (length input)

@@ -4,7 +4,7 @@
 
 ghost use Rattle.std.specs.Prelude.{◌≡◌, ◌≤◌, length};
 ghost use Rattle.datatype_parse.specs.Parse.{parse_rows};
-ghost use Rattle.answer_line.specs.Line.{line_end, line_words, answer_bytes, line_answer, line_answered, line_rows, line_out};
+ghost use Rattle.answer_line.specs.Line.{line_words, answer_bytes, line_answer, line_answered, line_rows, line_out};
 ghost use Rattle.answer_line.specs.Internal.Steps.{Answers};
 
 mod tree;
@@ -17,17 +17,6 @@ pub const LINE_WORDS: usize = ROW_WORDS * MAX_ROWS;
 
 // The bytes that the longest answer takes: `ok 1024 64 `, a printed text of 16,384 bytes, and a newline.
 pub const ANSWER_BYTES: usize = 11 + MAX_TEXT + 1;
-
-// Where the line that begins at a place ends: at the first newline there or behind it, else at the end of the input.
-#[tactic(auto, unfolding(crate::specs::Line::line_end))]
-pub fn line_end(input: &[u8], from: usize) -> usize
-    ensures { result ≡ line_end input.now from }
-{
-    let Some(rest) = input.get(from..) else {
-        return input.len();
-    };
-    from + rest.iter().position(|c| *c == b'\n').unwrap_or(rest.len())
-}
 
 // The answer to a line, where there is room for every line's.
 #[tactic(auto, using(crate::proofs::Whole::reads), unfolding(crate::specs::Line::line_answer))]

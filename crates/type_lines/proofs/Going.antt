@@ -7,82 +7,19 @@ use mathlib.Core.List.{List, [], ◌∷◌, ◌++◌, append_assoc, append-nil}
 use Prim.Native.Nat.{ℕ, suc, ◌+◌, ◌-◌, ◌≤◌, ◌<◌}
 use native.Mathlib.Omega.{arith}
 use lib.ListN.{length, take, drop, length-append, length-drop, drop_of_length-le}
-use lib.Seq.{take-append-le, drop-append-le, take-append-add, drop-append-add, take_at, take_all, take-length, length-take-le, drop-drop, drop-length, drop_at}
-use lib.Dec.{eqb, leb}
+use lib.Seq.{take_at, take_all, take-length, length-take-le, drop-drop, drop_at}
+use lib.Dec.{leb}
 use borrow.Author.Tests.{le-leb}
-use Rattle.answer_line.specs.Line.{line_answer, line_words, lines_of, answers, output, before_newline, line_end, line_answered, line_out, answer_bytes}
-use Rattle.answer_line.proofs.Ends.{before_within, lines_some, long_line}
-use Rattle.type_lines.specs.Run.{output_from, printed_at, line_at, Inside, Behind, Wrote, Goes, Unfinished, Halts, Ends}
+use Rattle.input_lines.specs.Lines.{lines_of, before_newline}
+use Rattle.input_lines.specs.Ahead.{lines_ahead, lines_at, begins, skips, next_of, Comes}
+use Rattle.input_lines.specs.declared.Place.{Place}
+use Rattle.input_lines.specs.declared.NextLine.TheVariants.{Whole, Long, Unfinished as Partly}
+use Rattle.input_lines.proofs.Ends.{lines_some}
+use Rattle.input_lines.proofs.Coming.{came}
+use Rattle.answer_line.specs.Line.{line_answer, line_words, answers, output, line_answered, line_out, answer_bytes}
+use Rattle.answer_line.proofs.Ends.{long_line}
+use Rattle.type_lines.specs.Run.{output_from, printed_at, Inside, Behind, Wrote, Goes, Halts, Ends}
 use Rattle.type_lines.specs.declared.Progress.{Progress}
-
--- ---- newlines in what is read and in what follows
-
-module _ (rest : List ℕ) where
-  pub before-in : (s : List ℕ) → before_newline s < length s → before_newline (s ++ rest) ≡ before_newline s
-  unfolding before_newline
-  before-in [] h = absurd (omega arith)
-  before-in (c ∷ s) h = go (eqb c 10) (before-in s) h
-    where
-      go : (b : Bool) → (before_newline s < length s → before_newline (s ++ rest) ≡ before_newline s) → (if b then 0 else suc (before_newline s)) < suc (length s)
-          → (if b then 0 else suc (before_newline (s ++ rest))) ≡ (if b then 0 else suc (before_newline s))
-      go true f k = refl
-      go false f k = ap suc (f (omega arith))
-
-  pub before-past : (s : List ℕ) → before_newline s ≡ length s → before_newline (s ++ rest) ≡ length s + before_newline rest
-  unfolding before_newline
-  before-past [] h = omega arith
-  before-past (c ∷ s) h = go (eqb c 10) (before-past s) h
-    where
-      go : (b : Bool) → (before_newline s ≡ length s → before_newline (s ++ rest) ≡ length s + before_newline rest) → (if b then 0 else suc (before_newline s)) ≡ suc (length s)
-          → (if b then 0 else suc (before_newline (s ++ rest))) ≡ suc (length s) + before_newline rest
-      go true f k = absurd (omega arith)
-      go false f k = let e = f (omega arith) in omega arith
-
-  -- ---- what is printed for what is read and what follows
-
-  -- the first line is whole
-  pub whole-line : (s : List ℕ) → before_newline s < length s
-      → output (s ++ rest) ≡ line_answer (take (before_newline s) s) ++ output (drop (suc (before_newline s)) s ++ rest)
-  unfolding output
-  whole-line s h =
-      let n : ℕ = before_newline s in
-      let l = length-append s rest in
-      let e : before_newline (s ++ rest) ≡ n = before-in s h in
-      let f : lines_of (s ++ rest) ≡ take n (s ++ rest) ∷ lines_of (drop (suc n) (s ++ rest)) =
-      subst (λ (k : ℕ). lines_of (s ++ rest) ≡ take k (s ++ rest) ∷ lines_of (drop (suc k) (s ++ rest))) e (lines_some (s ++ rest) (omega arith)) in
-      ap answers f
-      ∙ ap (λ (t : List ℕ). line_answer t ++ answers (lines_of (drop (suc n) (s ++ rest)))) (take-append-le n s rest (omega arith))
-      ∙ ap (λ (t : List ℕ). line_answer (take n s) ++ answers (lines_of t)) (drop-append-le (suc n) s rest (omega arith))
-
-  -- behind a line that is not read to its end
-  past-line : (s : List ℕ) → before_newline s ≡ length s → drop (suc (before_newline (s ++ rest))) (s ++ rest) ≡ drop (suc (before_newline rest)) rest
-  past-line s h =
-      let e : suc (before_newline (s ++ rest)) ≡ length s + suc (before_newline rest) = let f = before-past s h in omega arith in
-      ap (λ (k : ℕ). drop k (s ++ rest)) e ∙ drop-append-add s rest (suc (before_newline rest))
-
-  -- a line that is too long, whatever follows
-  pub too_long : (s : List ℕ) → before_newline s ≡ length s → 16384 < length s → output (s ++ rest) ≡ line_answer s ++ output_from true rest
-  unfolding output output_from
-  too_long s h k =
-      let m : ℕ = before_newline (s ++ rest) in
-      let e : m ≡ length s + before_newline rest = before-past s h in
-      let l = length-append s rest in
-      let t : take m (s ++ rest) ≡ s ++ take (before_newline rest) rest = ap (λ (i : ℕ). take i (s ++ rest)) e ∙ take-append-add s rest (before_newline rest) in
-      let long : 16384 < length (take m (s ++ rest)) = let z = ap length t ∙ length-append s (take (before_newline rest) rest) in omega arith in
-      ap answers (lines_some (s ++ rest) (omega arith))
-      ∙ ap (λ (a : List ℕ). a ++ answers (lines_of (drop (suc m) (s ++ rest)))) (long_line (take m (s ++ rest)) long ∙ sym (long_line s k))
-      ∙ ap (λ (a : List ℕ). line_answer s ++ answers (lines_of a)) (past-line s h)
-
-  -- the rest of a line that is answered already
-  pub skip-in : (s : List ℕ) → before_newline s < length s → output_from true (s ++ rest) ≡ output (drop (suc (before_newline s)) s ++ rest)
-  unfolding output_from
-  skip-in s h =
-      ap (λ (k : ℕ). output (drop (suc k) (s ++ rest))) (before-in s h)
-      ∙ ap output (drop-append-le (suc (before_newline s)) s rest (omega arith))
-
-  pub skip_all : (s : List ℕ) → before_newline s ≡ length s → output_from true (s ++ rest) ≡ output_from true rest
-  unfolding output_from
-  skip_all s h = ap output (past-line s h)
 
 -- ---- what lies behind the answers
 
@@ -188,172 +125,96 @@ module _ (input out : List ℕ) where
     goes_then : (r : Progress) (out₂ : List ℕ) → Goes input q out₁ r out₂ → Goes input p out r out₂
     goes_then r out₂ h = record { inside = h.inside; behind = behind-then out p.wrote q.wrote out₁ g.behind r.wrote out₂ h.behind; same = λ rest. g.same rest ∙ h.same rest }
 
--- where the line that begins at a place ends
-module _ (input : List ℕ) (from end : ℕ) (inside : from ≤ length input) (e : end ≡ line_end input from) where
-  before-end : end ≡ from + before_newline (drop from input)
-  unfolding line_end
-  before-end = let w = before_within (drop from input) in let l = length-drop from input in omega arith
-
-  pub end-within : end ≤ length input
-  unfolding line_end
-  end-within = omega arith
-
-  pub ends-here : (end ≡ length input → ⊥) → before_newline (drop from input) < length (drop from input)
-  ends-here n = let b = before-end in let w = end-within in let l = length-drop from input in omega arith
-
-  pub no_end : end ≡ length input → before_newline (drop from input) ≡ length (drop from input)
-  no_end h = let b = before-end in let l = length-drop from input in omega arith
-
-  pub from-before : from ≤ end
-  from-before = let b = before-end in omega arith
-
-  -- what the line is, and what lies behind its newline
-  pub the-line : take (end - from) (drop from input) ≡ take (before_newline (drop from input)) (drop from input)
-  the-line = let b = before-end in ap (λ (k : ℕ). take k (drop from input)) (let q : end - from ≡ before_newline (drop from input) = omega arith in q)
-
-  pub behind-line : drop (suc (before_newline (drop from input))) (drop from input) ≡ drop (end + 1) input
-  behind-line =
-      let b = before-end in
-      drop-drop (suc (before_newline (drop from input))) from input
-      ∙ ap (λ (k : ℕ). drop k input) (let q : from + suc (before_newline (drop from input)) ≡ end + 1 = omega arith in q)
-
 -- ---- the steps
 
-module _ (input out : List ℕ) (from wrote : ℕ) (read : from ≤ length input) where
-  -- a line that is read to its end
-  module _ (end next : ℕ) (out' : List ℕ) (e : end ≡ line_end input from) (h : end ≡ length input → ⊥) where
-    pub goes-line : Wrote (take (end - from) (drop from input)) out wrote next out' → Goes input (line_at from wrote) out (line_at (end + 1) next) out'
-    unfolding printed_at output_from
-    goes-line w =
-        let s : List ℕ = drop from input in
-        let i = end-within input from end read e in
-        record {
-          inside = record { read = omega arith; answers = w.behind.fits };
-          behind = w.behind;
-          same = λ rest.
-              ap (λ (l : List ℕ). take wrote out ++ l) (whole-line rest s (ends-here input from end read e h))
-              ∙ ap (λ (l : List ℕ). take wrote out ++ (line_answer l ++ output (drop (suc (before_newline s)) s ++ rest))) (sym (the-line input from end read e))
-              ∙ ap (λ (l : List ℕ). take wrote out ++ (line_answer (take (end - from) s) ++ output (l ++ rest))) (behind-line input from end read e)
-              ∙ sym (append_assoc (take wrote out) (line_answer (take (end - from) s)) (output (drop (end + 1) input ++ rest)))
-              ∙ ap (λ (l : List ℕ). l ++ output (drop (end + 1) input ++ rest)) (sym w.answers);
-        }
+-- What is printed for what comes next is the answers to the lines ahead.
+ahead-answers : (skip : Bool) (s : List ℕ) → output_from skip s ≡ answers (lines_ahead skip s)
+unfolding output_from output lines_ahead
+ahead-answers false s = refl
+ahead-answers true s = refl
 
-  -- the rest of a line that is answered already
-  module _ (end : ℕ) (e : end ≡ line_end input from) (answers : wrote ≤ length out) where
-    abbrev skipping : ℕ → Progress
-    skipping at = record { from = at; wrote = wrote; skip = true }
+abbrev pub at_place : Place → ℕ → Progress
+at_place p wrote = record { from = p.from; wrote = wrote; skip = p.skip }
 
-    pub skips-line : (end ≡ length input → ⊥) → Goes input (skipping from) out (line_at (end + 1) wrote) out
-    unfolding printed_at output_from
-    skips-line h =
-        let s : List ℕ = drop from input in
-        let i = end-within input from end read e in
-        record {
-          inside = record { read = omega arith; answers = answers };
-          behind = behind-none out wrote answers;
-          same = λ rest.
-              ap (λ (l : List ℕ). take wrote out ++ l) (skip-in rest s (ends-here input from end read e h))
-              ∙ ap (λ (l : List ℕ). take wrote out ++ output (l ++ rest)) (behind-line input from end read e);
-        }
+printed-ahead : (input : List ℕ) (p : Place) (wrote : ℕ) (out rest : List ℕ) → printed_at input (at_place p wrote) out rest ≡ take wrote out ++ answers (lines_at input p rest)
+unfolding printed_at lines_at
+printed-ahead input p wrote out rest = ap (λ (l : List ℕ). take wrote out ++ l) (ahead-answers p.skip (drop p.from input ++ rest))
 
-    pub skips-all : end ≡ length input → Goes input (skipping from) out (skipping end) out
-    unfolding printed_at
-    skips-all h =
-        record {
-          inside = record { read = omega arith; answers = answers };
-          behind = behind-none out wrote answers;
-          same = λ rest.
-              ap (λ (l : List ℕ). take wrote out ++ l) (skip_all rest (drop from input) (no_end input from end read e h))
-              ∙ ap (λ (l : List ℕ). take wrote out ++ output_from true (l ++ rest)) (sym (drop_of_length-le input {i = end} (omega arith)));
-        }
+module _ (input out : List ℕ) (p : Place) (wrote : ℕ) where
+  -- a line that comes whole, and one that is too long: its answer is that of the part at hand
+  goes-answered : (q : Place) (line : List ℕ) (next : ℕ) (out' : List ℕ) → Wrote line out wrote next out' → q.from ≤ length input
+      → ((rest : List ℕ) → answers (lines_at input p rest) ≡ line_answer line ++ answers (lines_at input q rest))
+      → Goes input (at_place p wrote) out (at_place q next) out'
+  goes-answered q line next out' w i e = record {
+    inside = record { read = i; answers = w.behind.fits };
+    behind = w.behind;
+    same = λ rest.
+        printed-ahead input p wrote out rest
+        ∙ ap (λ (l : List ℕ). take wrote out ++ l) (e rest)
+        ∙ sym (append_assoc (take wrote out) (line_answer line) (answers (lines_at input q rest)))
+        ∙ ap (λ (l : List ℕ). l ++ answers (lines_at input q rest)) (sym w.answers)
+        ∙ sym (printed-ahead input q next out' rest);
+  }
 
-  -- a line that is too long, not read to its end
-  module _ (next : ℕ) (out' : List ℕ) (h : before_newline (drop from input) ≡ length (drop from input)) (long : 16384 < length input - from) where
-    goes-long : Wrote (take (length input - from) (drop from input)) out wrote next out' → Goes input (line_at from wrote) out (record { from = length input; wrote = next; skip = true }) out'
-    unfolding printed_at output_from
-    goes-long w =
-        let s : List ℕ = drop from input in
-        let l = length-drop from input in
-        let all : take (length input - from) s ≡ s = take_all (length input - from) s (omega arith) in
-        record {
-          inside = record { read = omega arith; answers = w.behind.fits };
-          behind = w.behind;
-          same = λ rest.
-              ap (λ (l : List ℕ). take wrote out ++ l) (too_long rest s h (omega arith))
-              ∙ sym (append_assoc (take wrote out) (line_answer s) (output_from true rest))
-              ∙ ap (λ (l : List ℕ). l ++ output_from true rest) (sym (w.answers ∙ ap (λ (l : List ℕ). take wrote out ++ line_answer l) all))
-              ∙ ap (λ (l : List ℕ). take next out' ++ output_from true (l ++ rest)) (sym (drop-length input));
-        }
+  pub goes-whole : (start end next : ℕ) (out' : List ℕ) → Comes input p (Whole start end) → Wrote (take (end - start) (drop start input)) out wrote next out'
+      → Goes input (at_place p wrote) out (at_place (begins (end + 1)) next) out'
+  goes-whole start end next out' c w =
+      let l = c.2 in
+      goes-answered (begins (end + 1)) (take (end - start) (drop start input)) next out' w (omega arith) (λ rest. ap answers (c.3 rest))
 
--- ---- what is left
+  too-long : (start : ℕ) (more : List ℕ) → 16384 < length input - start → line_answer (drop start input ++ more) ≡ line_answer (take (length input - start) (drop start input))
+  too-long start more k =
+      let d = length-drop start input in
+      let l = length-append (drop start input) more in
+      long_line (drop start input ++ more) (omega arith)
+      ∙ sym (long_line (take (length input - start) (drop start input)) (omega (arith, length-take-le (length input - start) (drop start input) (omega arith))))
 
-pub left_short : (input : List ℕ) (from : ℕ) → before_newline (drop from input) ≡ length (drop from input) → length input - from ≤ 16384 → Unfinished (drop from input)
-left_short input from h k = let l = length-drop from input in record { partial = h; short = omega arith }
+  pub goes-long : (start next : ℕ) (out' : List ℕ) → Comes input p (Long start) → Wrote (take (length input - start) (drop start input)) out wrote next out'
+      → Goes input (at_place p wrote) out (at_place (skips (length input)) next) out'
+  goes-long start next out' c w =
+      goes-answered (skips (length input)) (take (length input - start) (drop start input)) next out' w (omega arith)
+      (λ rest. ap answers (c.2 rest) ∙ ap (λ (l : List ℕ). l ++ answers (lines_at input (skips (length input)) rest)) (too-long start (take (before_newline rest) rest) c.1))
 
-nothing_left : (s : List ℕ) → length s ≡ 0 → Unfinished s
-nothing_left s h = let w = before_within s in record { partial = omega arith; short = omega arith }
-
-left_none : (input : List ℕ) (from : ℕ) → length input ≤ from → Unfinished (drop from input)
-left_none input from h = nothing_left (drop from input) (let l = length-drop from input in omega arith)
-
-pub halts_short : (input out : List ℕ) (p : Progress) → length out < p.wrote + answer_bytes → Halts input p out
-halts_short input out p h = record { left = λ l. absurd (omega arith) }
-
-halts_left : (input out : List ℕ) (p : Progress) → Unfinished (drop p.from input) → Halts input p out
-halts_left input out p u = record { left = λ l. u }
-
-pub part-long : (input out : List ℕ) (from wrote next : ℕ) (out' : List ℕ) → from ≤ length input → before_newline (drop from input) ≡ length (drop from input) → 16384 < length input - from
-    → Wrote (take (length input - from) (drop from input)) out wrote next out' → Goes input (line_at from wrote) out (record { from = length input; wrote = next; skip = true }) out' × Unfinished (drop (length input) input)
-part-long input out from wrote next out' i h long w = (goes-long input out from wrote i next out' h long w, left_none input (length input) (omega arith))
-
--- ---- from any place
-
-module _ (input : List ℕ) (p : Progress) (out : List ℕ) (q : Progress) (out' : List ℕ) where
-  -- a place that skips, or does not
-  goes-as : (skip : Bool) → p.skip ≡ skip → Goes input (record { from = p.from; wrote = p.wrote; skip = skip }) out q out' → Goes input p out q out'
-  goes-as skip e g = subst (λ (b : Bool). Goes input (record { from = p.from; wrote = p.wrote; skip = b }) out q out') (sym e) g
-
-  pub goes-from : p.skip ≡ false → Goes input (line_at p.from p.wrote) out q out' → Goes input p out q out'
-  goes-from e g = goes-as false e g
-
-module _ (input : List ℕ) (p : Progress) (out : List ℕ) (i : Inside input p out) (skip : p.skip ≡ true) (end : ℕ) (e : end ≡ line_end input p.from) where
-  pub skips-past : (end ≡ length input → ⊥) → (q : Progress) (out' : List ℕ) → Goes input (line_at (end + 1) p.wrote) out q out' → Goes input p out q out'
-  skips-past h q out' g =
-      goes-as input p out q out' true skip
-      (goes_then input out (skipping input out p.from p.wrote i.read end e i.answers p.from) (line_at (end + 1) p.wrote) out
-      (skips-line input out p.from p.wrote i.read end e i.answers h) q out' g)
-
-  pub skips-inside : (end ≡ length input → ⊥) → Inside input (line_at (end + 1) p.wrote) out
-  skips-inside h = (skips-line input out p.from p.wrote i.read end e i.answers h).inside
-
-  pub skips-on : end ≡ length input → Goes input p out (record { from = end; wrote = p.wrote; skip = true }) out × Halts input (record { from = end; wrote = p.wrote; skip = true }) out
-  skips-on h = (
-    goes-as input p out (record { from = end; wrote = p.wrote; skip = true }) out true skip (skips-all input out p.from p.wrote i.read end e i.answers h),
-    halts_left input out (record { from = end; wrote = p.wrote; skip = true }) (left_none input end (omega arith)),
+  pub goes-left : (q : Place) → Comes input p (Partly q) → wrote ≤ length out
+      → Goes input (at_place p wrote) out (at_place q wrote) out × Halts input (at_place q wrote) out
+  goes-left q c i = (
+    record {
+      inside = record { read = c.0; answers = i };
+      behind = behind-none out wrote i;
+      same = λ rest. printed-ahead input p wrote out rest ∙ ap (λ (ls : List (List ℕ)). take wrote out ++ answers ls) (c.2 rest) ∙ sym (printed-ahead input q wrote out rest);
+    },
+    record { left = λ l. let u = c.1 in record { partial = u.one_line; short = u.short } },
   )
 
 -- ---- the loop over the lines
 
 -- The place that the loop has reached, and an output as long as it was.
-pub record Reached (input : List ℕ) (start had from wrote : ℕ) (out out' : List ℕ) : Type 0 where
-  pub goes : Goes input (line_at start had) out (line_at from wrote) out'
+pub record Reached (input : List ℕ) (p : Progress) (place : Place) (wrote : ℕ) (out out' : List ℕ) : Type 0 where
+  pub goes : Goes input p out (at_place place wrote) out'
   pub bytes : length out' ≡ length out
 
-module _ (input : List ℕ) (start had : ℕ) (out : List ℕ) where
-  pub reached-start : Inside input (line_at start had) out → Reached input start had start had out out
-  reached-start i = record { goes = goes-nowhere input out (line_at start had) i; bytes = refl }
+module _ (input : List ℕ) (p : Progress) (out : List ℕ) where
+  pub reached-start : Inside input p out → Reached input p (record { from = p.from; skip = p.skip }) p.wrote out out
+  reached-start i = record { goes = goes-nowhere input out p i; bytes = refl }
 
-  module _ (from wrote : ℕ) (out₁ : List ℕ) (t : Reached input start had from wrote out out₁) where
-    pub reached-more : (end next : ℕ) (out₂ : List ℕ) → end ≡ line_end input from → (end ≡ length input → ⊥)
-        → Wrote (take (end - from) (drop from input)) out₁ wrote next out₂ × (length out₂ ≡ length out₁) → Reached input start had (end + 1) next out out₂
-    reached-more end next out₂ e h w =
-        record {
-          goes = goes_then input out (line_at start had) (line_at from wrote) out₁ t.goes (line_at (end + 1) next) out₂ (goes-line input out₁ from wrote t.goes.inside.read end next out₂ e h w.0);
-          bytes = w.1 ∙ t.bytes;
-        }
+  module _ (place : Place) (wrote : ℕ) (out₁ : List ℕ) (t : Reached input p place wrote out out₁) where
+    pub reached-whole : (start end next : ℕ) (out₂ : List ℕ) → Comes input place (Whole start end)
+        → Wrote (take (end - start) (drop start input)) out₁ wrote next out₂ × (length out₂ ≡ length out₁) → Reached input p (begins (end + 1)) next out out₂
+    reached-whole start end next out₂ c w =
+        record { goes = goes_then input out p (at_place place wrote) out₁ t.goes (at_place (begins (end + 1)) next) out₂ (goes-whole input out₁ place wrote start end next out₂ c w.0); bytes = w.1 ∙ t.bytes }
 
-    pub reached-left : (q : Progress) (out₂ : List ℕ) → Goes input (line_at from wrote) out₁ q out₂ × Unfinished (drop q.from input) → Goes input (line_at start had) out q out₂ × Halts input q out₂
-    reached-left q out₂ g = (goes_then input out (line_at start had) (line_at from wrote) out₁ t.goes q out₂ g.0, halts_left input out₂ q g.1)
+    pub reached-long : (start next : ℕ) (out₂ : List ℕ) → Comes input place (Long start)
+        → Wrote (take (length input - start) (drop start input)) out₁ wrote next out₂ × (length out₂ ≡ length out₁) → Reached input p (skips (length input)) next out out₂
+    reached-long start next out₂ c w =
+        record { goes = goes_then input out p (at_place place wrote) out₁ t.goes (at_place (skips (length input)) next) out₂ (goes-long input out₁ place wrote start next out₂ c w.0); bytes = w.1 ∙ t.bytes }
+
+    pub reached-left : (q : Place) → Comes input place (Partly q) → Goes input p out (at_place q wrote) out₁ × Halts input (at_place q wrote) out₁
+    reached-left q c =
+        let g = goes-left input out₁ place wrote q c t.goes.inside.answers in
+        (goes_then input out p (at_place place wrote) out₁ t.goes (at_place q wrote) out₁ g.0, g.1)
+
+    pub reached-short : length out₁ < wrote + answer_bytes → Goes input p out (at_place place wrote) out₁ × Halts input (at_place place wrote) out₁
+    reached-short h = (t.goes, record { left = λ l. absurd (omega arith) })
 
 -- ---- the end of the input
 
@@ -399,22 +260,35 @@ module _ (line out : List ℕ) where
 
 -- ---- what the functions use
 
-module _ (input : List ℕ) (from : ℕ) where
-  pub line-within : line_end input from ≤ length input
-  unfolding line_end
-  line-within = omega arith
+-- where a line that comes stands
+module _ (input : List ℕ) (p : Place) where
+  pub whole_ordered : (start end : ℕ) → Whole start end ≡ next_of input p → start ≤ end
+  whole_ordered start end e = let c = came input p (Whole start end) e in c.1
 
-  module _ (inside : from ≤ length input) where
-    pub line-from : from ≤ line_end input from
-    line-from = from-before input from _ inside refl
+  pub whole_within : (start end : ℕ) → Whole start end ≡ next_of input p → end < length input
+  whole_within start end e = let c = came input p (Whole start end) e in c.2
 
-    pub line-partial : line_end input from ≡ length input → before_newline (drop from input) ≡ length (drop from input)
-    line-partial h = no_end input from _ inside refl h
+  pub whole_on : (start end : ℕ) → Whole start end ≡ next_of input p → length input - (end + 1) < length input - p.from
+  whole_on start end e = let c = came input p (Whole start end) e in let a = c.0 in let b = c.1 in let d = c.2 in omega arith
 
-pub ruleset part_steps = (goes-nowhere, left_short, part-long)
+  pub long_within : (start : ℕ) → Long start ≡ next_of input p → start ≤ length input
+  long_within start e = let c = came input p (Long start) e in let a = c.1 in omega arith
 
-pub ruleset whole_steps = (line-within, line-from, line-partial, reached-start, halts_short)
+  pub long_on : (start : ℕ) → Long start ≡ next_of input p → length input - length input < length input - p.from
+  long_on start e = let c = came input p (Long start) e in let a = c.0 in let b = c.1 in omega arith
 
-pub ruleset lines_steps = (line-within, skips-inside, goes-from)
+module _ (input : List ℕ) (p : Progress) (out : List ℕ) (place : Place) (wrote : ℕ) (out₁ : List ℕ) (t : Reached input p place wrote out out₁) where
+  pub then_whole : (start end next : ℕ) (out₂ : List ℕ) → Whole start end ≡ next_of input place
+      → Wrote (take (end - start) (drop start input)) out₁ wrote next out₂ × (length out₂ ≡ length out₁) → Reached input p (begins (end + 1)) next out out₂
+  then_whole start end next out₂ e w = reached-whole input p out place wrote out₁ t start end next out₂ (came input place (Whole start end) e) w
+
+  pub then_long : (start next : ℕ) (out₂ : List ℕ) → Long start ≡ next_of input place
+      → Wrote (take (length input - start) (drop start input)) out₁ wrote next out₂ × (length out₂ ≡ length out₁) → Reached input p (skips (length input)) next out out₂
+  then_long start next out₂ e w = reached-long input p out place wrote out₁ t start next out₂ (came input place (Long start) e) w
+
+  pub then_left : (q : Place) → Partly q ≡ next_of input place → Goes input p out (at_place q wrote) out₁ × Halts input (at_place q wrote) out₁
+  then_left q e = reached-left input p out place wrote out₁ t q (came input place (Partly q) e)
+
+pub ruleset lines_steps = (reached-start, reached-short, whole_ordered, whole_within, whole_on, long_within, long_on, then_left)
 
 pub ruleset last_steps = (ends-skipped, ends-empty, ends-line)

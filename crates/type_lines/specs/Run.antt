@@ -1,6 +1,7 @@
 -- What the functions that answer lines promise: whatever follows in the input, what is printed at last stays the same.
 use Rattle.std.specs.Prelude.{◌≡◌, Bool, true, false, List, ◌++◌, ℕ, suc, ◌+◌, ◌-◌, ◌≤◌, length, take, drop}
-use Rattle.answer_line.specs.Line.{line_answer, output, before_newline, answer_bytes}
+use Rattle.answer_line.specs.Line.{line_answer, output, answer_bytes}
+use Rattle.input_lines.specs.Lines.{before_newline}
 use Rattle.type_lines.specs.declared.Progress.{Progress}
 use Rattle.datatype.specs.Limits.{max_text}
 

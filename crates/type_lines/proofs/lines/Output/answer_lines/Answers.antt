@@ -1,9 +1,13 @@
--- Found by a search, and not by the rules of the function.
-use Rattle.type_lines.proofs.Going.{skips-past, skips-on}
+-- The goal is a record or a pair, which grind opens, and the law's conclusion does not show what lies between.
+use Rattle.type_lines.proofs.Going.{then_whole, then_long, then_left}
+use mathlib.Core.Path.{sym, ◌∙◌}
 use Rattle.type_lines.proofs.lines.Output.answer_lines.Goals as goal
 
-pub returns-then-end-input : goal.returns-then-end-input
-returns-then-end-input c = skips-on _ _ _ c.requires c.if-p.true _ c.line_end-end.ensures c.if-end-input.true
+pub loop-wrote-preserved-in-Whole : goal.loop-wrote-preserved-in-Whole
+loop-wrote-preserved-in-Whole c = then_whole _ _ _ _ _ _ c.loop-wrote.invariant _ _ _ _ (sym c.in-Whole.is ∙ c.next_line.ensures) c.answer_at-wrote.ensures
 
-pub returns-then-p : goal.returns-then-p
-returns-then-p c = (skips-past _ _ _ c.requires c.if-p.true _ c.line_end-end.ensures c.if-end-input.false _ _ c.answer_whole.ensures.0, c.answer_whole.ensures.1)
+pub loop-wrote-preserved : goal.loop-wrote-preserved
+loop-wrote-preserved c = then_long _ _ _ _ _ _ c.loop-wrote.invariant _ _ _ (sym c.in-Long.is ∙ c.next_line.ensures) c.answer_at-wrote-in-Long.ensures
+
+pub returns-in-Unfinished : goal.returns-in-Unfinished
+returns-in-Unfinished c = then_left _ _ _ _ _ _ c.loop-wrote.invariant c.in-Unfinished.left (sym c.in-Unfinished.is ∙ c.next_line.ensures)

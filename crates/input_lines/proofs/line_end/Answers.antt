@@ -2,8 +2,8 @@
 use Rattle.std.proofs.Common.{eqb, rules, tests}
 use Rattle.std.proofs.lemmas.Iterator.{YieldsList-from_slice}
 use Rattle.std.proofs.lemmas.Iterator.Search.{position_from_yields_List}
-use Rattle.answer_line.proofs.Ends.{found_at}
-use Rattle.answer_line.proofs.line_end.Goals as goal
+use Rattle.input_lines.proofs.Ends.{found_at}
+use Rattle.input_lines.proofs.line_end.Goals as goal
 
 pub returns : goal.returns
 returns c =
