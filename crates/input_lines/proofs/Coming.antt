@@ -82,7 +82,7 @@ module _ (rest : List ℕ) where
 -- ---- where the line that begins at a place ends
 
 -- a place behind the input's end is its end
-clamped : (input : List ℕ) (place from : ℕ) → from ≡ min place (length input) → drop place input ≡ drop from input
+pub clamped : (input : List ℕ) (place from : ℕ) → from ≡ min place (length input) → drop place input ≡ drop from input
 clamped input place from e =
     elim (dec_lt place (length input)) [
       | yes h ↦ ap (λ (n : ℕ). drop n input) (let q : place ≡ from = omega arith in q)

@@ -1,2 +1,5 @@
 pub mod Lines
 pub mod Ahead
+pub mod Streams
+pub mod Messages
+pub mod Internal

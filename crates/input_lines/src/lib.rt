@@ -1,4 +1,5 @@
-// The lines of an input that is read piece by piece.
+// The lines of an input that is read piece by piece, and what programs that read them share: reading on, writing, and what
+// they say where that fails.
 
 #![tactic(auto)]
 
@@ -7,6 +8,11 @@ ghost use Rattle.input_lines.specs.Lines.{line_end};
 ghost use Rattle.input_lines.specs.Ahead.{line_from, next_of};
 
 use datatype::rows::MAX_TEXT;
+pub use failure::{Failure, refuse_argument};
+pub use streams::{move_to_front, read_behind, write_out};
+
+mod failure;
+mod streams;
 
 // A place in what was read, and whether what comes next there is the rest of a line that was taken already.
 #[derive(Clone, Copy)]

@@ -1,5 +1,5 @@
 -- What the functions that answer lines promise: whatever follows in the input, what is printed at last stays the same.
-use Rattle.std.specs.Prelude.{◌≡◌, Bool, true, false, List, ◌++◌, ℕ, suc, ◌+◌, ◌-◌, ◌≤◌, length, take, drop}
+use Rattle.std.specs.Prelude.{◌≡◌, Bool, true, false, List, ◌++◌, ℕ, suc, ◌+◌, ◌≤◌, length, take, drop}
 use Rattle.answer_line.specs.Line.{line_answer, output, answer_bytes}
 use Rattle.input_lines.specs.Lines.{before_newline}
 use Rattle.type_lines.specs.declared.Progress.{Progress}
@@ -59,10 +59,3 @@ pub record Halts (input : List ℕ) (p : Progress) (out : List ℕ) : Type 0 whe
 pub record Ends (line : List ℕ) (skip : Bool) (out : List ℕ) (next : ℕ) (out' : List ℕ) : Type 0 where
   pub behind : Behind out 0 next out'
   pub answers : take next out' ≡ output_from skip line
-
--- ---- moving
-
--- A part of a buffer stands at its front; behind that, nothing has changed.
-pub record Moved (before : List ℕ) (from to size : ℕ) (after : List ℕ) : Type 0 where
-  pub counted : size ≡ to - from
-  pub is : after ≡ drop from (take to before) ++ drop (to - from) before

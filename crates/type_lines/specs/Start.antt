@@ -4,6 +4,7 @@ use Rattle.std.specs.Io.KnownBytes.{Appends}
 use Rattle.std.specs.declared.env.FillError.{FillError}
 use Rattle.std.specs.declared.env.FillError.TheVariants.{NotPresent, TooLong}
 use Rattle.tokenizer.specs.Text.{bytes}
+use Rattle.input_lines.specs.Streams.{Streams}
 use Rattle.type_lines.specs.Turns.{Ran}
 use Rattle.type_lines.specs.declared.Ending.{Ending}
 use Rattle.type_lines.specs.declared.Ending.TheVariants.{Argument, Lines}
@@ -19,15 +20,19 @@ TakesNone (Argument w) stdin stdin' stdout stdout' stderr stderr' = (stdin' ≡ 
 TakesNone (Lines r) stdin stdin' stdout stdout' stderr stderr' = ⊥
 
 -- Without one: the lines are answered, and standard error stays as it was.
-abbrev pub AnswersLines : Ending → List ℕ → Option (List ℕ) → Option (List ℕ) → Type 0
-AnswersLines (Argument w) out stderr stderr' = ⊥
-AnswersLines (Lines r) out stderr stderr' = Ran r out × (stderr' ≡ stderr)
+abbrev pub AnswersLines : Ending → List ℕ → Streams → Streams → Option (List ℕ) → Option (List ℕ) → Type 0
+AnswersLines (Argument w) out s s' stderr stderr' = ⊥
+AnswersLines (Lines r) out s s' stderr stderr' = Ran r out s s' × (stderr' ≡ stderr)
 
 -- By what `arg` answers behind the program's name: `NotPresent`, or an argument, be it longer than the bytes lent.
-abbrev pub Starts : {I O : Type 0} → Result ℕ FillError → Ending → List ℕ → I → I → O → O → Option (List ℕ) → Option (List ℕ) → Type 0
-Starts (Err NotPresent) e out stdin stdin' stdout stdout' stderr stderr' = AnswersLines e out stderr stderr'
-Starts (Err TooLong) e out stdin stdin' stdout stdout' stderr stderr' = TakesNone e stdin stdin' stdout stdout' stderr stderr'
-Starts (Ok n) e out stdin stdin' stdout stdout' stderr stderr' = TakesNone e stdin stdin' stdout stdout' stderr stderr'
+abbrev pub Starts : {I O : Type 0} → Result ℕ FillError → Ending → List ℕ → I → I → O → O
+    → Streams → Streams → Option (List ℕ) → Option (List ℕ) → Type 0
+Starts (Err NotPresent) e out stdin stdin' stdout stdout' s s' stderr stderr' =
+    AnswersLines e out s s' stderr stderr'
+Starts (Err TooLong) e out stdin stdin' stdout stdout' s s' stderr stderr' =
+    TakesNone e stdin stdin' stdout stdout' stderr stderr'
+Starts (Ok n) e out stdin stdin' stdout stdout' s s' stderr stderr' =
+    TakesNone e stdin stdin' stdout stdout' stderr stderr'
 
 -- The exit status: 0 if the input was read to its end and every answer was written. Else 2: after an argument, whatever became
 -- of its line, after a read or a write that failed, and after so many turns that there is no more.

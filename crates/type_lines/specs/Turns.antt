@@ -1,15 +1,20 @@
--- What a turn of the program promises, and all of them together. No contract knows what `read` gives and what becomes of
--- the bytes handed to `write`; a turn says which bytes of its buffers these were, and ties them to one another.
+-- What a turn of the program promises, and all of them together: which bytes of its buffers were read and written, what that
+-- did to the streams, and how the turns are tied to one another.
 use Rattle.std.specs.Prelude.{◌≡◌, Bool, false, List, [], ◌++◌, ℕ, suc, ◌+◌, ◌-◌, ◌≤◌, ◌<◌, length, take, drop, Option, Some, None, Result, Ok, Err}
 use Rattle.type_lines.specs.Run.{output_from, Unfinished, Behind}
 use Rattle.type_lines.specs.declared.Turn.{Turn}
 use Rattle.std.specs.declared.ops.ControlFlow.{ControlFlow}
 use Rattle.std.specs.declared.ops.ControlFlow.TheVariants.{Continue, Break}
-use Rattle.type_lines.specs.declared.Failure.{Failure}
+use Rattle.std.specs.Io.KnownBytes.{Consumes, Keeps, Appends, IsAtEnd}
+use Rattle.input_lines.specs.declared.failure.Failure.{Failure}
+use Rattle.input_lines.specs.declared.failure.Failure.TheVariants.{Reading, Writing}
+use Rattle.answer_line.specs.Line.{output}
+use Rattle.input_lines.specs.Streams.{Streams, Transfers}
+use Rattle.type_lines.specs.Streams.{ReadFails, WriteFails, Answered}
 
 -- ---- a turn
 
--- The bytes that it handed to `write`, and those that `read` gave it.
+-- The bytes that it wrote, and those that it read.
 abbrev pub written_in : Turn → List ℕ → List ℕ
 written_in t out = take t.written out
 
@@ -41,18 +46,22 @@ pub record Turned (t : Turn) (input out : List ℕ) (t' : Turn) (input' out' : L
   pub fits : t'.filled ≤ length input'
   pub place : t'.from ≤ t'.filled
 
--- After a turn there is another, if bytes were read or written; or the input has ended, and a last line is left.
-abbrev pub GoesOn : Turn → List ℕ → List ℕ → Result (ControlFlow Turn Turn) Failure → List ℕ → List ℕ → Type 0
-GoesOn t input out (Ok (Continue t')) input' out' = Turned t input out t' input' out' × (0 < t'.read + t'.written)
-GoesOn t input out (Ok (Break t')) input' out' = Turned t input out t' input' out' × (t'.read ≡ 0) × (t'.from ≡ 0) × Unfinished (take t'.filled input')
-GoesOn t input out (Err e) input' out' = Unit
+-- After a turn there is another, if bytes were read or written; or the reader is at its end, and a last line is left. Where
+-- a call failed, nothing was read.
+abbrev pub GoesOn : Turn → List ℕ → List ℕ → Streams → Result (ControlFlow Turn Turn) Failure
+    → List ℕ → List ℕ → Streams → Type 0
+GoesOn t input out s (Ok (Continue t')) input' out' s' =
+    Turned t input out t' input' out' × (0 < t'.read + t'.written)
+    × Transfers s s' (read_in t' input') (written_in t' out')
+GoesOn t input out s (Ok (Break t')) input' out' s' =
+    Turned t input out t' input' out' × (t'.read ≡ 0) × (t'.from ≡ 0) × Unfinished (take t'.filled input')
+    × Transfers s s' [] (written_in t' out') × IsAtEnd s'.reader
+GoesOn t input out s (Err (Reading e)) input' out' s' =
+    Keeps s.reader s'.reader × ReadFails (ahead t input) s.writer s'.writer
+GoesOn t input out s (Err (Writing e)) input' out' s' =
+    Keeps s.reader s'.reader × WriteFails (ahead t input []) s.writer s'.writer
 
 -- ---- its parts
-
--- All of so many bytes were handed to `write`.
-abbrev pub Handed : Result ℕ Failure → ℕ → Type 0
-Handed (Ok k) n = k ≡ n
-Handed (Err e) n = Unit
 
 -- What was read stands behind the bytes left; skipping and the bytes written are handed on.
 pub record Reads (input : List ℕ) (left : ℕ) (skip : Bool) (wrote : ℕ) (t : Turn) (input' : List ℕ) : Type 0 where
@@ -60,15 +69,23 @@ pub record Reads (input : List ℕ) (left : ℕ) (skip : Bool) (wrote : ℕ) (t 
   pub fits : t.filled ≤ length input'
   pub kept : take left input' ≡ take left input
 
-abbrev pub ReadOn : Result (ControlFlow Turn Turn) Failure → List ℕ → ℕ → Bool → ℕ → List ℕ → Type 0
-ReadOn (Ok (Continue t)) input left skip wrote input' = Reads input left skip wrote t input' × (0 < t.read)
-ReadOn (Ok (Break t)) input left skip wrote input' = Reads input left skip wrote t input' × (t.read ≡ 0)
-ReadOn (Err e) input left skip wrote input' = Unit
+abbrev pub ReadOn : Result (ControlFlow Turn Turn) Failure → List ℕ → ℕ → Bool → ℕ → List ℕ
+    → Option (List ℕ) → Option (List ℕ) → Type 0
+ReadOn (Ok (Continue t)) input left skip wrote input' reader reader' =
+    Reads input left skip wrote t input' × (0 < t.read)
+    × Consumes reader reader' (take t.read (drop left input'))
+ReadOn (Ok (Break t)) input left skip wrote input' reader reader' =
+    Reads input left skip wrote t input' × (t.read ≡ 0) × Consumes reader reader' [] × IsAtEnd reader'
+ReadOn (Err (Reading e)) input left skip wrote input' reader reader' = Keeps reader reader'
+ReadOn (Err (Writing e)) input left skip wrote input' reader reader' = ⊥
 
 -- The last line: what is written is all that is still to be printed.
-abbrev pub LastLine : List ℕ → Bool → Result ℕ Failure → List ℕ → Type 0
-LastLine line skip (Ok n) out' = take n out' ≡ output_from skip line
-LastLine line skip (Err e) out' = Unit
+abbrev pub LastLine : List ℕ → Bool → Option (List ℕ) → Result ℕ Failure → List ℕ
+    → Option (List ℕ) → Type 0
+LastLine line skip writer (Ok n) out' writer' =
+    (take n out' ≡ output_from skip line) × Appends writer writer' (take n out')
+LastLine line skip writer (Err (Writing e)) out' writer' = WriteFails (output_from skip line) writer writer'
+LastLine line skip writer (Err (Reading e)) out' writer' = ⊥
 
 -- ---- all turns
 
@@ -96,11 +113,16 @@ pub record Ended (h : History) (n : ℕ) (out : List ℕ) : Type 0 where
   pub none : last.read ≡ 0
   pub rest : take n out ≡ ahead last input []
 
--- How the program ends: with the input; after 2⁶⁴ - 1 turns; or because a read or a write failed.
-abbrev pub Closes : History → Result (Option ℕ) Failure → List ℕ → Type 0
-Closes h (Ok (Some n)) out = Ended h n out
-Closes h (Ok None) out = h.count ≡ 18446744073709551615
-Closes h (Err e) out = Unit
+-- How the program ends: with the input; after 2⁶⁴ - 1 turns; or because a read or a write failed. The bytes read are what the
+-- reader gave, whatever the pieces.
+abbrev pub Closes : History → Result (Option ℕ) Failure → List ℕ → Streams → Streams → Type 0
+Closes h (Ok (Some n)) out s s' = Ended h n out × Answered s s' h.read
+Closes h (Ok None) out s s' =
+    (h.count ≡ 18446744073709551615) × Transfers s s' h.read h.written
+Closes h (Err (Reading e)) out s s' =
+    Consumes s.reader s'.reader h.read × ReadFails (λ rest. output (h.read ++ rest)) s.writer s'.writer
+Closes h (Err (Writing e)) out s s' =
+    Consumes s.reader s'.reader h.read × WriteFails (output h.read) s.writer s'.writer
 
-abbrev pub Ran : Result (Option ℕ) Failure → List ℕ → Type 0
-Ran r out = (h : History) × Closes h r out
+abbrev pub Ran : Result (Option ℕ) Failure → List ℕ → Streams → Streams → Type 0
+Ran r out s s' = (h : History) × Closes h r out s s'

@@ -2,7 +2,7 @@
 // same.
 ghost use Rattle.std.specs.Prelude.{◌≡◌, ◌+◌, ◌≤◌, length};
 ghost use Rattle.answer_line.specs.Line.{answer_bytes};
-ghost use Rattle.type_lines.specs.Run.{Inside, Goes, Halts, Unfinished, Wrote, Ends, Moved};
+ghost use Rattle.type_lines.specs.Run.{Inside, Goes, Halts, Unfinished, Wrote, Ends};
 
 use crate::{BUFFER_BYTES, Progress};
 use answer_line::{ANSWER_BYTES, LINE_WORDS};
@@ -86,15 +86,4 @@ impl Output {
         }
         self.answer_at(line, 0)
     }
-}
-
-// Moves a part of a buffer to its front, and gives its length.
-#[tactic(auto, using(std::proofs::lemmas::Slice::between_is))]
-pub(crate) fn move_left(input: &mut [u8], from: usize, to: usize) -> usize
-    requires { (from ≤ to) × (to ≤ length input.old) }
-    ensures { Moved input.old from to result input.new }
-{
-    let size = to - from;
-    input.copy_within(from..to, 0);
-    size
 }

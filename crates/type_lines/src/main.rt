@@ -4,17 +4,19 @@
 
 #![tactic(auto)]
 
-ghost use Rattle.std.specs.Prelude.{◌≡◌, ◌<◌, ◌≤◌, length};
+ghost use Rattle.std.specs.Prelude.{◌≡◌, ◌<◌, ◌≤◌, length, take};
 ghost use Rattle.std.specs.Process.{exit_status};
+ghost use Rattle.input_lines.specs.Streams.{WritesOut, streams};
 ghost use Rattle.type_lines.specs.Run.{Unfinished};
 ghost use Rattle.type_lines.specs.Start.{Starts, status_of};
-ghost use Rattle.type_lines.specs.Turns.{Handed, ReadOn, Running, GoesOn, LastLine, Ran};
+ghost use Rattle.type_lines.specs.Turns.{ReadOn, Running, GoesOn, LastLine, Ran};
 
 use answer_line::ANSWER_BYTES;
+use input_lines::{Failure, move_to_front, read_behind, refuse_argument, write_out};
 use lines::Output;
 use std::env::{Env, FillError};
 use std::io;
-use std::io::{Cursor, Read, Write};
+use std::io::{Read, Write};
 use std::ops::ControlFlow;
 use std::process::ExitCode;
 
@@ -25,9 +27,8 @@ mod lines;
 // `Progress` and `Turn`.
 const BUFFER_BYTES: usize = 65_536;
 
-// The line that an argument gets.
-const ARGUMENT_LINE: &[u8] =
-    b"type_lines: takes no argument; the lines come from standard input, as in: type_lines < FILE\n";
+// What the program is called.
+const PROGRAM: &[u8] = b"type_lines";
 
 // Where the lines have got to: the place in the bytes read, how many bytes of answers are in the output, and whether
 // what comes next is the rest of a line that is answered already: a yes or no on which no other field hangs.
@@ -51,14 +52,6 @@ struct Turn {
     read: usize,
 }
 
-// Why the program stopped before its input ended. `report` prints it, and no `Display`: the error's number in brackets is
-// cut off from what is written.
-#[derive(Drop)]
-enum Failure {
-    Reading(io::Error),
-    Writing(io::Error),
-}
-
 // What the program did: it wrote the line that an argument gets, if that could be written; or it ran, with what `run` gave.
 #[derive(Drop)]
 enum Ending {
@@ -66,45 +59,16 @@ enum Ending {
     Lines(Result<Option<usize>, Failure>),
 }
 
-// How many bytes of an error's text say why: the error's number stands behind them in brackets.
-fn reason_length(text: &[u8]) -> usize
-    ensures { result ≤ length text.now }
-{
-    match text.iter().rposition(|c| *c == b'(') {
-        Some(i) if 0 < i => i - 1,
-        _ => text.len(),
-    }
-}
-
-// Writes a line to standard error: what failed, a colon and why.
-fn report(rt: &HostRuntime, failure: Failure) -> io::Result<()> {
-    let (what, error) = match failure {
-        Failure::Reading(error) => ("type_lines: reading standard input", error),
-        Failure::Writing(error) => ("type_lines: writing standard output", error),
-    };
-    let mut text = Cursor::new([0u8; 320]);
-    text.write_fmt(error)?;
-    let size = text.position();
-    let bytes = text.into_inner();
-    let mut stderr = rt.stderr();
-    stderr.write_fmt(what)?;
-    stderr.write_fmt(": ")?;
-    if size <= 320 {
-        stderr.write_all(&bytes[..reason_length(&bytes[..size as usize])])?;
-    }
-    stderr.write_fmt("\n")
-}
-
 // Writes so many bytes at the front of the output to standard output.
-fn flush<O: Write>(stdout: &mut O, out: &[u8], n: usize) -> Result<usize, Failure>
+fn flush<O: Write>(stdout: &mut O, out: &[u8], n: usize) -> Result<(), Failure>
     requires { n ≤ length out.now }
-    ensures { Handed result n }
+    ensures { WritesOut (O.contents stdout.old) (O.contents stdout.new) (take n out.now) result }
 {
-    stdout.write_all(&out[..n]).map_err(Failure::Writing)?;
-    Ok(n)
+    write_out(stdout, &out[..n])
 }
 
 // Reads more behind so many bytes of the input, an unfinished line.
+#[tactic(auto, using(crate::proofs::Turns::read_steps))]
 fn read_on<I: Read>(
     stdin: &mut I,
     input: &mut [u8],
@@ -113,9 +77,10 @@ fn read_on<I: Read>(
     wrote: usize,
 ) -> Result<ControlFlow<Turn, Turn>, Failure>
     requires { left < length input.old }
-    ensures { ReadOn result input.old left skip wrote input.new }
+    ensures { ReadOn result input.old left skip wrote input.new
+        (I.remaining stdin.old) (I.remaining stdin.new) }
 {
-    let n = stdin.read(&mut input[left..]).map_err(Failure::Reading)?;
+    let n = read_behind(stdin, input, left)?;
     let next = Turn {
         filled: left + n,
         from: 0,
@@ -139,7 +104,9 @@ fn take_turn<I: Read, O: Write>(
     output: &mut Output,
 ) -> Result<ControlFlow<Turn, Turn>, Failure>
     requires { Running input.old t }
-    ensures { GoesOn t input.old output.old.bytes result input.new output.new.bytes }
+    ensures { GoesOn t
+        input.old output.old.bytes (streams (I.remaining stdin.old) (O.contents stdout.old)) result
+        input.new output.new.bytes (streams (I.remaining stdin.new) (O.contents stdout.new)) }
 {
     let filled = t.filled;
     let p = Progress {
@@ -148,22 +115,22 @@ fn take_turn<I: Read, O: Write>(
         skip: t.skip,
     };
     let q = output.answer_lines(&input[..filled], p);
-    let wrote = flush(stdout, &output.bytes, q.wrote)?;
-    if wrote <= output.bytes.len() - ANSWER_BYTES {
-        let left = lines::move_left(input, q.from, filled);
-        return read_on(stdin, input, left, q.skip, wrote);
+    flush(stdout, &output.bytes, q.wrote)?;
+    if q.wrote <= output.bytes.len() - ANSWER_BYTES {
+        let left = move_to_front(input, q.from, filled);
+        return read_on(stdin, input, left, q.skip, q.wrote);
     }
     Ok(ControlFlow::Continue(Turn {
         filled,
         from: q.from,
         skip: q.skip,
-        written: wrote,
+        written: q.wrote,
         read: 0,
     }))
 }
 
 // Answers what is left at the end of the input, and writes the answer: how many bytes.
-#[tactic(auto, using(crate::proofs::Turns::last_handed))]
+#[tactic(auto, using(crate::proofs::Turns::last_steps))]
 fn finish<O: Write>(
     stdout: &mut O,
     line: &[u8],
@@ -171,10 +138,12 @@ fn finish<O: Write>(
     output: &mut Output,
 ) -> Result<usize, Failure>
     requires { Unfinished line.now }
-    ensures { LastLine line.now skip result output.new.bytes }
+    ensures { LastLine line.now skip (O.contents stdout.old) result
+        output.new.bytes (O.contents stdout.new) }
 {
     let n = output.answer_last(line, skip);
-    flush(stdout, &output.bytes, n)
+    flush(stdout, &output.bytes, n)?;
+    Ok(n)
 }
 
 // Turns until the input ends, and how many bytes were written last; none where so many turns were all, which cannot run
@@ -186,7 +155,9 @@ fn run<I: Read, O: Write>(
     input: &mut [u8; BUFFER_BYTES],
     output: &mut Output,
 ) -> Result<Option<usize>, Failure>
-    ensures { Ran result output.new.bytes }
+    ensures { Ran result output.new.bytes
+        (streams (I.remaining stdin.old) (O.contents stdout.old))
+        (streams (I.remaining stdin.new) (O.contents stdout.new)) }
 {
     let mut t = Turn {
         filled: 0,
@@ -217,11 +188,14 @@ fn start<I: Read, O: Write, E: Write>(
     input: &mut [u8; BUFFER_BYTES],
     output: &mut Output,
 ) -> Ending
-    ensures { Starts argument result output.new.bytes stdin.old stdin.new stdout.old stdout.new (E.contents stderr.old) (E.contents stderr.new) }
+    ensures { Starts argument result output.new.bytes stdin.old stdin.new stdout.old stdout.new
+        (streams (I.remaining stdin.old) (O.contents stdout.old))
+        (streams (I.remaining stdin.new) (O.contents stdout.new))
+        (E.contents stderr.old) (E.contents stderr.new) }
 {
     match argument {
         Err(FillError::NotPresent) => Ending::Lines(run(stdin, stdout, input, output)),
-        _ => Ending::Argument(stderr.write_all(ARGUMENT_LINE)),
+        _ => Ending::Argument(refuse_argument(PROGRAM, stderr)),
     }
 }
 
@@ -251,7 +225,7 @@ fn main(rt: HostRuntime) -> ExitCode {
     );
     let status = status_of(&ending);
     if let Ending::Lines(Err(failure)) = ending {
-        let _ = report(&rt, failure);
+        let _ = failure.report(PROGRAM, &mut rt.stderr());
     }
     status
 }
