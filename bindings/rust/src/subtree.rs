@@ -9,7 +9,8 @@ use std::fmt;
 
 impl Field<'_> {
     /// The field's type, by itself: a bare type with all that the field contains. Its text is its names and zones, end to
-    /// end, or the text of the whole type, if that is shorter.
+    /// end, or the text of the whole type, if that is shorter. Names that stand in the name list, as the `item` of
+    /// `List(Int8)` that was read, stay there; [`DataType::without_field`] has them in the text.
     ///
     /// ```
     /// use arrow_types::DataType;

@@ -12,17 +12,17 @@ use borrow.Rule.Slice.PartMut.{put_same}
 use Rattle.tokenizer.specs.Answer.{Out, refused, done, refuse, number_of, answer_of}
 use Rattle.tokenizer.specs.declared.refusal.Refusal.{Refusal}
 use Rattle.tokenizer.proofs.Basics.{of_true}
-use Rattle.datatype.specs.Tree.{depth, name_list}
+use Rattle.datatype.specs.Tree.{depth}
 use Rattle.datatype.specs.Table.{row_words, tree_of}
 use Rattle.row_table.specs.Sound.{is_sound}
-use Rattle.subtrees.specs.Levels.{levels_of}
-use Rattle.subtrees.proofs.LevelLaws.{levels_few}
-use Rattle.row_table.proofs.DepthLaws.{sound-levels}
+use Rattle.row_table.specs.declared.nodes.SoundTree.{SoundTree}
+use Rattle.row_table.proofs.NodeLaws.{few_rows}
+use Rattle.row_table.proofs.DepthLaws.{sound-flat}
 use Rattle.display_length.specs.Display.{display}
 use Rattle.display_length.specs.PrintedLength.{quoted_latin}
 use Rattle.datatype_display.specs.Print.{default_spelling, print, length_of, print_answer, written, print_bytes}
 use Rattle.answer_line.specs.Line.{no_line, answer_bytes}
-use Rattle.answer_line.specs.Internal.Steps.{Answers, ok_head, HeadLength, Framed, tree_line, table_line}
+use Rattle.answer_line.specs.Internal.Steps.{Answers, ok_head, HeadLength, Framed, tree_line}
 
 -- ---- the printer's answer
 
@@ -130,7 +130,7 @@ framed_answers head s back out r after f at past =
           ∙ sym (append_assoc head (s ++ (10 ∷ [])) (drop (length (head ++ (s ++ (10 ∷ [])))) out));
     }
 
-module _ (text table out : List ℕ) (size rows levels h : ℕ) (head : HeadLength rows levels h) (sized : length out ≡ size) (room : answer_bytes ≤ size)
+module _ (text names table out : List ℕ) (size rows levels h : ℕ) (head : HeadLength rows levels h) (sized : length out ≡ size) (room : answer_bytes ≤ size)
     (lent part back : List ℕ) (is_lent : lent ≡ lent_part out size h) (is_back : back ≡ back_in out size h part) where
   lent_room : 16384 ≤ length lent
   lent_room =
@@ -138,18 +138,18 @@ module _ (text table out : List ℕ) (size rows levels h : ℕ) (head : HeadLeng
       let e : length lent ≡ size - h = ap (λ (l : List ℕ). length l) is_lent ∙ lent_length out size h sized (omega arith) in
       omega arith
 
-  module _ (p : Result ℕ Refusal) (e : answer_of p ≡ print_answer default_spelling text name_list table lent) (o : part ≡ print_bytes default_spelling text name_list table lent) where
-    answers : answer_of p ≡ length_of (print default_spelling text name_list table 16384)
-    answers = e ∙ (print_enough text name_list table lent lent_room).0
+  module _ (p : Result ℕ Refusal) (e : answer_of p ≡ print_answer default_spelling text names table lent) (o : part ≡ print_bytes default_spelling text names table lent) where
+    answers : answer_of p ≡ length_of (print default_spelling text names table 16384)
+    answers = e ∙ (print_enough text names table lent lent_room).0
 
-    writes : part ≡ written lent (print default_spelling text name_list table 16384)
-    writes = o ∙ bytes_enough text name_list table lent lent_room
+    writes : part ≡ written lent (print default_spelling text names table 16384)
+    writes = o ∙ bytes_enough text names table lent lent_room
 
     -- a refused print has left the output as it was
     pub tree-refused : (d : Refusal) → p ≡ Err d → (r : ℕ) (after : List ℕ) → Answers (no_line (record { number = number_of d; place = None })) back r after
-        → Answers (tree_line rows levels (print default_spelling text name_list table 16384)) out r after
+        → Answers (tree_line rows levels (print default_spelling text names table 16384)) out r after
     unfolding tree_line
-    tree-refused d q r after a = go (print default_spelling text name_list table 16384) (sym (ap answer_of q) ∙ answers) writes
+    tree-refused d q r after a = go (print default_spelling text names table 16384) (sym (ap answer_of q) ∙ answers) writes
       where
         go : (t : Out (List ℕ)) → refuse (number_of d) ≡ length_of t → part ≡ written lent t → Answers (tree_line rows levels t) out r after
         go (refused x) i w =
@@ -160,9 +160,9 @@ module _ (text table out : List ℕ) (size rows levels h : ℕ) (head : HeadLeng
 
     -- a text that was printed stands behind its head
     pub tree-printed : (n : ℕ) → p ≡ Ok n → (r : ℕ) (after : List ℕ) → Framed (ok_head rows levels) n back r after
-        → Answers (tree_line rows levels (print default_spelling text name_list table 16384)) out r after
+        → Answers (tree_line rows levels (print default_spelling text names table 16384)) out r after
     unfolding tree_line
-    tree-printed n q r after f = go (print default_spelling text name_list table 16384) (sym (ap answer_of q) ∙ answers) writes (print_enough text name_list table lent lent_room).1
+    tree-printed n q r after f = go (print default_spelling text names table 16384) (sym (ap answer_of q) ∙ answers) writes (print_enough text names table lent lent_room).1
       where
         go : (t : Out (List ℕ)) → done n ≡ length_of t → part ≡ written lent t → text_size t ≤ 16384 → Answers (tree_line rows levels t) out r after
         go (refused x) i w few = absurd (let z : ◌≡◌ {A = ℕ} 0 1 = cc in omega arith)
@@ -175,17 +175,15 @@ module _ (text table out : List ℕ) (size rows levels h : ℕ) (head : HeadLeng
             let past : drop (h + length s + 1) back ≡ drop (h + length s + 1) out = ap (λ (l : List ℕ). drop (h + length s + 1) l) stands ∙ back-past out size h sized (omega arith) s (omega arith) in
             framed_answers (ok_head rows levels) s back out r after (rw size_is at f) (rw a at at) (rw a at past)
 
--- ---- the levels
+-- ---- the head
 
--- the levels of rows that are printed are the tree's depth; where they are refused, no levels are written
-pub levels-line : (text table : List ℕ) → tree_line (length table / row_words) (levels_of table) (print default_spelling text name_list table 16384) ≡ table_line text table
-unfolding table_line
-levels-line text table = go (is_sound text name_list table) refl
-  where
-    go : (sound : Bool) → is_sound text name_list table ≡ sound
-        → tree_line (length table / row_words) (levels_of table) (print default_spelling text name_list table 16384) ≡ tree_line (length table / row_words) (depth (tree_of text name_list table)) (print default_spelling text name_list table 16384)
-    go true s = ap (λ (k : ℕ). tree_line (length table / row_words) k (print default_spelling text name_list table 16384)) (sound-levels text name_list table (of_true _ s))
-    go false s = unfold print tree_line in rw s
+-- a sound tree has at most 1,024 rows and 64 levels
+module _ (w : SoundTree) where
+  pub rows-few : length w.tree.rows.now / row_words ≤ 1024
+  rows-few = let f = few_rows w.tree.text.now w.tree.names.now w.tree.rows.now w.sound in omega arith
 
--- what the answer to a table uses
-pub ruleset levels = (levels_few, levels-line)
+  pub levels-few : depth (tree_of w.tree.text.now w.tree.names.now w.tree.rows.now) ≤ 64
+  levels-few = sound-flat w.tree.text.now w.tree.names.now w.tree.rows.now w.sound
+
+-- what the answer to a tree uses
+pub ruleset head_fits = (rows-few, levels-few)

@@ -4,6 +4,7 @@ use mathlib.Core.List.{List, ◌++◌, append_assoc}
 use Prim.Native.Nat.{ℕ, ◌*◌, ◌/◌, ◌≤◌}
 use native.Mathlib.Omega.{arith}
 use Rattle.std.specs.Prelude.{Some}
+use lib.Dec.{T}
 use lib.ListN.{length, take, drop, length-append, take-append-drop}
 use lib.Seq.{length-take-le, take-append_seam, drop-append-le}
 use borrow.Author.Tests.{le-leb}
@@ -13,16 +14,17 @@ use Rattle.tokenizer.specs.Answer.{Out, refused, done}
 use Rattle.datatype.specs.Tree.{Forest, count, depth, Row, name_list}
 use Rattle.datatype.specs.Table.{row_words, table_of, tree_of, rows_lent}
 use Rattle.datatype.proofs.Table.{length_table, view_table}
+use Rattle.row_table.specs.Sound.{is_sound}
 use Rattle.row_table.proofs.DepthLaws.{depth_labels}
 use Rattle.row_table.proofs.SoundTree.{sound_tree, sound-count}
-use Rattle.datatype_parse.proofs.ReadSound.{read_sound}
+use Rattle.datatype_parse.proofs.ReadSound.{read_sound, lent-sound}
 use Rattle.datatype_parse.proofs.Placed.{answer-place}
 use Rattle.parser.specs.Answer.{refusal_in}
 use Rattle.parser.specs.declared.error.ReadError.{ReadError}
 use Rattle.datatype_parse.specs.Parse.{parse, row_count, filled, parse_answer, parse_rows}
 use Rattle.output.specs.Digits.{digits}
 use Rattle.datatype_display.specs.Print.{default_spelling, print}
-use Rattle.answer_line.specs.Line.{ok_line, line_words, line_answer, line_answered, line_rows, line_out, answer_bytes}
+use Rattle.answer_line.specs.Line.{ok_line, read_line, line_words, line_answer, line_answered, line_rows, line_out, answer_bytes}
 use Rattle.answer_line.specs.Internal.Steps.{Answers, ok_head, tree_line, table_line}
 
 -- ---- the answer to the table of a tree that was read
@@ -37,7 +39,7 @@ line_of f levels (done s) e =
     ∙ ap (λ (l : List ℕ). bytes "ok " ++ l)
     (append_assoc d (bytes " " ++ (digits (depth f) ++ bytes " ")) t ∙ ap (λ (l : List ℕ). d ++ (bytes " " ++ l)) (append_assoc (digits (depth f)) (bytes " ") t))
 
-pub table_line_lem : (text : List ℕ) (f : Forest Row) → table_line text (table_of f) ≡ ok_line f (print default_spelling text name_list (table_of f) 16384)
+pub table_line_lem : (text : List ℕ) (f : Forest Row) → table_line text name_list (table_of f) ≡ ok_line f (print default_spelling text name_list (table_of f) 16384)
 unfolding table_line tree_of
 table_line_lem text f =
     let rows : length (table_of f) / row_words ≡ count f = let e = length_table f in omega arith in
@@ -105,8 +107,24 @@ table_read f rest =
     let l : row_words * count f ≡ length (table_of f) = let m = length_table f in omega arith in
     ap (λ (k : ℕ). take k (table_of f ++ rest)) l ∙ take-append_seam (table_of f) rest
 
+-- the rows that reading has left are a sound tree
+pub read-is-sound : (line rows : List ℕ) (n : ℕ) → done n ≡ parse_answer line rows → (after : List ℕ) → after ≡ parse_rows line rows → T (is_sound line name_list (take (row_words * n) after))
+read-is-sound line rows n e after s = rw s ((lent-sound line rows n (sym e)).sound)
+
+-- the answer to these rows is the answer to the line
+pub answer-read : (line rows : List ℕ) → line_words ≤ length rows → (n : ℕ) → done n ≡ parse_answer line rows → (after : List ℕ) → after ≡ parse_rows line rows → (out : List ℕ) (r : ℕ) (out' : List ℕ)
+    → Answers (table_line line name_list (take (row_words * n) after)) out r out' → Answers (line_answer line) out r out'
+unfolding line_answer
+answer-read line rows h n e after s out r out' = go (parse line 1024) (e ∙ answer_read line rows h) (s ∙ rows_filled line rows h)
+  where
+    go : (o : Out (Forest Row)) → done n ≡ row_count o → after ≡ filled rows o → Answers (table_line line name_list (take (row_words * n) after)) out r out' → Answers (read_line line o) out r out'
+    go (refused x) c i a = absurd (let z : ◌≡◌ {A = ℕ} 0 1 = cc in omega arith)
+    go (done f) c i a =
+        let size : n ≡ count f = cc in
+        rw (size, i, table_read f, table_line_lem line f) at a
+
 -- what reading a line uses
-pub ruleset reads = (place_few, read_few, length-take, answer_read, rows_filled, table_read, table_line_lem)
+pub ruleset reads = (place_few, read_few, length-take, answer_read, read-is-sound)
 
 -- ---- the clauses of the public function
 

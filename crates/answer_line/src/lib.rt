@@ -11,6 +11,8 @@ mod tree;
 mod write;
 
 use datatype::rows::{MAX_ROWS, MAX_TEXT, ROW_WORDS};
+use datatype::{Field, Tree};
+use row_table::nodes::SoundTree;
 
 // The words that 1,024 rows take.
 pub const LINE_WORDS: usize = ROW_WORDS * MAX_ROWS;
@@ -29,7 +31,15 @@ fn answer_in(line: &[u8], rows: &mut [u32], out: &mut [u8; ANSWER_BYTES]) -> usi
 {
     match datatype_parse::parse_data_type(line, rows) {
         Err(error) => write::put_no_at(out, error),
-        Ok(n) => tree::answer_tree(line, &rows[..ROW_WORDS * n], out),
+        Ok(n) => {
+            // What was just read is sound, and is not tested again.
+            let tree = Tree {
+                text: line,
+                names: &Field::NAME_LIST,
+                rows: &rows[..ROW_WORDS * n],
+            };
+            tree::answer_tree(&SoundTree { tree }, out)
+        }
     }
 }
 

@@ -1,3 +1,2 @@
 pub mod Status
 pub mod Step
-pub mod Taken

@@ -11,7 +11,7 @@ ghost use Rattle.row_table.specs.Sound.{is_sound, depth_of};
 ghost use Rattle.subtrees.specs.Equal.{equal_trees};
 ghost use Rattle.layout.specs.Layout.{verdict_of};
 ghost use Rattle.needs.specs.Needs.{needs_of};
-ghost use Rattle.arrow_types.specs.Taken.{rows_of, bytes_of};
+ghost use Rattle.packed.specs.Packed.{rows_answered, bytes_answered};
 ghost use Rattle.column_out.specs.ColumnOut.{column_out_answer, column_out_rows, column_out_bytes};
 ghost use Rattle.datatype_parse.specs.Parse.{parse_answer, parse_rows};
 ghost use Rattle.datatype_parse.specs.RowsToLend.{rows_to_lend};
@@ -250,8 +250,8 @@ pub extern "C" fn arrow_types_take_column_out<'a>(
     length: &mut usize,
 ) -> u32
     ensures status { result ≡ status_of (column_out_answer text.now names.now rows.now field rows_left.old text_left.old) }
-    ensures count { count.new ≡ rows_of (column_out_answer text.now names.now rows.now field rows_left.old text_left.old) }
-    ensures length { length.new ≡ bytes_of (column_out_answer text.now names.now rows.now field rows_left.old text_left.old) }
+    ensures count { count.new ≡ rows_answered (column_out_answer text.now names.now rows.now field rows_left.old text_left.old) }
+    ensures length { length.new ≡ bytes_answered (column_out_answer text.now names.now rows.now field rows_left.old text_left.old) }
     ensures contents { rows_left.new ≡ column_out_rows text.now names.now rows.now field rows_left.old text_left.old }
     ensures bytes { text_left.new ≡ column_out_bytes text.now names.now rows.now field rows_left.old text_left.old }
 {

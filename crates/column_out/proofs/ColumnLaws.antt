@@ -5,7 +5,7 @@
 --   only-field        taking the only field leaves `Struct()`
 use Rattle.std.specs.Prelude.{if◌then◌else◌}
 use mathlib.Core.Path.{◌≡◌, refl, sym, ap, subst, ◌∙◌}
-use mathlib.Core.Bool.{Bool, true, false, ◌&&◌}
+use mathlib.Core.Bool.{Bool, true, false, not, ◌&&◌}
 use mathlib.Core.List.{List, [], ◌∷◌, ◌++◌}
 use Prim.Native.Nat.{ℕ, zero, suc, ◌*◌, ◌≤◌, ◌<◌, min}
 use native.Mathlib.Omega.{arith}
@@ -18,13 +18,14 @@ use Rattle.tokenizer.specs.Answer.{Out, refused, done, refuse, ◌>>=◌}
 use Rattle.datatype.specs.Kind.{shape_of}
 use Rattle.datatype.specs.Tree.{Forest, ∅, node, count, roots, depth, Label, name_list, label_of, labels}
 use Rattle.datatype.specs.Table.{row_words, table_of, tree_of, rows_lent}
+use Rattle.row_table.specs.Fields.{struct_fields}
 use Rattle.row_table.specs.Sound.{Rules, Standing, bare, arity_fits, role_fits, id_fits, name_fits, rules_of, zone_fits, shape_fits, rows_fit, is_sound}
 use Rattle.row_table.proofs.SoundTree.{RowFits, rules_at, rows_fit_lem, fits_rows, SoundTree, sound_tree, sound-labels}
-use Rattle.packed.specs.Packed.{packed_text, packed, packed_size, size_fits, sum_of_lengths}
+use Rattle.packed.specs.Packed.{packed_text, packed, packed_size, size_fits, size_by, sum_of_lengths}
 use Rattle.packed.specs.declared.Packed.{Packed}
 use Rattle.packed.proofs.PackedLaws.{packed-length, packed-tree, SoundLabels, sound-says, packed-sound}
 use Rattle.packed.proofs.LentLaws.{packed-rows-first, packed-bytes-first}
-use Rattle.column_out.specs.ColumnOut.{without, trees, tree_left, column_out, answer_by, rows_by, bytes_by, column_out_answer, column_out_rows, column_out_bytes, empty_struct}
+use Rattle.column_out.specs.ColumnOut.{without, trees, tree_left, column_out, rows_by, bytes_by, column_out_answer, column_out_rows, column_out_bytes, empty_struct}
 
 -- ---- a run without one of its trees
 
@@ -119,7 +120,12 @@ then_done (done x) t n a e =
     let q : x ≡ a = cc in
     (c.1, subst (λ y. t y ≡ true) q c.0)
 
-answered : (o : Out (Forest Label)) (size : Packed) → answer_by o ≡ done size → (f : Forest Label) × (o ≡ done f) × (packed_size f ≡ size)
+-- where a test that has to hold comes first
+then_holds : {A B : Type 0} (b : Bool) (o : Out A) (n : ℕ) (k : A → Out B) (a : B) → ((if not b then refuse n else o) >>= k) ≡ done a → (b ≡ true) × ((o >>= k) ≡ done a)
+then_holds true o n k a e = (refl, e)
+then_holds false o n k a e = absurd (let z : ◌≡◌ {A = ℕ} 0 1 = cc in omega arith)
+
+answered : (o : Out (Forest Label)) (size : Packed) → size_by o ≡ done size → (f : Forest Label) × (o ≡ done f) × (packed_size f ≡ size)
 answered (refused r) size e = absurd (let z : ◌≡◌ {A = ℕ} 0 1 = cc in omega arith)
 answered (done f) size e = (f, refl, cc)
 
@@ -177,11 +183,12 @@ module _ (text names table : List ℕ) (n : ℕ) (rows bytes : List ℕ) where
 
     module _ (root : Label) (fields : Forest Label) (w : SoundLabels root fields) (was : tree_of text names table ≡ node root fields ∅) where
       judged : (is_sound text names table ≡ true) × (eqb root.kind 32 ≡ true) × (ltb n (length (roots fields)) ≡ true) × (done (node root (without n fields) ∅) ≡ done f)
-      unfolding tree_left
+      unfolding tree_left struct_fields
       judged =
-          let e : (if is_sound text names table then (if eqb root.kind 32 then (if ltb n (length (roots fields)) then done (node root (without n fields) ∅) else refuse 29) else refuse 25) else refuse 17) ≡ done f = rw was at room.0 in
-          let a = if_done (is_sound text names table) (if eqb root.kind 32 then (if ltb n (length (roots fields)) then done (node root (without n fields) ∅) else refuse 29) else refuse 25) 17 f e in
-          let b = if_done (eqb root.kind 32) (if ltb n (length (roots fields)) then done (node root (without n fields) ∅) else refuse 29) 25 f a.1 in
+          let k = λ (fs : Forest Label). if ltb n (length (roots fs)) then done (node root (without n fields) ∅) else refuse 29 in
+          let e : ((if not (is_sound text names table) then refuse 17 else (if not (eqb root.kind 32) then refuse 25 else done fields)) >>= k) ≡ done f = rw was at room.0 in
+          let a = then_holds (is_sound text names table) (if not (eqb root.kind 32) then refuse 25 else done fields) 17 k f e in
+          let b = then_holds (eqb root.kind 32) (done fields) 25 k f a.1 in
           let d = if_done (ltb n (length (roots fields))) (done (node root (without n fields) ∅)) 29 f b.1 in
           (a.0, b.0, d.0, d.1)
 
@@ -198,8 +205,8 @@ module _ (text names table : List ℕ) (n : ℕ) (rows bytes : List ℕ) where
           (ltb→lt n (length (roots fields)) (of_true _ judged.2)))
 
     found-sound : is_sound text names table ≡ true
-    unfolding tree_left
-    found-sound = (if_done (is_sound text names table) _ 17 f room.0).0
+    unfolding tree_left struct_fields
+    found-sound = (then_holds (is_sound text names table) _ 17 _ f room.0).0
 
     of-sound : SoundTree text names table → ColumnOut text names table n rows bytes (packed_size f)
     unfolding labels

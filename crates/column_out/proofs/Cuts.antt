@@ -1,140 +1,141 @@
--- A table's rows without those of one tree: what stays before it and behind it is packed as the run without that tree.
---   tree_none, tree_some   where a run has an n-th tree
---   without_labels         what a run says without its n-th tree
---   Cut, cut               the stretches before and behind it
+-- Trees side by side, and the n-th of them cut out.
+--   fewer            there is no n-th
+--   Cut, cut         there is: the rows before it and behind it, put one behind the other, are the others written at once
 use Rattle.std.specs.Prelude.{Some, None}
-use mathlib.Core.Path.{◌≡◌, refl, sym, ap, subst, ◌∙◌}
-use mathlib.Core.List.{List, ◌++◌, append_assoc}
-use Prim.Native.Nat.{ℕ, zero, suc, ◌+◌, ◌≤◌, ◌<◌}
+use Rattle.std.specs.declared.option.Option.{Option}
+use mathlib.Core.Path.{◌≡◌, ap, ◌∙◌, subst}
+use mathlib.Core.Bool.{true}
+use mathlib.Core.List.{List, ◌++◌}
+use Prim.Native.Nat.{ℕ, zero, suc, ◌+◌, ◌-◌, ◌≤◌, ◌<◌}
+use native.Mathlib.Decide.{dec_lt}
 use native.Mathlib.Omega.{arith}
 use lib.ListN.{length, length-append}
-use Rattle.datatype.specs.Tree.{Forest, ∅, node, count, roots, map_forest, Row, Label, label_of, labels}
-use Rattle.datatype.specs.Table.{words_of, table_of, rows_at}
-use Rattle.subtrees.proofs.ParentTree.{Stands, row-size, row-kids, row_next}
+use borrow.Author.Tests.{lt-ltb, le-ltb}
+use Rattle.datatype.specs.Tree.{Forest, node, count, roots, Label, labels}
+use Rattle.datatype.specs.Table.{rows_at}
+use Rattle.subtrees.specs.Rows.{forest_at}
+use Rattle.subtrees.specs.Internal.Run.{Nests}
+use Rattle.subtrees.proofs.Runs.{Turn, turn, forest_none, count_forest}
 use Rattle.subtrees.proofs.RowList.{count_labels}
-use Rattle.packed.specs.Packed.{row_text, packed_text, packed_row, packed_from}
+use Rattle.row_table.proofs.Walks.{labels-turn}
+use Rattle.packed.specs.Packed.{row_text, packed_text}
+use Rattle.packed.specs.Packer.{row_written, trees_written, trees_fit}
+use Rattle.packed.specs.declared.packer.Packer.{Packer}
+use Rattle.packed.proofs.PackerRuns.{fits_next, node-written}
 use Rattle.column_out.specs.ColumnOut.{without}
-use Rattle.column_out.specs.Internal.Stretch.{tree_at, stretch_text, stretch_words}
-use Rattle.column_out.proofs.Stretches.{node_text, node_words, packed_node, tree_text, tree_words}
-
-pub tree_none : {A : Type 0} (f : Forest A) (i n : ℕ) → tree_at i n f ≡ None → length (roots f) ≤ n
-unfolding tree_at
-tree_none ∅ i n e = omega arith
-tree_none (node a kids next) i zero e = absurd (let z : ◌≡◌ {A = ℕ} 0 1 = cc in omega arith)
-tree_none (node a kids next) i (suc n) e = omega (arith, tree_none next (i + suc (count kids)) n e)
-
-pub tree_some : {A : Type 0} (f : Forest A) (i n first : ℕ) → tree_at i n f ≡ Some first → n < length (roots f)
-unfolding tree_at
-tree_some ∅ i n first e = absurd (let z : ◌≡◌ {A = ℕ} 0 1 = cc in omega arith)
-tree_some (node a kids next) i zero first e = omega arith
-tree_some (node a kids next) i (suc n) first e = omega (arith, tree_some next (i + suc (count kids)) n first e)
-
-pub without_map : {A B : Type 0} (g : A → B) (n : ℕ) (f : Forest A) → map_forest g (without n f) ≡ without n (map_forest g f)
-without_map g zero ∅ = refl
-without_map g (suc n) ∅ = refl
-without_map g zero (node a kids next) = refl
-without_map g (suc n) (node a kids next) = ap (node (g a) (map_forest g kids)) (without_map g n next)
+use Rattle.column_out.specs.Internal.Stretch.{nth_row, label_at, stretch_length, put_stretch}
+use Rattle.column_out.proofs.Stretches.{run, put_split, length_split, RunPacks, run_packs, kids-count, node_long, node_put}
 
 module _ (text names table : List ℕ) where
-  -- The n-th tree of a run that stands at row i begins at row first: so many rows stand before it and behind it.
-  pub record Cut (i n first : ℕ) (f : Forest Row) : Type 0 where
-    pub before : ℕ
-    pub after : ℕ
-    pub begins : i + before ≡ first
-    pub ends : first + rows_at table first + after ≡ i + count f
+  no-trees : (at end : ℕ) → (at < end → ⊥) → length (roots (run text names table at end)) ≡ 0
+  unfolding labels
+  no-trees at end h = let z : end - at ≡ 0 = omega arith in rw (z, forest_none table at)
+
+  one-more : (at end : ℕ) → Turn table at end → length (roots (run text names table at end)) ≡ suc (length (roots (run text names table (at + rows_at table at) end)))
+  one-more at end t = rw (labels-turn text names table at end t)
+
+  pub fewer : (n at end : ℕ) → Nests table at (end - at) → nth_row table at end n ≡ None → length (roots (run text names table at end)) ≤ n
+  unfolding nth_row
+  fewer zero at end h e = elim (dec_lt at end) [ yes l ↦ absurd (let z : ◌≡◌ {A = Option ℕ} (Some at) None = rw (lt-ltb at end l) at e in cc) | no l ↦ omega (arith, no-trees at end l) ]
+  fewer (suc n) at end h e = elim (dec_lt at end) [ yes l ↦ some l (turn table at end h l) (fewer n (at + rows_at table at) end) | no l ↦ omega (arith, no-trees at end l) ]
+    where
+      some : at < end → Turn table at end → (Nests table (at + rows_at table at) (end - (at + rows_at table at)) → nth_row table (at + rows_at table at) end n ≡ None → length (roots (run text names table (at + rows_at table at) end)) ≤ n)
+          → length (roots (run text names table at end)) ≤ suc n
+      some l t f = omega (arith, one-more at end t, f t.rest (rw (lt-ltb at end l) at e))
+
+  -- The n-th of the trees from row at to row end begins at row first.
+  pub record Cut (at end n first : ℕ) : Type 0 where
+    pub begins : at ≤ first
     pub some-rows : 1 ≤ rows_at table first
-    pub rows : count (without n f) ≡ before + after
-    pub bytes : stretch_text text names table i before ++ stretch_text text names table (first + rows_at table first) after ≡ packed_text (labels text names (without n f))
-    pub words : (at : ℕ) → stretch_words text names table at i before ++ stretch_words text names table (at + length (stretch_text text names table i before)) (first + rows_at table first) after
-        ≡ table_of (packed_from at (labels text names (without n f)))
+    pub within : first + rows_at table first ≤ end
+    pub there : n < length (roots (run text names table at end))
+    pub rows : count (without n (run text names table at end)) ≡ (first - at) + (end - (first + rows_at table first))
+    pub long : stretch_length text names table at (first - at) + stretch_length text names table (first + rows_at table first) (end - (first + rows_at table first)) ≡ length (packed_text (without n (run text names table at end)))
+    pub put : (p : Packer) → trees_fit p (without n (run text names table at end)) ≡ true
+        → put_stretch text names table (put_stretch text names table p at (first - at)) (first + rows_at table first) (end - (first + rows_at table first)) ≡ trees_written p (without n (run text names table at end))
 
-  module _ (i : ℕ) (r : Row) (kids next : Forest Row) (rest : List ℕ) (s : Stands table i (node r kids next) rest) where
-    abbrev behind : ℕ
-    behind = i + suc (count kids)
+  module _ (at end : ℕ) (t : Turn table at end) where
+    abbrev next : ℕ
+    next = at + rows_at table at
 
-    abbrev below : Forest Label
-    below = labels text names kids
+    abbrev own : Label
+    own = label_at text names table at
 
-    cut-first : Cut i 0 i (node r kids next)
-    unfolding stretch_text stretch_words
+    abbrev kids : Forest Label
+    kids = run text names table (at + 1) next
+
+    whole : run text names table at end ≡ node own kids (run text names table next end)
+    whole = labels-turn text names table at end t
+
+    below : RunPacks text names table (at + 1) next
+    below = run_packs text names table (at + 1) next t.kids
+
+    cut-first : Cut at end 0 at
+    unfolding put_stretch stretch_length
     cut-first =
-        let e = row-size table i r kids next rest s in
-        let n = row_next table i r kids next rest s in
-        let z : (at : ℕ) → at + 0 ≡ at = λ at. omega arith in
+        let r = run_packs text names table next end t.rest in
+        let z : at - at ≡ 0 = omega arith in
         record {
-          before = 0;
-          after = count next;
           begins = omega arith;
-          ends = omega arith;
-          some-rows = omega arith;
-          rows = omega arith;
-          bytes = rw e (tree_text text names table next behind rest n);
-          words = λ at. rw (e, z at) (tree_words text names table next at behind rest n);
+          some-rows = t.some-rows;
+          within = t.within;
+          there = rw whole (omega arith);
+          rows = rw whole (omega (arith, count_labels text names (forest_at table next (end - next)), count_forest table next (end - next) t.rest));
+          long = rw (whole, z) (omega (arith, r.long));
+          put = rw (whole, z) r.put;
         }
 
-    abbrev label : Label
-    label = label_of text names r
+    module _ (n first : ℕ) (c : Cut next end n first) where
+      abbrev rest : Forest Label
+      rest = without n (run text names table next end)
 
-    -- the rows before the cut are the first tree's and some of the run behind it
-    module _ (n first : ℕ) (c : Cut behind n first next) where
-      abbrev end : ℕ
-      end = first + rows_at table first
+      abbrev behind : ℕ
+      behind = first + rows_at table first
 
-      abbrev left : List ℕ
-      left = stretch_text text names table behind c.before
+      before : first - at ≡ rows_at table at + (first - next)
+      before = let b = c.begins in omega arith
 
-      kids-text : stretch_text text names table (suc i) (count kids) ≡ packed_text below
-      kids-text = tree_text text names table kids (suc i) (table_of next ++ rest) (row-kids table i r kids next rest s)
-
-      before-text : stretch_text text names table i (suc (count kids) + c.before) ≡ row_text label ++ (packed_text below ++ left)
-      before-text = node_text text names table i r kids next rest s c.before kids-text
-
-      later-text : stretch_text text names table i (suc (count kids) + c.before) ++ stretch_text text names table end c.after ≡ packed_text (node label below (labels text names (without n next)))
+      later-long : stretch_length text names table at (first - at) + stretch_length text names table behind (end - behind) ≡ length (packed_text (node own kids rest))
       unfolding packed_text
-      later-text =
-          let t = stretch_text text names table end c.after in
-          ap (λ (l : List ℕ). l ++ t) before-text
-          ∙ append_assoc (row_text label) (packed_text below ++ left) t
-          ∙ ap (λ (l : List ℕ). row_text label ++ l) (append_assoc (packed_text below) left t ∙ ap (λ (l : List ℕ). packed_text below ++ l) c.bytes)
+      later-long =
+          rw (before, length_split text names table (rows_at table at) (first - next) at)
+          (omega (arith, node_long text names table at end t below, c.long, length-append (row_text own) (packed_text kids ++ packed_text rest), length-append (packed_text kids) (packed_text rest)))
 
-      later-words : (at : ℕ) → stretch_words text names table at i (suc (count kids) + c.before) ++ stretch_words text names table (at + length (stretch_text text names table i (suc (count kids) + c.before))) end c.after
-          ≡ table_of (packed_from at (node label below (labels text names (without n next))))
-      later-words at =
-          let from = at + length (row_text label) in
-          let next-from = from + length (packed_text below) in
-          let own = words_of (packed_row at label) (suc (count kids)) in
-          let kids-words = table_of (packed_from from below) in
-          let some-words = stretch_words text names table next-from behind c.before in
-          let last = stretch_words text names table (next-from + length left) end c.after in
-          let k = tree_words text names table kids from (suc i) (table_of next ++ rest) (row-kids table i r kids next rest s) in
-          let place : at + length (stretch_text text names table i (suc (count kids) + c.before)) ≡ next-from + length left =
-          omega (arith, ap length before-text, length-append (row_text label) (packed_text below ++ left), length-append (packed_text below) left) in
-          let rows : suc (count kids) ≡ suc (count below) = ap suc (sym (count_labels text names kids)) in
-          (λ j. node_words text names table i r kids next rest s c.before at kids-text k j ++ stretch_words text names table (place j) end c.after)
-          ∙ append_assoc own (kids-words ++ some-words) last
-          ∙ ap (λ (l : List ℕ). own ++ l) (append_assoc kids-words some-words last ∙ ap (λ (l : List ℕ). kids-words ++ l) (c.words next-from))
-          ∙ ap (λ (m : ℕ). words_of (packed_row at label) m ++ (kids-words ++ table_of (packed_from next-from (labels text names (without n next))))) rows
-          ∙ sym (packed_node at label below (labels text names (without n next)))
+      later-put : (p : Packer) → trees_fit p (node own kids rest) ≡ true → put_stretch text names table (put_stretch text names table p at (first - at)) behind (end - behind) ≡ trees_written p (node own kids rest)
+      later-put p h =
+          let q = row_written p own (suc (count kids)) in
+          ap (λ (k : ℕ). put_stretch text names table (put_stretch text names table p at k) behind (end - behind)) before
+          ∙ ap (λ (x : Packer). put_stretch text names table x behind (end - behind)) (put_split text names table (rows_at table at) (first - next) at p)
+          ∙ ap (λ (x : Packer). put_stretch text names table (put_stretch text names table x next (first - next)) behind (end - behind)) (node_put text names table at end t below p rest h)
+          ∙ c.put (trees_written q kids) (fits_next p own (suc (count kids)) kids rest h)
+          ∙ node-written p own kids rest
 
-      cut-later : Cut i (suc n) first (node r kids next)
-      unfolding labels
+      cut-later : Cut at end (suc n) first
       cut-later =
           let b = c.begins in
-          let x = c.ends in
-          let w = c.rows in
+          let s = t.some-rows in
           record {
-            before = suc (count kids) + c.before;
-            after = c.after;
             begins = omega arith;
-            ends = omega arith;
             some-rows = c.some-rows;
-            rows = omega arith;
-            bytes = later-text;
-            words = later-words;
+            within = c.within;
+            there = let l = c.there in rw whole (omega arith);
+            rows = let r = c.rows in let w = kids-count text names table at end t in rw whole (omega arith);
+            long = rw whole later-long;
+            put = rw whole later-put;
           }
 
-  pub cut : (f : Forest Row) (i n first : ℕ) (rest : List ℕ) → Stands table i f rest → tree_at i n f ≡ Some first → Cut i n first f
-  unfolding tree_at
-  cut ∅ i n first rest s e = absurd (let z : ◌≡◌ {A = ℕ} 0 1 = cc in omega arith)
-  cut (node r kids next) i zero first rest s e = let z : i ≡ first = cc in subst (λ (k : ℕ). Cut i 0 k (node r kids next)) z (cut-first i r kids next rest s)
-  cut (node r kids next) i (suc n) first rest s e = cut-later i r kids next rest s n first (cut next (i + suc (count kids)) n first rest (row_next table i r kids next rest s) e)
+  pub cut : (n at end first : ℕ) → Nests table at (end - at) → nth_row table at end n ≡ Some first → Cut at end n first
+  unfolding nth_row
+  cut zero at end first h e =
+      elim (dec_lt at end) [
+        | yes l ↦ (let z : ◌≡◌ {A = Option ℕ} (Some at) (Some first) = rw (lt-ltb at end l) at e in let s : at ≡ first = cc in subst (λ (k : ℕ). Cut at end 0 k) s (cut-first at end (turn table at end h l)))
+        | no l ↦ absurd (let z : ◌≡◌ {A = Option ℕ} None (Some first) = rw (le-ltb at end (omega arith)) at e in cc)
+      ]
+  cut (suc n) at end first h e =
+      elim (dec_lt at end) [
+        | yes l ↦ some l (turn table at end h l) (cut n (at + rows_at table at) end first)
+        | no l ↦ absurd (let z : ◌≡◌ {A = Option ℕ} None (Some first) = rw (le-ltb at end (omega arith)) at e in cc)
+      ]
+    where
+      some : at < end → Turn table at end → (Nests table (at + rows_at table at) (end - (at + rows_at table at)) → nth_row table (at + rows_at table at) end n ≡ Some first → Cut (at + rows_at table at) end n first) → Cut at end (suc n) first
+      some l t f = cut-later at end t n first (f t.rest (rw (lt-ltb at end l) at e))

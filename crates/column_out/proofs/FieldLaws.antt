@@ -1,45 +1,58 @@
--- Finding a field, and counting what rows pack.
---   part_most, row_most    a row packs at most twice 16,384 bytes
---   text_none, text_next   what is left to count
---   field_none, field_here, field_next   what is left to pass
+-- The field of a number, by the nodes of a sound tree; and rows put one by one.
+--   none-there, here, behind   whether it is the next node, or one behind it
+--   all_put, next_put          a stretch, by its first row
 use Rattle.std.specs.Prelude.{Some, None}
-use mathlib.Core.Path.{◌≡◌, refl, ap, ◌∙◌}
+use mathlib.Core.Path.{◌≡◌}
 use mathlib.Core.List.{List}
-use Prim.Native.Nat.{ℕ, suc, ◌+◌, ◌-◌, ◌≤◌, ◌<◌}
+use Prim.Native.Nat.{ℕ, zero, suc, ◌+◌, ◌-◌, ◌≤◌, ◌<◌}
 use native.Mathlib.Omega.{arith}
-use Rattle.datatype.specs.Tree.{count}
+use borrow.Author.Tests.{lt-ltb, le-ltb}
 use Rattle.datatype.specs.Table.{rows_at}
-use Rattle.subtrees.specs.Internal.Run.{forest_at, Nests}
-use Rattle.subtrees.proofs.Runs.{turn, count_forest, forest_none}
-use Rattle.column_out.specs.Internal.Stretch.{tree_at}
+use Rattle.row_table.specs.declared.nodes.Node.{Node}
+use Rattle.row_table.specs.declared.nodes.Nodes.{Nodes}
+use Rattle.row_table.specs.Nodes.{IsFirst}
+use Rattle.packed.specs.Packer.{put_row}
+use Rattle.packed.specs.declared.packer.Packer.{Packer}
+use Rattle.column_out.specs.Internal.Stretch.{nth_row, label_at, put_stretch}
 
--- ---- the field
+pub none-there : (table : List ℕ) (at end n : ℕ) → at ≡ end → nth_row table at end n ≡ None
+unfolding nth_row
+none-there table at end zero e = rw (le-ltb at end (omega arith))
+none-there table at end (suc n) e = rw (le-ltb at end (omega arith))
 
-module _ (table : List ℕ) where
-  pub field_none : (i n : ℕ) → tree_at i n (forest_at table i 0) ≡ None
-  field_none i n = ap (tree_at i n) (forest_none table i) ∙ (unfold tree_at in refl)
+module _ (table : List ℕ) (ns left : Nodes) (field : Node) (f : IsFirst ns field left) (of : ns.whole.now.tree.rows.now ≡ table) where
+  some : ns.start < ns.end
+  some =
+      let a = f.at in
+      let s = f.start in
+      let e = f.end in
+      let o = left.ordered in
+      let r = field.some_rows in
+      omega arith
 
-  module _ (at end : ℕ) (h : Nests table at (end - at)) (l : at < end) where
-    pub field_here : tree_at at 0 (forest_at table at (end - at)) ≡ Some at
-    unfolding tree_at
-    field_here = rw ((turn table at end h l).is)
+  pub here : (n : ℕ) → n ≡ 0 → nth_row table ns.start ns.end n ≡ Some field.at
+  unfolding nth_row
+  here n z = rw (z, lt-ltb ns.start ns.end some, f.at)
 
-    next-tree : (n : ℕ) → tree_at at (suc n) (forest_at table at (end - at)) ≡ tree_at (at + rows_at table at) n (forest_at table (at + rows_at table at) (end - (at + rows_at table at)))
-    unfolding tree_at
-    next-tree n =
-        let t = turn table at end h l in
-        let s = t.some-rows in
-        let k = count_forest table (at + 1) (at + rows_at table at - (at + 1)) t.kids in
-        let e : at + suc (count (forest_at table (at + 1) (at + rows_at table at - (at + 1)))) ≡ at + rows_at table at = omega arith in
-        ap (tree_at at (suc n)) t.is ∙ ap (λ (k : ℕ). tree_at k n (forest_at table (at + rows_at table at) (end - (at + rows_at table at)))) e
+  pub behind : (n m : ℕ) → m + 1 ≡ n → nth_row table left.start left.end m ≡ nth_row table ns.start ns.end n
+  unfolding nth_row
+  behind zero m h = absurd (omega arith)
+  behind (suc n) m h =
+      let e : m ≡ n = omega arith in
+      rw (e, lt-ltb ns.start ns.end some, f.start, f.end, f.at, f.of, of)
 
-    pub field_next : (n : ℕ) → 1 ≤ n → tree_at at n (forest_at table at (end - at)) ≡ tree_at (at + rows_at table at) (n - 1) (forest_at table (at + rows_at table at) (end - (at + rows_at table at)))
-    field_next n p = let e : n ≡ suc (n - 1) = omega arith in ap (λ (k : ℕ). tree_at at k (forest_at table at (end - at))) e ∙ next-tree (n - 1)
+-- ---- a stretch, row by row
 
-    pub next-nests : Nests table (at + rows_at table at) (end - (at + rows_at table at))
-    next-nests = (turn table at end h l).rest
+module _ (text names table : List ℕ) (p : Packer) (i end : ℕ) where
+  pub all_put : end ≤ i → put_stretch text names table p i (end - i) ≡ p
+  unfolding put_stretch
+  all_put h = let e : end - i ≡ 0 = omega arith in rw e
 
-    pub next-within : (1 ≤ rows_at table at) × (at + rows_at table at ≤ end)
-    next-within = let t = turn table at end h l in (t.some-rows, t.within)
+  pub next_put : i < end → put_stretch text names table (put_row p (label_at text names table i) (rows_at table i)) (i + 1) (end - (i + 1)) ≡ put_stretch text names table p i (end - i)
+  unfolding put_stretch
+  next_put h =
+      let e : end - i ≡ suc (end - (i + 1)) = omega arith in
+      let f : i + 1 ≡ suc i = omega arith in
+      rw (e, f)
 
-pub ruleset finding = (field_none, field_here, field_next, next-nests, next-within)
+pub ruleset putting = (all_put, next_put)

@@ -1,118 +1,139 @@
--- Stretches of a table's rows, packed.
---   text_split, words_split   a stretch in two parts
---   packed_node               the table of a packed node
---   row_is                    the row of a table at which a run of trees stands
---   node_text, node_words     a stretch that begins with a tree
---   tree_text, tree_words     the stretch that is a run of trees
-use mathlib.Core.Path.{◌≡◌, refl, sym, ap, ◌∙◌}
-use mathlib.Core.List.{List, ◌++◌, append_assoc}
-use Prim.Native.Nat.{ℕ, zero, suc, ◌+◌, ◌*◌}
+-- Stretches of a table's rows that are trees side by side, packed.
+--   put_split, length_split   a stretch in two parts
+--   node_put, node_long       a tree, whose rows below its first are known
+--   run_packs                 trees side by side: put row by row they are written at once
+use mathlib.Core.Path.{◌≡◌, sym, ap, ◌∙◌}
+use mathlib.Core.Bool.{true}
+use mathlib.Core.List.{List, ◌++◌}
+use Prim.Native.Nat.{ℕ, zero, suc, ◌+◌, ◌-◌, ◌≤◌, ◌<◌}
+use native.Mathlib.Decide.{dec_lt}
 use native.Mathlib.Omega.{arith}
-use lib.ListN.{length, get_or, length-append}
-use lib.Seq.{get_or-drop}
-use Rattle.datatype.specs.Tree.{Forest, ∅, node, count, Row, Label, label_of, labels}
-use Rattle.datatype.specs.Table.{row_words, words_of, table_of, rows_at}
-use Rattle.subtrees.specs.Internal.Run.{row_at}
-use Rattle.subtrees.proofs.ParentTree.{Stands, row-size, row-kids, row_next}
+use lib.ListN.{length, length-append}
+use Rattle.datatype.specs.Tree.{Forest, node, count, Label, labels}
+use Rattle.datatype.specs.Table.{rows_at}
+use Rattle.subtrees.specs.Rows.{forest_at}
+use Rattle.subtrees.specs.Internal.Run.{Nests}
+use Rattle.subtrees.proofs.Runs.{Turn, turn, forest_none, count_forest}
 use Rattle.subtrees.proofs.RowList.{count_labels}
-use Rattle.packed.specs.Packed.{row_text, packed_text, packed_row, packed_from}
-use Rattle.packed.proofs.PackedLaws.{count-packed}
-use Rattle.column_out.specs.Internal.Stretch.{label_at, stretch_text, row_words_at, stretch_words}
-
--- the table of a packed node
-pub packed_node : (at : ℕ) (l : Label) (kids next : Forest Label)
-    → table_of (packed_from at (node l kids next)) ≡ words_of (packed_row at l) (suc (count kids)) ++ (table_of (packed_from (at + length (row_text l)) kids) ++ table_of (packed_from (at + length (row_text l) + length (packed_text kids)) next))
-unfolding packed_from table_of
-packed_node at l kids next = rw (count-packed (at + length (row_text l)) kids)
+use Rattle.row_table.proofs.Walks.{labels-turn}
+use Rattle.packed.specs.Packed.{row_text, packed_text}
+use Rattle.packed.specs.Packer.{put_row, row_written, trees_written, trees_fit}
+use Rattle.packed.specs.declared.packer.Packer.{Packer}
+use Rattle.packed.proofs.PackerRuns.{fits_row, fits_kids, fits_next, node-written, none-written}
+use Rattle.column_out.specs.Internal.Stretch.{label_at, stretch_length, put_stretch}
 
 module _ (text names table : List ℕ) where
-  abbrev packs : ℕ → ℕ → List ℕ
-  packs i n = stretch_text text names table i n
+  -- what the trees say that stand side by side from row at to row end
+  abbrev pub run : ℕ → ℕ → Forest Label
+  run at end = labels text names (forest_at table at (end - at))
 
-  abbrev words : ℕ → ℕ → ℕ → List ℕ
-  words at i n = stretch_words text names table at i n
-
-  pub text_split : (a b i : ℕ) → stretch_text text names table i (a + b) ≡ stretch_text text names table i a ++ stretch_text text names table (i + a) b
-  unfolding stretch_text
-  text_split zero b i =
+  pub put_split : (a b i : ℕ) (p : Packer) → put_stretch text names table p i (a + b) ≡ put_stretch text names table (put_stretch text names table p i a) (i + a) b
+  unfolding put_stretch
+  put_split zero b i p =
       let e : 0 + b ≡ b = omega arith in
       let f : i + 0 ≡ i = omega arith in
       rw (e, f)
-  text_split (suc a) b i =
+  put_split (suc a) b i p =
       let e : suc a + b ≡ suc (a + b) = omega arith in
       let f : i + suc a ≡ suc i + a = omega arith in
-      rw (e, f, text_split a b (suc i)) (sym (append_assoc (row_text (label_at text names table i)) (packs (suc i) a) (packs (suc i + a) b)))
+      rw (e, f) (put_split a b (suc i) (put_row p (label_at text names table i) (rows_at table i)))
 
-  pub words_split : (a b at i : ℕ) → stretch_words text names table at i (a + b) ≡ stretch_words text names table at i a ++ stretch_words text names table (at + length (stretch_text text names table i a)) (i + a) b
-  unfolding stretch_words stretch_text
-  words_split zero b at i =
+  pub length_split : (a b i : ℕ) → stretch_length text names table i (a + b) ≡ stretch_length text names table i a + stretch_length text names table (i + a) b
+  unfolding stretch_length
+  length_split zero b i =
       let e : 0 + b ≡ b = omega arith in
       let f : i + 0 ≡ i = omega arith in
-      let g : at + 0 ≡ at = omega arith in
-      rw (e, f, g)
-  words_split (suc a) b at i =
-      let l = row_text (label_at text names table i) in
+      rw (e, f) (omega arith)
+  length_split (suc a) b i =
       let e : suc a + b ≡ suc (a + b) = omega arith in
       let f : i + suc a ≡ suc i + a = omega arith in
-      let g : at + length (l ++ packs (suc i) a) ≡ at + length l + length (packs (suc i) a) = omega (arith, length-append l (packs (suc i) a)) in
-      rw (e, f, g, words_split a b (at + length l) (suc i))
-      (sym (append_assoc (row_words_at text names table at i (rows_at table i)) (words (at + length l) (suc i) a) (words (at + length l + length (packs (suc i) a)) (suc i + a) b)))
+      rw (e, f) (omega (arith, length_split a b (suc i)))
 
-  module _ (i : ℕ) (r : Row) (kids next : Forest Row) (rest : List ℕ) (s : Stands table i (node r kids next) rest) where
-    -- word k of the row
-    word-is : (k : ℕ) → get_or table (row_words * i + k) 0 ≡ get_or (table_of (node r kids next) ++ rest) k 0
-    word-is k = sym (get_or-drop (row_words * i) table k 0) ∙ ap (λ (l : List ℕ). get_or l k 0) s
+  -- The rows from row at to row end are the trees that they say: as long, and put row by row these are written at once.
+  pub record RunPacks (at end : ℕ) : Type 0 where
+    pub long : stretch_length text names table at (end - at) ≡ length (packed_text (run at end))
+    pub put : (p : Packer) → trees_fit p (run at end) ≡ true → put_stretch text names table p at (end - at) ≡ trees_written p (run at end)
 
-    pub row_is : row_at table i ≡ r
-    unfolding row_at table_of words_of
-    row_is =
-        rw (word-is 0, word-is 2, word-is 3, word-is 4, word-is 5, word-is 6, word-is 7, word-is 8, word-is 9, word-is 10, word-is 11)
+  module _ (at end : ℕ) (t : Turn table at end) where
+    abbrev below : ℕ
+    below = at + rows_at table at
 
-    abbrev here : Label
-    here = label_of text names r
+    abbrev own : Label
+    own = label_at text names table at
 
-    abbrev below : Forest Label
-    below = labels text names kids
+    abbrev kids : Forest Label
+    kids = run (at + 1) below
 
-    -- a stretch that begins with a tree whose children's stretch is known
-    module _ (m : ℕ) where
-      pub node_text : stretch_text text names table (suc i) (count kids) ≡ packed_text (labels text names kids)
-          → stretch_text text names table i (suc (count kids) + m) ≡ row_text (label_of text names r) ++ (packed_text (labels text names kids) ++ stretch_text text names table (i + suc (count kids)) m)
-      unfolding stretch_text
-      node_text k =
-          let e : suc (count kids) + m ≡ suc (count kids + m) = omega arith in
-          let f : i + suc (count kids) ≡ suc i + count kids = omega arith in
-          rw (e, f, row_is, text_split (count kids) m (suc i), k)
+    pub kids-count : rows_at table at ≡ suc (count (run (at + 1) (at + rows_at table at)))
+    kids-count =
+        let s = t.some-rows in
+        omega (arith, count_labels text names (forest_at table (at + 1) (below - (at + 1))), count_forest table (at + 1) (below - (at + 1)) t.kids)
 
-      pub node_words : (at : ℕ) → stretch_text text names table (suc i) (count kids) ≡ packed_text (labels text names kids)
-          → stretch_words text names table (at + length (row_text (label_of text names r))) (suc i) (count kids) ≡ table_of (packed_from (at + length (row_text (label_of text names r))) (labels text names kids))
-          → stretch_words text names table at i (suc (count kids) + m)
-          ≡ words_of (packed_row at (label_of text names r)) (suc (count kids))
-          ++ (table_of (packed_from (at + length (row_text (label_of text names r))) (labels text names kids))
-          ++ stretch_words text names table (at + length (row_text (label_of text names r)) + length (packed_text (labels text names kids))) (i + suc (count kids)) m)
-      unfolding stretch_words row_words_at
-      node_words at k w =
-          let e : suc (count kids) + m ≡ suc (count kids + m) = omega arith in
-          let f : i + suc (count kids) ≡ suc i + count kids = omega arith in
-          rw (e, f, row_is, row-size table i r kids next rest s, words_split (count kids) m (at + length (row_text here)) (suc i), k, w)
+    module _ (k : RunPacks (at + 1) (at + rows_at table at)) where
+      pub node_long : stretch_length text names table at (rows_at table at) ≡ length (row_text (label_at text names table at)) + length (packed_text (run (at + 1) (at + rows_at table at)))
+      unfolding stretch_length
+      node_long =
+          let s = t.some-rows in
+          let e : rows_at table at ≡ suc (below - (at + 1)) = omega arith in
+          let f : suc at ≡ at + 1 = omega arith in
+          ap (stretch_length text names table at) e ∙ (λ j. length (row_text own) + stretch_length text names table (f j) (below - (at + 1))) ∙ ap (λ (n : ℕ). length (row_text own) + n) k.long
 
-  pub tree_text : (f : Forest Row) (i : ℕ) (rest : List ℕ) → Stands table i f rest → stretch_text text names table i (count f) ≡ packed_text (labels text names f)
-  unfolding packed_text labels
-  tree_text ∅ i rest s = unfold stretch_text in refl
-  tree_text (node r kids next) i rest s =
-      node_text i r kids next rest s (count next) (tree_text kids (suc i) (table_of next ++ rest) (row-kids table i r kids next rest s))
-      ∙ ap (λ (l : List ℕ). row_text (label_of text names r) ++ (packed_text (labels text names kids) ++ l)) (tree_text next (i + suc (count kids)) rest (row_next table i r kids next rest s))
+      pub node_put : (p : Packer) (next : Forest Label) → trees_fit p (node (label_at text names table at) (run (at + 1) (at + rows_at table at)) next) ≡ true
+          → put_stretch text names table p at (rows_at table at) ≡ trees_written (row_written p (label_at text names table at) (suc (count (run (at + 1) (at + rows_at table at))))) (run (at + 1) (at + rows_at table at))
+      unfolding put_stretch
+      node_put p next h =
+          let s = t.some-rows in
+          let e : rows_at table at ≡ suc (below - (at + 1)) = omega arith in
+          let f : suc at ≡ at + 1 = omega arith in
+          let r : put_row p own (rows_at table at) ≡ row_written p own (suc (count kids)) = ap (put_row p own) kids-count ∙ (unfold put_row in rw (fits_row p own kids next h)) in
+          ap (put_stretch text names table p at) e
+          ∙ (λ j. put_stretch text names table (r j) (f j) (below - (at + 1)))
+          ∙ k.put (row_written p own (suc (count kids))) (fits_kids p own (suc (count kids)) kids next h)
 
-  pub tree_words : (f : Forest Row) (at i : ℕ) (rest : List ℕ) → Stands table i f rest → stretch_words text names table at i (count f) ≡ table_of (packed_from at (labels text names f))
-  unfolding labels
-  tree_words ∅ at i rest s = unfold stretch_words packed_from table_of in refl
-  tree_words (node r kids next) at i rest s =
-      let l = label_of text names r in
-      let below = at + length (row_text l) in
-      let k = row-kids table i r kids next rest s in
-      let c : suc (count (labels text names kids)) ≡ suc (count kids) = ap suc (count_labels text names kids) in
-      node_words i r kids next rest s (count next) at (tree_text kids (suc i) (table_of next ++ rest) k) (tree_words kids below (suc i) (table_of next ++ rest) k)
-      ∙ ap (λ (t : List ℕ). words_of (packed_row at l) (suc (count kids)) ++ (table_of (packed_from below (labels text names kids)) ++ t))
-      (tree_words next (below + length (packed_text (labels text names kids))) (i + suc (count kids)) rest (row_next table i r kids next rest s))
-      ∙ sym (packed_node at l (labels text names kids) (labels text names next)
-      ∙ ap (λ (n : ℕ). words_of (packed_row at l) n ++ (table_of (packed_from below (labels text names kids)) ++ table_of (packed_from (below + length (packed_text (labels text names kids))) (labels text names next)))) c)
+    module _ (k : RunPacks (at + 1) (at + rows_at table at)) (r : RunPacks (at + rows_at table at) end) where
+      abbrev rest : Forest Label
+      rest = run below end
+
+      parts : end - at ≡ rows_at table at + (end - below)
+      parts = let w = t.within in omega arith
+
+      whole : run at end ≡ node own kids rest
+      whole = labels-turn text names table at end t
+
+      whole-long : stretch_length text names table at (end - at) ≡ length (packed_text (node own kids rest))
+      unfolding packed_text
+      whole-long =
+          ap (stretch_length text names table at) parts ∙ length_split (rows_at table at) (end - below) at
+          ∙ omega (arith, node_long k, r.long, length-append (row_text own) (packed_text kids ++ packed_text rest), length-append (packed_text kids) (packed_text rest))
+
+      whole-put : (p : Packer) → trees_fit p (node own kids rest) ≡ true → put_stretch text names table p at (end - at) ≡ trees_written p (node own kids rest)
+      whole-put p h =
+          ap (put_stretch text names table p at) parts
+          ∙ put_split (rows_at table at) (end - below) at p
+          ∙ ap (λ (q : Packer). put_stretch text names table q below (end - below)) (node_put k p rest h)
+          ∙ r.put (trees_written (row_written p own (suc (count kids))) kids) (fits_next p own (suc (count kids)) kids rest h)
+          ∙ node-written p own kids rest
+
+      turn_packs : RunPacks at end
+      turn_packs = record { long = rw whole whole-long; put = rw whole whole-put }
+
+  none_packs : (at end : ℕ) → end ≤ at → RunPacks at end
+  unfolding labels put_stretch stretch_length packed_text
+  none_packs at end h =
+      let e : end - at ≡ 0 = omega arith in
+      record { long = rw (e, forest_none table at); put = rw (e, forest_none table at) (λ p t. sym (none-written p)) }
+
+  packs : (m at end : ℕ) → end - at ≤ m → Nests table at (end - at) → RunPacks at end
+  packs zero at end h n = none_packs at end (omega arith)
+  packs (suc m) at end h n = elim (dec_lt at end) [ yes l ↦ some at end m h l (turn table at end n l) (packs m (at + 1)) (packs m (at + rows_at table at) end) | no l ↦ none_packs at end (omega arith) ]
+    where
+      some : (at end m : ℕ) → end - at ≤ suc m → at < end → Turn table at end
+          → ((to : ℕ) → to - (at + 1) ≤ m → Nests table (at + 1) (to - (at + 1)) → RunPacks (at + 1) to)
+          → (end - (at + rows_at table at) ≤ m → Nests table (at + rows_at table at) (end - (at + rows_at table at)) → RunPacks (at + rows_at table at) end) → RunPacks at end
+      some at end m h l t kids rest =
+          let s = t.some-rows in
+          let w = t.within in
+          turn_packs at end t (kids (at + rows_at table at) (omega arith) t.kids) (rest (omega arith) t.rest)
+
+  pub run_packs : (at end : ℕ) → Nests table at (end - at) → RunPacks at end
+  run_packs at end n = packs (end - at) at end (omega arith) n

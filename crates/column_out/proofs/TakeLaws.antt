@@ -1,216 +1,194 @@
 -- What stays of a sound tree.
---   table_rows, root_there, kids_nest, short_text, short_names, few_rows   what its table has
 --   not_sound, not_struct, no_field   17, 25 and 29
+--   short_text, short_names, few_rows   what a sound tree has
 --   first_within, stays    where the field is there
 use Rattle.std.specs.Prelude.{Some, None}
-use mathlib.Core.Path.{◌≡◌, refl, sym, ap, ◌∙◌}
+use mathlib.Core.Path.{◌≡◌, refl, sym, ap, ◌∙◌, subst}
 use mathlib.Core.Bool.{true, false}
-use mathlib.Core.List.{List, [], ◌++◌, append-nil}
-use Prim.Native.Nat.{ℕ, suc, ◌+◌, ◌-◌, ◌*◌, ◌/◌, ◌≤◌}
+use mathlib.Core.List.{List, [], ◌++◌}
+use Prim.Native.Nat.{ℕ, suc, ◌+◌, ◌-◌, ◌/◌, ◌≤◌}
 use native.Mathlib.Omega.{arith}
-use lib.ListN.{length, take, length-append}
-use lib.Seq.{take-append_seam}
-use lib.Dec.{eqb}
-use borrow.Author.Tests.{lt-ltb, le-ltb, eq-eqb, ne_eqb}
+use lib.ListN.{length, length-append}
+use borrow.Author.Tests.{lt-ltb, le-ltb}
 use Rattle.tokenizer.specs.Answer.{done, refuse}
-use Rattle.tokenizer.proofs.Basics.{of_true}
-use Rattle.datatype.specs.Tree.{Forest, ∅, node, count, roots, Row, Label, name_list, label_of, labels}
-use Rattle.datatype.specs.Table.{row_words, words_of, table_of, tree_of, rows_at, word_at}
-use Rattle.datatype.proofs.Table.{length_table, table_view}
-use Rattle.subtrees.specs.Internal.Run.{row_at, forest_at, Nests}
-use Rattle.subtrees.proofs.Runs.{Is, nests_is, forest_is}
-use Rattle.subtrees.proofs.RowList.{count_labels}
-use Rattle.subtrees.proofs.ParentTree.{Stands, row-kids}
+use Rattle.datatype.specs.Tree.{Forest, ∅, node, count, roots, Label, name_list, labels}
+use Rattle.datatype.specs.Table.{row_words, tree_of, rows_at}
+use Rattle.datatype.specs.declared.tree.Tree.{Tree}
+use Rattle.subtrees.specs.Internal.Run.{Nests}
+use Rattle.subtrees.proofs.Runs.{forest_none}
 use Rattle.row_table.specs.Sound.{is_sound}
-use Rattle.row_table.proofs.SoundTree.{SoundTree, sound_tree, sound-count, sound-labels}
-use Rattle.row_table.proofs.Clauses.{roots_same}
-use Rattle.packed.specs.Packed.{row_text, packed_text, packed_row, packed_from}
+use Rattle.row_table.specs.Fields.{struct_fields, AreFields}
+use Rattle.row_table.specs.declared.nodes.SoundTree.{SoundTree as Whole}
+use Rattle.row_table.specs.declared.nodes.Node.{Node}
+use Rattle.row_table.specs.declared.nodes.Nodes.{Nodes}
+use Rattle.row_table.proofs.FieldLaws.{not-sound}
+use Rattle.row_table.proofs.SoundTree.{SoundTree, sound_tree}
+use Rattle.row_table.proofs.NodeLaws.{few_rows as words_most, all_labels, all_turn, root_all}
+use Rattle.row_table.proofs.Walks.{labels-turn}
+use Rattle.packed.specs.Packed.{row_text, packed_text}
+use Rattle.packed.specs.Packer.{put_row, row_written, trees_written, trees_fit}
+use Rattle.packed.specs.declared.packer.Packer.{Packer}
+use Rattle.packed.proofs.PackerRuns.{fits_row, fits_kids, node-written, none-written}
 use Rattle.column_out.specs.ColumnOut.{without, tree_left}
 use Rattle.column_out.specs.declared.fields.Kept.{Kept}
-use Rattle.column_out.specs.Internal.Stretch.{label_at, tree_at, stretch_text, row_words_at, stretch_words}
+use Rattle.column_out.specs.Internal.Stretch.{label_at, nth_row, stretch_length, put_stretch}
 use Rattle.column_out.specs.Internal.Steps.{rows_in, Stays}
-use Rattle.column_out.proofs.Stretches.{row_is, packed_node}
-use Rattle.column_out.proofs.Rows.{text_next}
-use Rattle.column_out.proofs.Cuts.{tree_none, tree_some, without_map, Cut, cut}
+use Rattle.column_out.proofs.Stretches.{run}
+use Rattle.column_out.proofs.Cuts.{fewer, Cut, cut}
 
-module _ (text names table : List ℕ) where
-  pub not_sound : (n : ℕ) → is_sound text names table ≡ false → refuse 17 ≡ tree_left text names table n
-  unfolding tree_left
-  not_sound n e = rw e
+pub not_sound : (text names table : List ℕ) (n : ℕ) → is_sound text names table ≡ false → refuse 17 ≡ tree_left text names table n
+unfolding tree_left
+not_sound text names table n e = rw (not-sound text names table e)
 
-  module _ (sound : is_sound text names table ≡ true) where
-    s : SoundTree text names table
-    s = sound_tree text names table (of_true _ sound)
+pub not_struct : (text names table : List ℕ) (n : ℕ) → struct_fields text names table ≡ refuse 25 → refuse 25 ≡ tree_left text names table n
+unfolding tree_left
+not_struct text names table n e = rw e
 
-    stands : Stands table 0 (node s.root s.kids ∅) []
-    stands = sym (table_view table (node s.root s.kids ∅) s.view) ∙ sym (append-nil (table_of (node s.root s.kids ∅)))
+-- ---- a sound tree
 
-    kids-stand : Stands table 1 s.kids []
-    kids-stand = row-kids table 0 s.root s.kids ∅ [] stands ∙ (unfold table_of in refl)
+module _ (w : Whole) where
+  abbrev text : List ℕ
+  text = w.tree.text.now
 
-    long : length table ≡ row_words * suc (count s.kids)
-    long = sound-count text names table s
+  abbrev names : List ℕ
+  names = w.tree.names.now
 
-    pub root_there : row_words * (0 + 1) ≤ length table
-    root_there = omega (arith, long)
+  abbrev table : List ℕ
+  table = w.tree.rows.now
 
-    pub short_text : length text ≤ 16384
-    short_text = s.short
+  abbrev all : ℕ
+  all = rows_in table
 
-    pub short_names : length names ≤ 16384
-    short_names = let e : length name_list ≡ 18 = refl in omega (arith, ap length s.listed)
+  s : SoundTree text names table
+  s = sound_tree text names table w.sound
 
-    pub few_rows : length table / row_words ≤ 1024
-    few_rows = let r = s.rows in omega (arith, long)
+  pub short_text : length w.tree.text.now ≤ 16384
+  short_text = s.short
 
-    rows_are : length table / row_words - 1 ≡ count s.kids
-    rows_are = omega (arith, long)
+  pub short_names : length w.tree.names.now ≤ 16384
+  short_names = let e : length name_list ≡ 18 = refl in omega (arith, ap length s.listed)
 
-    kids-are : Is table 1 (count s.kids) s.kids
-    kids-are =
-        record {
-          room = omega (arith, long);
-          rows = ap (take (row_words * count s.kids)) kids-stand ∙ ap (λ (n : ℕ). take n (table_of s.kids ++ [])) (sym (length_table s.kids)) ∙ take-append_seam (table_of s.kids) [];
-          size = refl;
-        }
+  pub few_rows : length w.tree.rows.now / row_words ≤ 1024
+  few_rows = omega (arith, words_most text names table w.sound)
 
-    pub kids_nest : Nests table 1 (length table / row_words - 1)
-    kids_nest = rw rows_are (nests_is table 1 (count s.kids) s.kids kids-are)
+  abbrev root : Label
+  root = label_at text names table 0
 
-    kids-forest : forest_at table 1 (length table / row_words - 1) ≡ s.kids
-    kids-forest = rw rows_are (forest_is table 1 (count s.kids) s.kids kids-are)
+  whole : tree_of text names table ≡ node root (run text names table 1 all) ∅
+  unfolding labels
+  whole =
+      let r = root_all text names table w.sound in
+      let e : 0 + all ≡ all = omega arith in
+      let z : all - (0 + all) ≡ 0 = omega arith in
+      all_labels text names table w.sound ∙ labels-turn text names table 0 all (all_turn text names table w.sound) ∙ rw (r, z, forest_none table (0 + all), e)
 
-    root : Label
-    root = label_of text names s.root
+  module _ (fields : Nodes) (f : AreFields w fields) (n : ℕ) where
+    say : struct_fields text names table ≡ done (run text names table 1 all)
+    say = f.say ∙ ap done (rw (f.of, f.start, f.end))
 
-    fields : Forest Label
-    fields = labels text names s.kids
+    nests : Nests table 1 (all - 1)
+    nests =
+        let e : 0 + rows_at table 0 - (0 + 1) ≡ all - 1 = omega (arith, root_all text names table w.sound) in
+        subst (λ (k : ℕ). Nests table 1 k) e (all_turn text names table w.sound).kids
 
-    tree : tree_of text names table ≡ node root fields ∅
-    unfolding labels root fields
-    tree = sound-labels text names table s
-
-    root-kind : word_at table 0 0 ≡ root.kind
-    unfolding label_of row_at root
-    root-kind = ap (λ (r : Row). r.kind) (row_is text names table 0 s.root s.kids ∅ [] stands)
-
-    -- ---- 25 and 29
-
-    pub not_struct : (n : ℕ) → (word_at table 0 0 ≡ 32 → ⊥) → refuse 25 ≡ tree_left text names table n
+    pub no_field : nth_row fields.whole.now.tree.rows.now fields.start fields.end n ≡ None → refuse 29 ≡ tree_left w.tree.text.now w.tree.names.now w.tree.rows.now n
     unfolding tree_left
-    not_struct n h = rw (sound, tree, ne_eqb root.kind 32 (λ e. h (root-kind ∙ e)))
+    no_field e =
+        let few = fewer text names table n 1 all nests (rw (f.of, f.start, f.end) at e) in
+        rw (say, le-ltb n (length (roots (run text names table 1 all))) few)
 
-    field-count : length (roots fields) ≡ length (roots (forest_at table 1 (length table / row_words - 1)))
-    unfolding fields
-    field-count = roots_same text names s.kids ∙ ap (λ (f : Forest Row). length (roots f)) (sym kids-forest)
+    module _ (first : ℕ) (e : nth_row fields.whole.now.tree.rows.now fields.start fields.end n ≡ Some first) where
+      cut-out : Cut text names table 1 all n first
+      cut-out = cut text names table n 1 all first nests (rw (f.of, f.start, f.end) at e)
 
-    module _ (n : ℕ) (struct : word_at table 0 0 ≡ 32) where
-      is-struct : eqb root.kind 32 ≡ true
-      is-struct = eq-eqb root.kind 32 (sym root-kind ∙ struct)
+      pub first_within : (1 ≤ first) × (first + rows_at w.tree.rows.now first ≤ length w.tree.rows.now / row_words)
+      first_within = (cut-out.begins, cut-out.within)
 
-      pub no_field : tree_at 1 n (forest_at table 1 (length table / row_words - 1)) ≡ None → refuse 29 ≡ tree_left text names table n
+      abbrev rest : Forest Label
+      rest = without n (run text names table 1 all)
+
+      abbrev left : Forest Label
+      left = node root rest ∅
+
+      abbrev end : ℕ
+      end = first + rows_at table first
+
+      left-is : tree_left text names table n ≡ done left
       unfolding tree_left
-      no_field e =
-          let few = tree_none (forest_at table 1 (length table / row_words - 1)) 1 n e in
-          rw (sound, tree, is-struct, le-ltb n (length (roots fields)) (omega (arith, field-count)))
+      left-is = rw (say, whole, lt-ltb n (length (roots (run text names table 1 all))) cut-out.there)
 
-      module _ (first : ℕ) (e : tree_at 1 n (forest_at table 1 (length table / row_words - 1)) ≡ Some first) where
-        cut-out : Cut text names table 1 n first s.kids
-        cut-out = cut text names table s.kids 1 n first [] kids-stand (ap (tree_at 1 n) (sym kids-forest) ∙ e)
+      -- the root, and what stays below it
+      left-put : (p : Packer) (rows : ℕ) → rows ≡ suc (count rest) → trees_fit p left ≡ true
+          → put_stretch text names table (put_stretch text names table (put_row p root rows) 1 (first - 1)) end (all - end) ≡ trees_written p left
+      left-put p rows r h =
+          let own : put_row p root rows ≡ row_written p root (suc (count rest)) = ap (put_row p root) r ∙ (unfold put_row in rw (fits_row p root rest ∅ h)) in
+          ap (λ (q : Packer). put_stretch text names table (put_stretch text names table q 1 (first - 1)) end (all - end)) own
+          ∙ cut-out.put (row_written p root (suc (count rest))) (fits_kids p root (suc (count rest)) rest ∅ h)
+          ∙ sym (none-written (trees_written (row_written p root (suc (count rest))) rest))
+          ∙ node-written p root rest ∅
 
-        pub first_within : (1 ≤ first) × (1 ≤ rows_at table first) × (first + rows_at table first ≤ length table / row_words)
-        first_within =
-            let c = cut-out in
-            let b = c.begins in
-            let x = c.ends in
-            (omega arith, c.some-rows, omega (arith, long))
+      left-rows : all - (end - first) ≡ suc (count rest)
+      left-rows =
+          let b = cut-out.begins in
+          let i = cut-out.within in
+          omega (arith, cut-out.rows)
 
-        -- ---- what stays
+      left-long : length (packed_text left) ≡ stretch_length text names table 0 (first - 0) + stretch_length text names table end (all - end)
+      unfolding packed_text stretch_length
+      left-long =
+          let b = cut-out.begins in
+          let e : first - 0 ≡ suc (first - 1) = omega arith in
+          rw e (omega (arith, cut-out.long, length-append (row_text root) (packed_text rest ++ []), length-append (packed_text rest) []))
 
-        rest : Forest Label
-        rest = labels text names (without n s.kids)
+      pub stays : (kept : Kept) (before after : ℕ) → kept.first ≡ first → kept.end ≡ first + rows_at w.tree.rows.now first
+          → kept.packed.rows ≡ rows_in w.tree.rows.now - (kept.end - first)
+          → before ≡ stretch_length w.tree.text.now w.tree.names.now w.tree.rows.now 0 (first - 0)
+          → after ≡ stretch_length w.tree.text.now w.tree.names.now w.tree.rows.now kept.end (rows_in w.tree.rows.now - kept.end)
+          → kept.packed.bytes ≡ before + after
+          → Stays w.tree.text.now w.tree.names.now w.tree.rows.now n kept
+      stays kept before after f g r b a t =
+          let i = cut-out.begins in
+          let j = cut-out.within in
+          let few = few_rows in
+          let rows : kept.packed.rows ≡ suc (count rest) = omega (arith, left-rows) in
+          let c : suc (count rest) ≡ count left = omega arith in
+          let bytes : kept.packed.bytes ≡ length (packed_text left) = rw (t, b, a, g) (sym left-long) in
+          record {
+            left = left;
+            is = left-is;
+            size = λ j. record { rows = (rows ∙ c) j; bytes = bytes j };
+            few = omega arith;
+            some-rows = omega arith;
+            ordered = omega arith;
+            within = omega arith;
+            put = λ p h. rw (f, g) (left-put p kept.packed.rows rows h);
+          }
 
-        rest-is : without n fields ≡ rest
-        unfolding labels fields rest
-        rest-is = sym (without_map (label_of text names) n s.kids)
+-- ---- of a tree that was found to be sound
 
-        left-is : tree_left text names table n ≡ done (node root rest ∅)
-        unfolding tree_left
-        left-is =
-            let many = tree_some (forest_at table 1 (length table / row_words - 1)) 1 n first e in
-            rw (sound, tree, is-struct, lt-ltb n (length (roots fields)) (omega (arith, field-count)), rest-is)
+module _ (w : Whole) (t : Tree) (of : w.tree ≡ t) (n : ℕ) where
+  pub no-struct : struct_fields w.tree.text.now w.tree.names.now w.tree.rows.now ≡ refuse 25 → refuse 25 ≡ tree_left t.text.now t.names.now t.rows.now n
+  no-struct e = subst (λ (x : Tree). refuse 25 ≡ tree_left x.text.now x.names.now x.rows.now n) of (not_struct w.tree.text.now w.tree.names.now w.tree.rows.now n e)
 
-        before-is : first - 1 ≡ cut-out.before
-        before-is = let b = cut-out.begins in omega arith
+  module _ (fields : Nodes) (f : AreFields w fields) where
+    pub no-field : nth_row fields.whole.now.tree.rows.now fields.start fields.end n ≡ None → refuse 29 ≡ tree_left t.text.now t.names.now t.rows.now n
+    no-field e = subst (λ (x : Tree). refuse 29 ≡ tree_left x.text.now x.names.now x.rows.now n) of (no_field w fields f n e)
 
-        after-is : rows_in table - (first + rows_at table first) ≡ cut-out.after
-        after-is = let x = cut-out.ends in omega (arith, long)
+    module _ (gone : Node) (g : (gone.whole ≡ fields.whole) × (nth_row fields.whole.now.tree.rows.now fields.start fields.end n ≡ Some gone.at)) (size : ℕ) (rows : size ≡ rows_at gone.whole.now.tree.rows.now gone.at) where
+      same-rows : rows_at gone.whole.now.tree.rows.now gone.at ≡ rows_at w.tree.rows.now gone.at
+      same-rows = rw (g.0, f.of)
 
-        label-is : label_at text names table 0 ≡ root
-        unfolding root
-        label-is = ap (λ (r : Row). label_of text names r) (row_is text names table 0 s.root s.kids ∅ [] stands)
+      pub gone_within : (1 ≤ gone.at) × (gone.at + size ≤ length w.tree.rows.now / row_words)
+      gone_within = let i = first_within w fields f n gone.at g.1 in (i.0, omega (arith, same-rows, i.1))
 
-        count-is : rows_in table - rows_at table first ≡ suc (count rest)
-        unfolding rest
-        count-is =
-            let x = cut-out.ends in
-            let b = cut-out.begins in
-            let w = cut-out.rows in
-            omega (arith, long, count_labels text names (without n s.kids))
+      pub stays-left : (kept : Kept) (before after : ℕ) → kept.first ≡ gone.at → kept.end ≡ gone.at + size
+          → kept.packed.rows ≡ rows_in w.tree.rows.now - (kept.end - gone.at)
+          → before ≡ stretch_length w.tree.text.now w.tree.names.now w.tree.rows.now 0 (gone.at - 0)
+          → after ≡ stretch_length w.tree.text.now w.tree.names.now w.tree.rows.now kept.end (rows_in w.tree.rows.now - kept.end)
+          → kept.packed.bytes ≡ before + after
+          → Stays t.text.now t.names.now t.rows.now n kept
+      stays-left kept before after b e r p q y =
+          subst (λ (x : Tree). Stays x.text.now x.names.now x.rows.now n kept) of
+          (stays w fields f n gone.at g.1 kept before after b (e ∙ ap (λ (k : ℕ). gone.at + k) (rows ∙ same-rows)) r p q y)
 
-        text-is : row_text (label_at text names table 0) ++ (stretch_text text names table 1 (first - 1) ++ stretch_text text names table (first + rows_at table first) (rows_in table - (first + rows_at table first))) ≡ packed_text (node root rest ∅)
-        unfolding packed_text rest
-        text-is = rw (label-is, before-is, after-is) (ap (λ (l : List ℕ). row_text root ++ l) (cut-out.bytes ∙ sym (append-nil (packed_text (labels text names (without n s.kids))))))
-
-        kids-words : (at : ℕ) → table_of (packed_from at (labels text names (without n s.kids))) ≡ table_of (packed_from at rest) ++ table_of (packed_from (at + length (packed_text rest)) ∅)
-        unfolding rest packed_from table_of
-        kids-words at = sym (append-nil (table_of (packed_from at (labels text names (without n s.kids)))))
-
-        words-is : (rows : ℕ) → rows ≡ suc (count rest)
-            → row_words_at text names table 0 0 rows
-            ++ (stretch_words text names table (length (row_text (label_at text names table 0))) 1 (first - 1)
-            ++ stretch_words text names table (length (row_text (label_at text names table 0)) + length (stretch_text text names table 1 (first - 1))) (first + rows_at table first) (rows_in table - (first + rows_at table first)))
-            ≡ table_of (packed_from 0 (node root rest ∅))
-        unfolding row_words_at
-        words-is rows r =
-            let size = length (row_text root) in
-            let z : 0 + size ≡ size = omega arith in
-            rw (label-is, before-is, after-is, r)
-            (ap (λ (l : List ℕ). words_of (packed_row 0 root) (suc (count rest)) ++ l) (cut-out.words size ∙ kids-words size)
-            ∙ ap (λ (at : ℕ). words_of (packed_row 0 root) (suc (count rest)) ++ (table_of (packed_from at rest) ++ table_of (packed_from (at + length (packed_text rest)) ∅))) (sym z)
-            ∙ sym (packed_node 0 root rest ∅))
-
-        -- the bytes counted before the field and behind it
-        text-long : length (packed_text (node root rest ∅)) ≡ length (stretch_text text names table 0 (first - 0)) + length (stretch_text text names table (first + rows_at table first) (rows_in table - (first + rows_at table first)))
-        text-long =
-            let own = row_text (label_at text names table 0) in
-            let before = stretch_text text names table 1 (first - 1) in
-            let after = stretch_text text names table (first + rows_at table first) (rows_in table - (first + rows_at table first)) in
-            let w = first_within in
-            omega (arith, ap length text-is, length-append own (before ++ after), length-append before after, ap length (text_next text names table 0 first (omega arith)), length-append own before)
-
-        pub stays : (kept : Kept) (before after : ℕ) → kept.first ≡ first → kept.end ≡ first + rows_at table first
-            → kept.packed.rows ≡ rows_in table - (kept.end - first)
-            → before ≡ length (stretch_text text names table 0 (first - 0))
-            → after ≡ length (stretch_text text names table kept.end (rows_in table - kept.end))
-            → kept.packed.bytes ≡ before + after
-            → Stays text names table n kept
-        stays kept before after f g r b a t =
-            let w = first_within in
-            let few = few_rows in
-            let rows : kept.packed.rows ≡ suc (count rest) = omega (arith, count-is) in
-            let c : suc (count rest) ≡ count (node root rest ∅) = omega arith in
-            let bytes : kept.packed.bytes ≡ length (packed_text (node root rest ∅)) = rw (t, b, a, g) (sym text-long) in
-            record {
-              left = node root rest ∅;
-              is = left-is;
-              size = λ j. record { rows = (rows ∙ c) j; bytes = bytes j };
-              few = omega arith;
-              some-rows = omega arith;
-              ordered = omega arith;
-              within = omega arith;
-              text = rw (f, g) text-is;
-              words = rw (f, g) (words-is kept.packed.rows rows);
-            }
-
-pub ruleset staying = (not_sound, root_there, short_text, short_names, few_rows, kids_nest, not_struct, no_field, first_within)
+pub ruleset staying = (not_sound, short_text, short_names, few_rows)

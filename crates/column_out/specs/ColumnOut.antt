@@ -1,12 +1,12 @@
--- Taking a column out (document 02, 'Take a column out, give the room back'): a field of a Struct goes with all that stands
+-- Taking a column out (docs/SCOPE.md, 'Columns taken out'): a field of a Struct goes with all that stands
 -- below it, and the names and zones that stay are packed into fresh lent rows and text.
-use Rattle.std.specs.Prelude.{Bool, false, Result, Ok, Err, List, [], ◌∷◌, ℕ, zero, suc, length, nat_lt, nat_eq, if◌then◌else◌}
+use Rattle.std.specs.Prelude.{Result, Ok, Err, List, [], ◌∷◌, ℕ, zero, suc, length, nat_lt, if◌then◌else◌}
 use Rattle.tokenizer.specs.Answer.{Out, refused, done, refuse, ◌>>=◌}
 use Rattle.datatype.specs.Kind.{struct_kind}
 use Rattle.datatype.specs.Tree.{Forest, ∅, node, roots, Label}
 use Rattle.datatype.specs.Table.{tree_of}
-use Rattle.row_table.specs.Sound.{is_sound}
-use Rattle.packed.specs.Packed.{size_fits, packed_rows, packed_bytes, packed_size}
+use Rattle.row_table.specs.Sound.{struct_fields}
+use Rattle.packed.specs.Packed.{size_fits, packed_rows, packed_bytes, packed_size, size_by}
 use Rattle.packed.specs.declared.Packed.{Packed}
 use Rattle.column_out.specs.declared.NotTaken.{NotTaken}
 use Rattle.column_out.specs.declared.NotTaken.TheVariants.{NotSound, NotStruct, NoSuchField, NoRoom}
@@ -27,22 +27,11 @@ abbrev pub taken_out : {A : Type 0} → ℕ → Forest A → Forest A
 taken_out n ∅ = ∅
 taken_out n (node root fields next) = node root (without n fields) next
 
--- Whether a tree's root is a Struct, and how many fields it has.
-abbrev pub is_struct : Forest Label → Bool
-is_struct ∅ = false
-is_struct (node root fields next) = nat_eq root.kind struct_kind
-
-abbrev pub field_count : Forest Label → ℕ
-field_count ∅ = 0
-field_count (node root fields next) = length (roots fields)
-
 -- The tree that stays: 17 where the tree is not sound, 25 where its root is not a Struct, 29 where there is no such field.
 unfoldable pub tree_left : List ℕ → List ℕ → List ℕ → ℕ → Out (Forest Label)
-tree_left text names table n =
-    let tree = tree_of text names table in
-    let left = if nat_lt n (field_count tree) then done (taken_out n tree) else refuse 29 in
-    let of_struct = if is_struct tree then left else refuse 25 in
-    if is_sound text names table then of_struct else refuse 17
+tree_left text names table n = do
+  fields ← struct_fields text names table
+  if nat_lt n (length (roots fields)) then done (taken_out n (tree_of text names table)) else refuse 29
 
 -- The same where so many words and bytes are lent: 28 where they have no room for it.
 unfoldable pub column_out : List ℕ → List ℕ → List ℕ → ℕ → ℕ → ℕ → Out (Forest Label)
@@ -51,10 +40,6 @@ column_out text names table n words bytes = do
   if size_fits (packed_size f) words bytes then done f else refuse 28
 
 -- ---- the answer, and what the lent rows and the lent text hold behind it; a refusal changes none of them
-
-abbrev pub answer_by : Out (Forest Label) → Out Packed
-answer_by (refused r) = refused r
-answer_by (done f) = done (packed_size f)
 
 abbrev pub rows_by : Out (Forest Label) → List ℕ → List ℕ
 rows_by (refused r) rows = rows
@@ -66,7 +51,7 @@ bytes_by (done f) bytes = packed_bytes f bytes
 
 module _ (text names table : List ℕ) (n : ℕ) (rows bytes : List ℕ) where
   unfoldable pub column_out_answer : Out Packed
-  column_out_answer = answer_by (column_out text names table n (length rows) (length bytes))
+  column_out_answer = size_by (column_out text names table n (length rows) (length bytes))
 
   unfoldable pub column_out_rows : List ℕ
   column_out_rows = rows_by (column_out text names table n (length rows) (length bytes)) rows
@@ -80,7 +65,7 @@ empty_struct = record { kind = struct_kind; role = 0; union_id = 0; number = 0; 
 
 -- ---- the answers of the code
 
--- The number of each refusal (document 02).
+-- The number of each refusal.
 abbrev pub number_of : NotTaken → ℕ
 number_of NotSound = 17
 number_of NotStruct = 25

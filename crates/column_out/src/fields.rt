@@ -1,19 +1,17 @@
 // What stays of a tree when a field of its root is taken out.
-ghost use Rattle.std.specs.Prelude.{◌≡◌, ◌-◌, ◌*◌, ◌≤◌, ◌/◌, length, MatchResult};
+ghost use Rattle.std.specs.Prelude.{◌≡◌, ◌-◌, ◌*◌, ◌≤◌, Some, None, length, MatchOption, MatchResult};
 ghost use Rattle.tokenizer.specs.Answer.{refuse};
 ghost use Rattle.datatype.specs.Limits.{max_text, max_rows};
 ghost use Rattle.datatype.specs.Table.{row_words};
-ghost use Rattle.subtrees.specs.Internal.Run.{Nests, forest_at};
 ghost use Rattle.column_out.specs.ColumnOut.{tree_left, number_of};
-ghost use Rattle.column_out.specs.Internal.Stretch.{tree_at, stretch_text};
+ghost use Rattle.column_out.specs.Internal.Stretch.{nth_row, stretch_length};
 ghost use Rattle.column_out.specs.Internal.Steps.{Stays};
 
 use crate::NotTaken;
-use datatype::kind::STRUCT;
 use datatype::rows::ROW_WORDS;
 use datatype::{Row, Tree};
 use packed::Packed;
-use row_table::is_sound;
+use row_table::nodes::{Node, Nodes, SoundTree};
 
 // The rows from first to end go; what stays comes to so many rows and bytes.
 #[derive(Clone, Copy)]
@@ -23,22 +21,18 @@ pub(crate) struct Kept {
     pub(crate) packed: Packed,
 }
 
-// The row of a root's field, by its number: none where it has no such field.
-#[tactic(auto, using(crate::proofs::FieldLaws::finding))]
-fn field_row(rows: &[u32], field: usize) -> Option<usize>
-    requires { Nests rows.now 1 (length rows.now / row_words - 1) }
-    ensures { result ≡ tree_at 1 field (forest_at rows.now 1 (length rows.now / row_words - 1)) }
+// The n-th of the fields of a root: none where it has no such field.
+fn nth<'a>(fields: Nodes<'a>, n: usize) -> Option<Node<'a>>
+    ensures { MatchOption result
+        (nth_row fields.entry.whole.now.tree.rows.now fields.entry.start fields.entry.end n ≡ None)
+        (λ field. (field.whole ≡ fields.entry.whole) × (nth_row fields.entry.whole.now.tree.rows.now fields.entry.start fields.entry.end n ≡ Some field.at)) }
 {
-    let end = rows.len() / ROW_WORDS;
-    let mut at = 1;
-    let mut left = field;
-    // No range steps by the size of a subtree.
-    while at < end {
+    let mut left = n;
+    for field in fields {
         if left == 0 {
-            return Some(at);
+            return Some(field);
         }
         left -= 1;
-        at += Row { rows, at }.subtree();
     }
     None
 }
@@ -51,7 +45,7 @@ fn packed_length(tree: &Tree<'_>, from: usize, end: usize) -> usize
     requires few { end ≤ max_rows }
     requires short { length tree.now.text.now ≤ max_text }
     requires listed { length tree.now.names.now ≤ max_text }
-    ensures are { result ≡ length (stretch_text tree.now.text.now tree.now.names.now tree.now.rows.now from (end - from)) }
+    ensures are { result ≡ stretch_length tree.now.text.now tree.now.names.now tree.now.rows.now from (end - from) }
     ensures few { result ≤ 2 * max_text * (end - from) }
 {
     let mut total = 0;
@@ -67,22 +61,24 @@ fn packed_length(tree: &Tree<'_>, from: usize, end: usize) -> usize
 
 // What stays without a field: 17, 25 and 29 where there is no such tree.
 #[tactic(auto, using(crate::proofs::TakeLaws::staying))]
-pub(crate) fn what_stays(tree: &Tree<'_>, field: usize) -> Result<Kept, NotTaken>
-    ensures { MatchResult result (λ k. Stays tree.now.text.now tree.now.names.now tree.now.rows.now field k) (λ e. refuse (number_of e) ≡ tree_left tree.now.text.now tree.now.names.now tree.now.rows.now field) }
+pub(crate) fn what_stays(tree: Tree<'_>, field: usize) -> Result<Kept, NotTaken>
+    ensures { MatchResult result
+        (λ kept. Stays tree.entry.text.now tree.entry.names.now tree.entry.rows.now field kept)
+        (λ e. refuse (number_of e) ≡ tree_left tree.entry.text.now tree.entry.names.now tree.entry.rows.now field) }
 {
-    if !is_sound(*tree) {
+    let Some(whole) = SoundTree::of(tree) else {
         return Err(NotTaken::NotSound);
-    }
-    let rows = tree.rows;
-    let root = Row { rows, at: 0 };
-    if root.kind() != STRUCT {
+    };
+    let Some(fields) = whole.fields() else {
         return Err(NotTaken::NotStruct);
-    }
-    let Some(first) = field_row(rows, field) else {
+    };
+    let Some(gone) = nth(fields, field) else {
         return Err(NotTaken::NoSuchField);
     };
-    let all = rows.len() / ROW_WORDS;
-    let end = first + Row { rows, at: first }.subtree();
+    let tree = &whole.tree;
+    let all = tree.rows.len() / ROW_WORDS;
+    let first = gone.at;
+    let end = first + gone.subtree();
     let before = packed_length(tree, 0, first);
     let after = packed_length(tree, end, all);
     let packed = Packed {

@@ -10,23 +10,26 @@ mod fields;
 mod pack;
 
 use crate::fields::what_stays;
-use crate::pack::Packer;
-use datatype::Tree;
+use crate::pack::put_rows;
 use datatype::rows::ROW_WORDS;
-use packed::Packed;
-use subtrees::set_first_parents;
+use datatype::{Row, Tree};
+use packed::{Packed, Packer};
 
-// Why a column was not taken out, by document 02's numbers.
+/// Why a column was not taken out, by the scope's numbers.
 #[derive(Clone, Copy, Debug, PartialEq, Eq)]
 pub enum NotTaken {
-    NotSound = 17, // text and rows are no sound tree
-    NotStruct = 25, // the root is not a Struct
-    NoRoom = 28, // rows or text have no room for what stays
-    NoSuchField = 29, // the root has no such field
+    /// Text and rows are no sound tree.
+    NotSound = 17,
+    /// The root is not a Struct.
+    NotStruct = 25,
+    /// Rows or text have no room for what stays.
+    NoRoom = 28,
+    /// The root has no such field.
+    NoSuchField = 29,
 }
 
 impl NotTaken {
-    // The number of document 02.
+    /// The refusal's number.
     pub fn number(self) -> u32
         ensures { result ≡ number_of self }
     {
@@ -34,8 +37,8 @@ impl NotTaken {
     }
 }
 
-// Takes a field, counted from 0, out of a sound tree whose root is a Struct: the rows of what stays stand at the start of
-// the rows lent, over the packed text at the start of the text lent. A refusal changes neither.
+/// Takes a field, counted from 0, out of a sound tree whose root is a Struct: the rows of what stays stand at the start of
+/// the rows lent, over the packed text at the start of the text lent. A refusal changes neither.
 pub fn take_column_out(
     tree: Tree<'_>,
     field: usize,
@@ -46,20 +49,22 @@ pub fn take_column_out(
     ensures contents { rows.new ≡ column_out_rows tree.entry.text.now tree.entry.names.now tree.entry.rows.now field rows.old text.old }
     ensures bytes { text.new ≡ column_out_bytes tree.entry.text.now tree.entry.names.now tree.entry.rows.now field rows.old text.old }
 {
-    let kept = what_stays(&tree, field)?;
-    let packed = kept.packed;
-    if !packed.fits(rows.len(), text.len()) {
+    let kept = what_stays(tree, field)?;
+    if !kept.packed.fits(rows.len(), text.len()) {
         return Err(NotTaken::NoRoom);
     }
     let mut packer = Packer {
         rows,
-        word: 0,
         text,
-        byte: 0,
+        packed: Packed { rows: 0, bytes: 0 },
     };
-    packer.put_row(&tree, 0, packed.rows as u32);
-    packer.put_rows(&tree, 1, kept.first);
-    packer.put_rows(&tree, kept.end, tree.rows.len() / ROW_WORDS);
-    set_first_parents(packer.rows, packed.rows);
-    Ok(packed)
+    let root = Row {
+        rows: tree.rows,
+        at: 0,
+    };
+    packer.put_row(root.label(&tree), kept.packed.rows as u32);
+    put_rows(&mut packer, &tree, 1, kept.first);
+    put_rows(&mut packer, &tree, kept.end, tree.rows.len() / ROW_WORDS);
+    packer.set_parents();
+    Ok(packer.packed)
 }

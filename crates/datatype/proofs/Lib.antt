@@ -4,3 +4,4 @@ pub mod Sets
 pub mod Table
 pub mod KindShapes
 pub mod KindLaws
+pub mod Parts

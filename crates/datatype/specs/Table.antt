@@ -81,6 +81,23 @@ word_at table i k = get_or table (row_words * i + k) 0
 abbrev pub rows_at : List ℕ → ℕ → ℕ
 rows_at table i = get_or table (row_words * i + 1) 0
 
+-- Row i of a table, by its words.
+unfoldable pub row_at : List ℕ → ℕ → Row
+row_at table i =
+    record {
+      kind = word_at table i 0;
+      role = word_at table i 2;
+      union_id = word_at table i 3;
+      number = word_at table i 4;
+      scale = word_at table i 5;
+      home = word_at table i 6;
+      name_start = word_at table i 7;
+      name_length = word_at table i 8;
+      zone_start = word_at table i 9;
+      zone_length = word_at table i 10;
+      parent = word_at table i 11;
+    }
+
 -- Word 11 of row i: its parent.
 abbrev pub parent_word_at : List ℕ → ℕ → ℕ
 parent_word_at table i = get_or table (row_words * i + 11) 0

@@ -4,6 +4,7 @@
 
 mod field;
 pub mod kind;
+mod label;
 mod row;
 pub mod rows;
 mod tree;
@@ -11,6 +12,7 @@ mod words;
 
 pub use field::{Field, equal_bytes, zone};
 pub use kind::Decimal;
+pub use label::Label;
 pub use row::Row;
 pub use tree::Tree;
 pub use words::{clear_words, equal_words};

@@ -1,14 +1,15 @@
 // A row of a table, read by the names of its words.
 ghost use Rattle.std.specs.Prelude.{◌≡◌, ◌+◌, ◌*◌, ◌≤◌, ◌<◌, length, MatchOption};
-ghost use Rattle.datatype.specs.Tree.{name_of, zone_of};
-ghost use Rattle.datatype.specs.Table.{row_words, rows_at, parent_word_at, word_at};
+ghost use Rattle.datatype.specs.Label.{label_said};
+ghost use Rattle.datatype.specs.Tree.{name_of, zone_of, label_of};
+ghost use Rattle.datatype.specs.Table.{row_words, rows_at, parent_word_at, row_at, word_at};
 
-use crate::Tree;
 use crate::field::{Field, zone};
 use crate::rows::{
     HOME, KIND, NAME_LENGTH, NAME_START, NUMBER, PARENT, ROLE, ROW_WORDS, ROWS, SCALE, UNION_ID,
     ZONE_LENGTH, ZONE_START,
 };
+use crate::{Label, Tree};
 
 // Row `at` of a table, which the table has.
 #[derive(Clone, Copy)]
@@ -119,5 +120,20 @@ impl<'r> Row<'r> {
         ensures { result.now ≡ zone_of text.now (word_at self.entry.rows.now self.entry.at 9) (word_at self.entry.rows.now self.entry.at 10) }
     {
         zone(text, self.zone_start(), self.zone_length())
+    }
+    /// What the row says of a tree whose row it is.
+    #[tactic(auto, unfolding(crate::specs::Tree::label_of, crate::specs::Table::row_at))]
+    pub fn label<'a>(self, tree: &Tree<'a>) -> Label<'a>
+        ensures { label_said result ≡ label_of tree.now.text.now tree.now.names.now (row_at self.entry.rows.now self.entry.at) }
+    {
+        Label {
+            kind: self.kind(),
+            role: self.role(),
+            union_id: self.union_id(),
+            number: self.number(),
+            scale: self.scale(),
+            name: self.name(tree),
+            zone: self.zone(tree.text),
+        }
     }
 }

@@ -2,14 +2,13 @@
 use mathlib.Core.Path.{◌≡◌, ap, ◌∙◌}
 use mathlib.Core.Bool.{true, false, false≢true}
 use mathlib.Core.Logic.{◌⊎◌, inl, inr}
-use mathlib.Core.List.{List, [], ◌++◌}
+use mathlib.Core.List.{List, ◌++◌}
 use Prim.Native.Nat.{ℕ, ◌+◌, ◌≤◌, ◌<◌, min}
 use native.Mathlib.Omega.{arith}
 use lib.ListN.{length, drop}
 use lib.Seq.{sets, sets-eq}
 use lib.Dec.{T, leb}
 use borrow.Author.Tests.{le-leb, lt-leb}
-use Rattle.tokenizer.proofs.Basics.{of_true}
 use Rattle.tokenizer.specs.Text.{all}
 use Rattle.datatype.specs.Table.{tree_of}
 use Rattle.row_table.specs.Sound.{is_sound}
@@ -25,10 +24,10 @@ use Rattle.std.specs.declared.result.Result.{Result}
 use Rattle.tokenizer.specs.declared.refusal.Refusal as R
 use Rattle.tokenizer.specs.Answer.{Out, done, refuse, number_of, answer_of}
 use Rattle.tokenizer.proofs.Answered.{handed_on}
-use Rattle.display_length.specs.declared.nodes.SoundTree.{SoundTree}
-use Rattle.display_length.specs.declared.nodes.Node.{Node}
+use Rattle.display_length.proofs.TreeLaws.{root-levels}
+use Rattle.display_length.specs.declared.printed.Printed.{Printed}
+use Rattle.display_length.specs.declared.printed.PrintedNode.{PrintedNode}
 use Rattle.display_length.specs.Internal.Steps.{is_clean}
-use Rattle.display_length.proofs.TreeLaws.{root_levels}
 use Rattle.datatype_display.proofs.Children.{root-text}
 
 module _ (spelling : Spelling) (text names table before : List ℕ) where
@@ -80,37 +79,44 @@ module _ (spelling : Spelling) (text names table before : List ℕ) where
       unfolding print print_answer
       printed-answer l = let k = measured.is in rw (measured.sound, measured.latin, fits l, k)
 
--- what the length's answer says of the tree
-pub printed-sound : (spelling : Spelling) (text names table : List ℕ) (n : ℕ) → done n ≡ printed_length spelling text names table → T (is_sound text names table)
-printed-sound spelling text names table n h = of_true _ (measured spelling text names table [] n h).sound
-
 pub not_clean : (s : List ℕ) → false ≡ true → T (all is_clean s)
 not_clean s e = absurd (false≢true e)
 
 -- the text of a sound tree that is known to fit
-module _ (w : SoundTree) (root : Node) (of : root.whole.now ≡ w) (first : root.at ≡ 0) (before : List ℕ) (n : ℕ) (h : done n ≡ printed_length w.spelling w.tree.text.now w.tree.names.now w.tree.rows.now)
+module _ (t : Printed) (root : PrintedNode) (of : root.of.now ≡ t) (first : root.at ≡ 0) (before : List ℕ) (n : ℕ) (h : done n ≡ printed_length t.spelling t.whole.tree.text.now t.whole.tree.names.now t.whole.tree.rows.now)
     (room : ℕ) (is : room ≡ min (length before) 16384) (l : n ≤ room) (p : Printer) (start : p.at ≡ 0) (lent : p.out.now ≡ before) where
-  abbrev m : Measured w.spelling w.tree.text.now w.tree.names.now w.tree.rows.now n
-  m = measured w.spelling w.tree.text.now w.tree.names.now w.tree.rows.now before n h
+  abbrev m : Measured t.spelling t.whole.tree.text.now t.whole.tree.names.now t.whole.tree.rows.now n
+  m = measured t.spelling t.whole.tree.text.now t.whole.tree.names.now t.whole.tree.rows.now before n h
 
   abbrev text : List ℕ
-  text = printed w.spelling w.tree.text.now w.tree.names.now w.tree.rows.now before
+  text = printed t.spelling t.whole.tree.text.now t.whole.tree.names.now t.whole.tree.rows.now before
 
   pub root-fits : Fits p (text_in root)
   root-fits =
       let k = m.is in
-      let e = ap (λ (s : List ℕ). length s) (root-text root first w of) in
+      let e = ap (λ (s : List ℕ). length s) (root-text root first t of) in
       let o = ap (λ (s : List ℕ). length s) lent in
       record { room = omega arith }
 
-  pub printed-bytes : (q : Printer) → Wrote p (text_in root) q → (after : List ℕ) → after ≡ q.out.now → after ≡ print_bytes w.spelling w.tree.text.now w.tree.names.now w.tree.rows.now before
+  pub printed-bytes : (q : Printer) → Wrote p (text_in root) q → (after : List ℕ) → after ≡ q.out.now → after ≡ print_bytes t.spelling t.whole.tree.text.now t.whole.tree.names.now t.whole.tree.rows.now before
   unfolding print print_bytes written
   printed-bytes q c after ends =
       let k = m.is in
       let z : 0 + length text ≡ length text = omega arith in
       let stored : after ≡ sets before 0 (text_in root) = ends ∙ ap (λ (r : Printer). r.out.now) c.is ∙ rw (start, lent) in
-      rw (m.sound, m.latin, fits w.spelling w.tree.text.now w.tree.names.now w.tree.rows.now before n h room is l)
-      (stored ∙ ap (λ (s : List ℕ). sets before 0 s) (root-text root first w of) ∙ sets-eq text before 0 (omega arith) ∙ ap (λ (i : ℕ). text ++ drop i before) z)
+      rw (m.sound, m.latin, fits t.spelling t.whole.tree.text.now t.whole.tree.names.now t.whole.tree.rows.now before n h room is l)
+      (stored ∙ ap (λ (s : List ℕ). sets before 0 s) (root-text root first t of) ∙ sets-eq text before 0 (omega arith) ∙ ap (λ (i : ℕ). text ++ drop i before) z)
 
--- what `print_data_type` uses
-pub ruleset print_steps = (refused-answer, refused-bytes, long-answer, long-bytes, printed-answer, printed-sound, not_clean, root_levels)
+-- a tree that is not sound
+pub unsound-answer : (spelling : Spelling) (text names table before : List ℕ) → is_sound text names table ≡ false → refuse 17 ≡ print_answer spelling text names table before
+unfolding print print_answer
+unsound-answer spelling text names table before e = rw e
+
+pub unsound-bytes : (spelling : Spelling) (text names table before : List ℕ) → is_sound text names table ≡ false → before ≡ print_bytes spelling text names table before
+unfolding print print_bytes
+unsound-bytes spelling text names table before e = rw e
+
+-- what `print_data_type_with` and `print_sound_tree` use
+pub ruleset unsound_steps = (unsound-answer, unsound-bytes)
+
+pub ruleset print_steps = (refused-answer, refused-bytes, long-answer, long-bytes, printed-answer, not_clean, root-levels)

@@ -17,16 +17,19 @@ use Rattle.datatype.specs.Tree.{depth, Label, name_of, zone_of, label_of}
 use Rattle.datatype.specs.Table.{rows_at, word_at}
 use Rattle.subtrees.specs.Internal.Run.{row_at}
 use Rattle.output.specs.Digits.{digits}
-use Rattle.display_length.specs.declared.nodes.Node.{Node}
-use Rattle.display_length.specs.declared.nodes.Nodes.{Nodes}
-use Rattle.display_length.specs.Nodes.{IsFirst}
+use Rattle.row_table.specs.declared.nodes.Node.{Node}
+use Rattle.row_table.specs.declared.nodes.Nodes.{Nodes}
+use Rattle.row_table.specs.Nodes.{IsFirst}
+use Rattle.row_table.specs.Internal.Nodes.{rows_in}
+use Rattle.row_table.proofs.NodeLaws.{kind_said, levels_left}
+use Rattle.display_length.specs.declared.printed.PrintedNode.{PrintedNode}
 use Rattle.display_length.specs.Display.{kind_word, unit_text, interval_text, mode_text, sorted_text, scale_text, quoted, Shown, nullity_text, field_text, list_name_text, list_field_text, struct_text, union_text, zone_text, default_names, run_end_text, shape_text, type_text}
-use Rattle.display_length.specs.Internal.Nodes.{label_in, levels_below, rows_in}
-use Rattle.display_length.proofs.NodeLaws.{kind_said, node_kind, levels_left, levels_first}
+use Rattle.display_length.specs.Internal.Nodes.{label_in, levels_below}
 use Rattle.datatype_display.specs.declared.write.Printer.{Printer}
 use Rattle.datatype_display.specs.Internal.Steps.{Wrote, is_alone, comma, nullability, name_text, nullable_text, union_field_text, fields_in, text_in, shown_in, all_shown, shape_in}
 use Rattle.datatype_display.proofs.Writes.{written_then, written_none, Left, left_as, left_step}
-use Rattle.datatype_display.proofs.Children.{shown-none, shown-first, below-levels, below-shown}
+use Rattle.display_length.proofs.TreeLaws.{child-levels, printed_kind}
+use Rattle.datatype_display.proofs.Children.{shown-none, shown-first, below-tree, below-start, below-levels, below-shown}
 
 -- ---- zones
 
@@ -42,16 +45,16 @@ zone_some (c ∷ z) h = refl
 
 pub ruleset zone_parts = (zone_none, zone_some, written_then, written_none, length-append)
 
-module _ (n : Node) where
+module _ (n : PrintedNode) where
   -- word k of the node's row, its name and its zone
   abbrev word : ℕ → ℕ
-  word k = word_at n.whole.now.tree.rows.now n.at k
+  word k = word_at n.of.now.whole.tree.rows.now n.at k
 
   abbrev pub name : List ℕ
-  name = name_of n.whole.now.tree.text.now n.whole.now.tree.names.now (word 6) (word 7) (word 8)
+  name = name_of n.of.now.whole.tree.text.now n.of.now.whole.tree.names.now (word 6) (word 7) (word 8)
 
   abbrev zone : List ℕ
-  zone = zone_of n.whole.now.tree.text.now (word 9) (word 10)
+  zone = zone_of n.of.now.whole.tree.text.now (word 9) (word 10)
 
   -- ---- fields, with no type
 
@@ -81,11 +84,11 @@ module _ (n : Node) where
   unfolding shape_in shape_text
   leaf_part = refl
 
-  pub timestamp_parts : shape_in timestamp n ≡ bytes "(" ++ (unit_text n.whole.now.spelling (word 4) ++ (zone_text zone ++ bytes ")"))
+  pub timestamp_parts : shape_in timestamp n ≡ bytes "(" ++ (unit_text n.of.now.spelling (word 4) ++ (zone_text zone ++ bytes ")"))
   unfolding shape_in shape_text label_of row_at
   timestamp_parts = refl
 
-  pub time_parts : shape_in time n ≡ bytes "(" ++ (unit_text n.whole.now.spelling (word 4) ++ bytes ")")
+  pub time_parts : shape_in time n ≡ bytes "(" ++ (unit_text n.of.now.spelling (word 4) ++ bytes ")")
   unfolding shape_in shape_text label_of row_at
   time_parts = refl
 
@@ -137,7 +140,7 @@ module _ (n : Node) where
     unfolding shape_in shape_text label_of row_at
     map_parts = rw e
 
-  few : (s : Shape) (l : Label) (ks : List Shown) → length ks < 2 → (s ≡ dictionary) ⊎ (s ≡ run_end_encoded) → shape_text n.whole.now.spelling s l ks ≡ []
+  few : (s : Shape) (l : Label) (ks : List Shown) → length ks < 2 → (s ≡ dictionary) ⊎ (s ≡ run_end_encoded) → shape_text n.of.now.spelling s l ks ≡ []
   unfolding shape_text
   few s l [] h (inl e) = rw e
   few s l (k ∷ []) h (inl e) = rw e
@@ -166,7 +169,7 @@ word_leaf_is k e = word_leaf k (of_true _ e)
 
 -- ---- RunEndEncoded: both fields, without their names where those are the default ones
 
-module _ (n first second : Node) (ks : List Shown) (e : fields_in n ≡ shown_in first ∷ shown_in second ∷ ks) where
+module _ (n first second : PrintedNode) (ks : List Shown) (e : fields_in n ≡ shown_in first ∷ shown_in second ∷ ks) where
   abbrev default : Bool
   default = same (name first) (bytes "run_ends") && same (name second) (bytes "values")
 
@@ -187,7 +190,7 @@ leaf_middle k o n m a b = rw (shape_by k) (grind (arith, nat_tests))
 -- ---- what the goals of each function cite
 
 pub ruleset leaf_steps =
-    (shape_by, nat_tests, leaf_middle, node_kind, kind_said, type_parts, leaf_part, timestamp_parts, time_parts, interval_parts, fixed_parts, decimal_parts, written_then, written_none, length-append, append-nil)
+    (shape_by, nat_tests, leaf_middle, printed_kind, kind_said, type_parts, leaf_part, timestamp_parts, time_parts, interval_parts, fixed_parts, decimal_parts, written_then, written_none, length-append, append-nil)
 
 pub ruleset field_steps = (nullable_parts, field_parts, list_field_parts, union_field_parts, written_then, length-append)
 
@@ -205,9 +208,9 @@ pub ruleset dictionary_steps = (dictionary_none, dictionary_parts, written_then,
 
 pub ruleset run_end_steps = (run_end_none, run_end_short, run_end_long, written_then, written_none, length-append)
 
-pub ruleset type_steps = (node_kind, kind_said, type_parts, leaf_part, word_leaf_is, written_then, written_none, length-append, append-nil)
+pub ruleset type_steps = (printed_kind, kind_said, type_parts, leaf_part, word_leaf_is, written_then, written_none, length-append, append-nil)
 
-pub ruleset nested_steps = (shape_by, nat_tests, node_kind, kind_said, type_parts, written_then, length-append)
+pub ruleset nested_steps = (shape_by, nat_tests, printed_kind, kind_said, type_parts, written_then, length-append)
 
 -- ---- the fields of a Struct or Union, one behind another
 
@@ -229,52 +232,57 @@ struct_all (k ∷ ks) = refl
 one_union_field : (id f more : List ℕ) → (bytes ", " ++ (id ++ (bytes ": (" ++ (f ++ (bytes ")" ++ more))))) ++ bytes ")" ≡ (bytes ", " ++ (id ++ (bytes ": (" ++ (f ++ bytes ")")))) ++ (more ++ bytes ")")
 one_union_field id f more = simp append_assoc
 
-module _ (n : Node) (level : ℕ) (before : Printer) (whole : List ℕ) where
+module _ (n : PrintedNode) (level : ℕ) (before : Printer) (whole : List ℕ) where
   -- what `f` makes of the fields that are left is left to write
   pub record Fields (f : List Shown → List ℕ) (left : Nodes) (p : Printer) : Type 0 where
+    pub of : left.whole.now ≡ n.of.now.whole
     pub behind : n.at + 1 ≤ left.start
     pub flat : depth (rows_in left) ≤ level
-    pub rest : Left before whole (f (all_shown left) ++ bytes ")") p
+    pub rest : Left before whole (f (all_shown n.of.now.spelling left) ++ bytes ")") p
 
   -- before the first field
-  fields_start : (f : List Shown → List ℕ) (kids : Nodes) (p : Printer) → kids.whole ≡ n.whole → kids.start ≡ n.at + 1 → kids.end ≡ n.at + rows_at n.whole.now.tree.rows.now n.at → levels_below n ≤ level → Left before whole (f (fields_in n) ++ bytes ")") p → Fields f kids p
-  fields_start f kids p of start end h l =
+  fields_start : (f : List Shown → List ℕ) (kids : Nodes) (p : Printer) → (m : Node) → m.whole.now ≡ n.of.now.whole → m.at ≡ n.at → kids.whole ≡ m.whole → kids.start ≡ m.at + 1 → kids.end ≡ m.at + rows_at m.whole.now.tree.rows.now m.at → levels_below n ≤ level → Left before whole (f (fields_in n) ++ bytes ")") p → Fields f kids p
+  fields_start f kids p m in_tree there of start end h l =
       record {
-        behind = omega arith;
-        flat = omega (arith, below-levels n kids of start end);
-        rest = left_as (ap (λ ks. f ks ++ bytes ")") (sym (below-shown n kids of start end))) l;
+        of = below-tree n m in_tree there kids of start end;
+        behind = let e = below-start n m in_tree there kids of start end in omega arith;
+        flat = omega (arith, below-levels n m in_tree there kids of start end);
+        rest = left_as (ap (λ ks. f ks ++ bytes ")") (sym (below-shown n m in_tree there kids of start end))) l;
       }
 
-  pub struct_start : (kids : Nodes) (p : Printer) → kids.whole ≡ n.whole → kids.start ≡ n.at + 1 → kids.end ≡ n.at + rows_at n.whole.now.tree.rows.now n.at → levels_below n ≤ level → Left before whole (struct_text (fields_in n) ++ bytes ")") p
+  pub struct_start : (kids : Nodes) (p : Printer) → (m : Node) → m.whole.now ≡ n.of.now.whole → m.at ≡ n.at → kids.whole ≡ m.whole → kids.start ≡ m.at + 1 → kids.end ≡ m.at + rows_at m.whole.now.tree.rows.now m.at → levels_below n ≤ level → Left before whole (struct_text (fields_in n) ++ bytes ")") p
       → Fields (struct_rest (eqb kids.start (n.at + 1))) kids p
-  struct_start kids p of start end h l = rw (eq-eqb kids.start (n.at + 1) start) (fields_start (struct_rest true) kids p of start end h (left_as (ap (λ s. s ++ bytes ")") (struct_all (fields_in n))) l))
+  struct_start kids p m in_tree there of start end h l = rw (eq-eqb kids.start (n.at + 1) (below-start n m in_tree there kids of start end)) (fields_start (struct_rest true) kids p m in_tree there of start end h (left_as (ap (λ s. s ++ bytes ")") (struct_all (fields_in n))) l))
 
-  pub union_start : (kids : Nodes) (p : Printer) → kids.whole ≡ n.whole → kids.start ≡ n.at + 1 → kids.end ≡ n.at + rows_at n.whole.now.tree.rows.now n.at → levels_below n ≤ level → Left before whole (union_text (fields_in n) ++ bytes ")") p → Fields union_text kids p
+  pub union_start : (kids : Nodes) (p : Printer) → (m : Node) → m.whole.now ≡ n.of.now.whole → m.at ≡ n.at → kids.whole ≡ m.whole → kids.start ≡ m.at + 1 → kids.end ≡ m.at + rows_at m.whole.now.tree.rows.now m.at → levels_below n ≤ level → Left before whole (union_text (fields_in n) ++ bytes ")") p → Fields union_text kids p
   union_start = fields_start union_text
 
   module _ (left : Nodes) (p : Printer) where
     pub struct_end : (first : Bool) → Fields (struct_rest first) left p → left.start ≡ left.end → Left before whole (bytes ")") p
-    struct_end first v e = left_as (ap (λ ks. struct_rest first ks ++ bytes ")") (shown-none left e)) v.rest
+    struct_end first v e = left_as (ap (λ ks. struct_rest first ks ++ bytes ")") (shown-none n.of.now.spelling left e)) v.rest
 
     pub union_end : Fields union_text left p → left.start ≡ left.end → Left before whole (bytes ")") p
     unfolding union_text
-    union_end v e = left_as (ap (λ ks. union_text ks ++ bytes ")") (shown-none left e)) v.rest
+    union_end v e = left_as (ap (λ ks. union_text ks ++ bytes ")") (shown-none n.of.now.spelling left e)) v.rest
 
-    module _ (field : Node) (next : Nodes) (g : IsFirst left field next) where
+    module _ (row : Node) (next : Nodes) (g : IsFirst left row next) (field : PrintedNode) (same : field.of ≡ n.of) (place : field.at ≡ row.at) where
+      in_tree : field.of.now.whole ≡ n.of.now.whole
+      in_tree = rw same refl
+
       pub field_level : (f : List Shown → List ℕ) → Fields f left p → levels_below field < level
-      field_level f v = let d = v.flat in omega (arith, levels_first left field next g)
+      field_level f v = let d = v.flat in omega (arith, child-levels n.of.now.whole left v.of row next g field in_tree place)
 
       -- the first field has no comma before it
       abbrev first : Bool
-      first = eqb field.at (n.at + 1)
+      first = eqb row.at (n.at + 1)
 
-      pub struct_here : Fields (struct_rest (eqb left.start (n.at + 1))) left p → Left before whole (comma (not first) ++ (field_text (shown_in field) ++ (struct_rest false (all_shown next) ++ bytes ")"))) p
+      pub struct_here : Fields (struct_rest (eqb left.start (n.at + 1))) left p → Left before whole (comma (not first) ++ (field_text (shown_in field) ++ (struct_rest false (all_shown n.of.now.spelling next) ++ bytes ")"))) p
       struct_here v =
           left_as
           (
-          ap (λ ks. struct_rest (eqb left.start (n.at + 1)) ks ++ bytes ")") (shown-first left field next g)
-          ∙ ap (λ s. (comma (not (eqb left.start (n.at + 1))) ++ s) ++ bytes ")") (struct_next (shown_in field) (all_shown next))
-          ∙ ap (λ (i : ℕ). (comma (not (eqb i (n.at + 1))) ++ (field_text (shown_in field) ++ struct_rest false (all_shown next))) ++ bytes ")") (sym g.at)
+          ap (λ ks. struct_rest (eqb left.start (n.at + 1)) ks ++ bytes ")") (shown-first n.of.now.spelling left row next g field (rw v.of in_tree) place (rw same refl))
+          ∙ ap (λ s. (comma (not (eqb left.start (n.at + 1))) ++ s) ++ bytes ")") (struct_next (shown_in field) (all_shown n.of.now.spelling next))
+          ∙ ap (λ (i : ℕ). (comma (not (eqb i (n.at + 1))) ++ (field_text (shown_in field) ++ struct_rest false (all_shown n.of.now.spelling next))) ++ bytes ")") (sym g.at)
           ∙ simp append_assoc
           )
           v.rest
@@ -284,19 +292,19 @@ module _ (n : Node) (level : ℕ) (before : Printer) (whole : List ℕ) where
       struct_again v b after c w =
           let s = g.start in
           let a = g.at in
-          let r = field.some_rows in
+          let r = row.some_rows in
           let h = v.behind in
           let d = v.flat in
           rw (ne_eqb next.start (n.at + 1) (λ z. omega arith))
-          (record { behind = omega arith; flat = omega (arith, levels_left left field next g); rest = left_step (left_step (struct_here v) c) w })
+          (record { of = rw g.of_left v.of; behind = omega arith; flat = omega (arith, levels_left left row next g); rest = left_step (left_step (struct_here v) c) w })
 
-      pub union_here : Fields union_text left p → Left before whole (union_field_text (shown_in field) ++ (union_text (all_shown next) ++ bytes ")")) p
+      pub union_here : Fields union_text left p → Left before whole (union_field_text (shown_in field) ++ (union_text (all_shown n.of.now.spelling next) ++ bytes ")")) p
       unfolding union_text union_field_text
       union_here v =
           left_as
           (
-          ap (λ ks. union_text ks ++ bytes ")") (shown-first left field next g)
-          ∙ one_union_field (digits (label_in field).union_id) (field_text (shown_in field)) (union_text (all_shown next))
+          ap (λ ks. union_text ks ++ bytes ")") (shown-first n.of.now.spelling left row next g field (rw v.of in_tree) place (rw same refl))
+          ∙ one_union_field (digits (label_in field).union_id) (field_text (shown_in field)) (union_text (all_shown n.of.now.spelling next))
           )
           v.rest
 
@@ -306,4 +314,4 @@ module _ (n : Node) (level : ℕ) (before : Printer) (whole : List ℕ) where
           let a = g.at in
           let h = v.behind in
           let d = v.flat in
-          record { behind = omega arith; flat = omega (arith, levels_left left field next g); rest = left_step (union_here v) w }
+          record { of = rw g.of_left v.of; behind = omega arith; flat = omega (arith, levels_left left row next g); rest = left_step (union_here v) w }

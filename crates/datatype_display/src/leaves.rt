@@ -9,7 +9,7 @@ ghost use Rattle.datatype_display.specs.Internal.Steps.{Fits, Wrote, is_alone, n
 use crate::write::Printer;
 use datatype::rows::NON_NULL;
 use datatype::{Field, equal_bytes, kind};
-use display_length::{Node, interval_word, unit_word};
+use display_length::{PrintedNode, interval_word, unit_word};
 
 // Whether no types stand below one of a kind.
 #[tactic(auto, unfolding(crate::specs::Internal::Steps::is_alone))]
@@ -82,16 +82,19 @@ impl<'a> Printer<'a> {
 
     // Writes a type that has no types below it.
     #[tactic(auto, using(crate::proofs::Texts::leaf_steps), unfolding(crate::specs::Internal::Steps::is_alone))]
-    pub(crate) fn put_leaf(&mut self, kind: u32, node: &Node<'_>)
-        requires { (kind ≡ (label_in node.now).kind) × (is_alone kind ≡ true) × Fits self.old (text_in node.now) }
-        ensures { Wrote self.old (text_in node.now) self.new }
+    pub(crate) fn put_leaf(&mut self, kind: u32, printed: &PrintedNode<'_>)
+        requires { (kind ≡ (label_in printed.now).kind) × (is_alone kind ≡ true) × Fits self.old (text_in printed.now) }
+        ensures { Wrote self.old (text_in printed.now) self.new }
     {
         self.put_kind(kind);
-        let row = node.row();
+        let row = printed.node().row();
         let number = row.number();
-        let spelling = node.whole.spelling;
+        let spelling = printed.of.spelling;
         match kind {
-            kind::TIMESTAMP => self.put_timestamp(unit_word(spelling, number), node.zone()),
+            kind::TIMESTAMP => self.put_timestamp(
+                unit_word(spelling, number),
+                printed.node().zone(),
+            ),
             kind::TIME32 | kind::TIME64 | kind::DURATION => self.put_enclosed(unit_word(
                 spelling, number,
             )),

@@ -6,11 +6,14 @@ use mathlib.Core.List.{List, []}
 use Prim.Native.Nat.{ℕ, zero, suc, ◌+◌, ◌≤◌}
 use native.Mathlib.Omega.{arith}
 use lib.ListN.{length, take, drop, length-take, length-drop}
-use lib.Dec.{leb}
+use lib.Dec.{T, leb}
+use Rattle.tokenizer.specs.Text.{all}
 use Rattle.tokenizer.proofs.Basics.{of_true}
+use Rattle.datatype.specs.declared.tree.Tree.{Tree}
 use Rattle.datatype.specs.Tree.{part, name_of, zone_of, name_list}
+use Rattle.row_table.specs.Sound.{is_sound}
 use Rattle.row_table.proofs.SoundTree.{sound_tree}
-use Rattle.display_length.specs.declared.nodes.SoundTree.{SoundTree as Whole}
+use Rattle.display_length.specs.declared.printed.PrintedNode.{PrintedNode}
 use Rattle.display_length.specs.Internal.Steps.{is_clean, Clean}
 use Rattle.display_length.proofs.LatinLaws.{name-all, zone-all}
 
@@ -28,22 +31,31 @@ name_short text names (suc zero) start size a b = let e = part_short text start 
 name_short text names (suc (suc zero)) start size a b = let e = part_short names start size in omega arith
 name_short text names (suc (suc (suc home))) start size a b = omega arith
 
-module _ (w : Whole) (s : List ℕ) where
-  pub clean_zone : (start size : ℕ) → s ≡ zone_of w.tree.text.now start size → Clean w.clean s
-  clean_zone start size is =
-      let tree = sound_tree w.tree.text.now w.tree.names.now w.tree.rows.now w.sound in
-      rw is
+module _ (text names table : List ℕ) (sound : T (is_sound text names table)) (clean : Bool) (so : clean ≡ true → T (all is_clean text)) where
+  zone_clean : (start size : ℕ) → Clean clean (zone_of text start size)
+  zone_clean start size =
+      let tree = sound_tree text names table sound in
+      record {
+        short = let e = part_short text start size in let f = tree.short in unfold zone_of in omega arith;
+        so = λ e. of_true _ (zone-all is_clean text (so e) start size);
+      }
+
+  name_clean : (home start size : ℕ) → Clean clean (name_of text names home start size)
+  unfolding is_clean
+  name_clean home start size =
+      let tree = sound_tree text names table sound in
+      rw tree.listed
       (record {
-        short = let e = part_short w.tree.text.now start size in let f = tree.short in unfold zone_of in omega arith;
-        so = λ e. of_true _ (zone-all is_clean w.tree.text.now (w.clean_text e) start size);
+        short = name_short text name_list home start size tree.short (omega arith);
+        so = λ e. of_true _ (name-all is_clean text name_list (so e) tt home start size);
       })
 
-  pub clean_name : (home start size : ℕ) → s ≡ name_of w.tree.text.now w.tree.names.now home start size → Clean w.clean s
-  unfolding is_clean
-  clean_name home start size is =
-      let tree = sound_tree w.tree.text.now w.tree.names.now w.tree.rows.now w.sound in
-      rw (is, tree.listed)
-      (record {
-        short = name_short w.tree.text.now name_list home start size tree.short (omega arith);
-        so = λ e. of_true _ (name-all is_clean w.tree.text.now name_list (w.clean_text e) tt home start size);
-      })
+module _ (p : PrintedNode) (s : List ℕ) where
+  abbrev tree : Tree
+  tree = p.of.now.whole.tree
+
+  pub clean_zone : (start size : ℕ) → s ≡ zone_of tree.text.now start size → Clean p.of.now.clean s
+  clean_zone start size is = rw is (zone_clean tree.text.now tree.names.now tree.rows.now p.of.now.whole.sound p.of.now.clean p.of.now.clean_text start size)
+
+  pub clean_name : (home start size : ℕ) → s ≡ name_of tree.text.now tree.names.now home start size → Clean p.of.now.clean s
+  clean_name home start size is = rw is (name_clean tree.text.now tree.names.now tree.rows.now p.of.now.whole.sound p.of.now.clean p.of.now.clean_text home start size)

@@ -25,13 +25,12 @@ use Rattle.subtrees.specs.Internal.Run.{row_at, forest_at}
 use Rattle.datatype.proofs.Tests.{iff_eq}
 use Rattle.row_table.proofs.SoundTree.{sound_tree}
 use Rattle.display_length.specs.PrintedLength.{quotes_names, is_latin, names_latin, quoted_latin}
-use Rattle.display_length.specs.declared.nodes.Node.{Node}
-use Rattle.display_length.specs.declared.nodes.Nodes.{Nodes}
+use Rattle.row_table.specs.declared.nodes.Node.{Node}
+use Rattle.row_table.specs.declared.nodes.Nodes.{Nodes}
 use Rattle.display_length.specs.Internal.Steps.{row_latin, is_clean, clean_weight}
-use Rattle.display_length.specs.Nodes.{IsFirst, GivesNode}
-use Rattle.display_length.specs.Internal.Nodes.{label_in, children_in, labels_in}
+use Rattle.row_table.specs.Nodes.{label_in, children_in, labels_in, IsFirst, GivesNode}
 use Rattle.display_length.specs.Display.{is_lead, default_names}
-use Rattle.display_length.proofs.NodeLaws.{none-left, first_labels, given, all_labels}
+use Rattle.row_table.proofs.NodeLaws.{none-left, first_labels, given, all_labels}
 
 -- ---- bytes
 

@@ -4,8 +4,8 @@ pub mod StringLaws
 pub mod CharacterLaws
 pub mod WordLaws
 pub mod LengthLaws
-pub mod NodeLaws
 pub mod CleanLaws
+pub mod PrintedNodes
 pub mod TreeLaws
 pub mod PrintedLaws
 pub mod Rules

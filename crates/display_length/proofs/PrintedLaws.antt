@@ -92,3 +92,6 @@ module _ (spelling : Spelling) (text names table : List ℕ) where
       go false latin e f =
           let d : ◌≡◌ {A = Out ℕ} (refuse n) (refuse 17) = h ∙ means false latin e f in
           inl (ap number d, e)
+
+-- what the lengths of a tree use
+pub ruleset unsound_steps = (printed-17)

@@ -1,14 +1,14 @@
 -- What the goals of each function cite: the laws of what it reads and calls, and of what it answers.
 use Rattle.std.proofs.lemmas.Bool.Decides.{nat_tests}
-use Rattle.tokenizer.proofs.Basics.{of_true}
+use Rattle.tokenizer.proofs.Basics.{of_true, is_true}
 use Rattle.datatype.proofs.KindShapes.{shape_by}
 use Rattle.output.proofs.DigitLaws.{digits_few}
 use Rattle.display_length.proofs.LatinLaws.{latin_greatest, clean_heaviest, greatest-go, greatest-end, heaviest-go, heaviest-end, row_latin_is, pair_none, pair_one, pair_two, tree-clean, tree-latin}
 use Rattle.display_length.proofs.CleanLaws.{clean_name, clean_zone}
-use Rattle.display_length.proofs.NodeLaws.{root-some, root-nests, role_said, id_said, number_said, scale_said, name_said, zone_said, next-some, next-nests, next-within, next-rest, all_labels, all_nest, all_levels}
-use Rattle.display_length.proofs.PrintedLaws.{printed-17, printed-18, printed-length}
+use Rattle.row_table.proofs.NodeLaws.{kind_said, role_said, id_said, number_said, scale_said, name_said, zone_said, all_labels, all_nest, all_levels}
+use Rattle.display_length.proofs.PrintedLaws.{printed-18, printed-length}
 use Rattle.display_length.proofs.StringLaws.{escaped_few, left_all, left-next, left-none, quoted-counted, quoted-clean, quoted_few, zone-none, zone-some, zone_few, list_name_few}
-use Rattle.display_length.proofs.TreeLaws.{single_length, single_word, tree-length, root_levels}
+use Rattle.display_length.proofs.TreeLaws.{single_length, single_word, tree-length, root-levels}
 use Rattle.display_length.proofs.WordLaws.{word_few, unit_few, interval_few, mode_few, sorted_few, scale_few, comma_few, nullity_few}
 
 -- ---- strings
@@ -39,7 +39,7 @@ pub ruleset around_steps = (shape_by, nat_tests, role_said, id_said, comma_few, 
 
 pub ruleset pair_steps = (pair_none, pair_one, pair_two)
 
-pub ruleset row_latin_steps = (zone_said, row_latin_is)
+pub ruleset row_latin_steps = (kind_said, zone_said, row_latin_is)
 
 pub ruleset tree_latin_steps = (tree-clean, tree-latin, all_labels, all_nest, all_levels)
 
@@ -47,8 +47,4 @@ pub ruleset tree_latin_steps = (tree-clean, tree-latin, all_labels, all_nest, al
 
 pub ruleset single_steps = (single_length, single_word, word_few)
 
-pub ruleset printed_steps = (of_true, printed-17, printed-18, printed-length, root_levels, tree-length)
-
-pub ruleset root_steps = (root-some, root-nests)
-
-pub ruleset next_steps = (next-some, next-nests, next-within, next-rest)
+pub ruleset printed_steps = (of_true, is_true, printed-18, printed-length, root-levels, tree-length)

@@ -1,5 +1,4 @@
 pub mod Display
 pub mod PrintedLength
 pub mod Characters
-pub mod Nodes
 pub mod Internal

@@ -4,7 +4,7 @@ ghost use Rattle.datatype.specs.Kind.{shape_of};
 ghost use Rattle.display_length.specs.Internal.Steps.{comma_length, nullity_length, field_length, around_length};
 ghost use Rattle.display_length.specs.Internal.Nodes.{label_in};
 
-use crate::nodes::Node;
+use crate::printed::PrintedNode;
 use datatype::kind;
 use datatype::rows::NON_NULL;
 use output::digits_length;
@@ -28,14 +28,14 @@ fn nullability_length(role: u32) -> usize
     }
 }
 
-impl Node<'_> {
+impl PrintedNode<'_> {
     // A field without its type: its name, where names print in double quotes, and its nullability.
     #[tactic(auto, using(crate::proofs::Rules::field_steps), unfolding(crate::specs::Internal::Steps::field_length))]
     fn field_length(&self, quotes: bool) -> usize
         ensures value { result ≡ field_length quotes (label_in self.now) }
         ensures few { result ≤ 98400 }
     {
-        let nullability = nullability_length(self.row().role());
+        let nullability = nullability_length(self.node().row().role());
         if !quotes {
             return nullability;
         }
@@ -51,7 +51,9 @@ impl Node<'_> {
         match kind {
             kind::STRUCT | kind::RUN_END_ENCODED => comma_length(first) + self.field_length(quotes),
             kind::UNION => {
-                b", : ()".len() + digits_length(self.row().union_id()) + self.field_length(quotes)
+                b", : ()".len()
+                    + digits_length(self.node().row().union_id())
+                    + self.field_length(quotes)
             }
             kind::MAP => self.field_length(quotes),
             kind::DICTIONARY => comma_length(first),
@@ -60,7 +62,7 @@ impl Node<'_> {
             | kind::FIXED_SIZE_LIST
             | kind::LARGE_LIST
             | kind::LARGE_LIST_VIEW => {
-                nullability_length(self.row().role()) + self.name_part().list_name_length()
+                nullability_length(self.node().row().role()) + self.name_part().list_name_length()
             }
             _ => 0,
         }

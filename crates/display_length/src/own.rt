@@ -4,21 +4,21 @@ ghost use Rattle.datatype.specs.Kind.{shape_of};
 ghost use Rattle.display_length.specs.Internal.Steps.{behind_length, row_length};
 ghost use Rattle.display_length.specs.Internal.Nodes.{label_in};
 
-use crate::nodes::Node;
+use crate::printed::PrintedNode;
 use crate::words::{interval_word, mode_word, scale_length, sorted_word, unit_word, word_length};
 use datatype::kind;
 use output::digits_length;
 
-impl Node<'_> {
+impl PrintedNode<'_> {
     // What stands behind a kind's word: the marks that every type of the kind has, and what its numbers and its zone say.
     #[tactic(auto, using(crate::proofs::Rules::behind_steps), unfolding(crate::specs::Internal::Steps::behind_length))]
     fn behind_length(&self, kind: u32) -> usize
-        ensures value { result ≡ behind_length self.now.whole.now.spelling (shape_of kind) (label_in self.now) }
+        ensures value { result ≡ behind_length self.now.of.now.spelling (shape_of kind) (label_in self.now) }
         ensures few { result ≤ 98400 }
     {
-        let row = self.row();
+        let row = self.node().row();
         let number = row.number();
-        let spelling = self.whole.spelling;
+        let spelling = self.of.spelling;
         match kind {
             kind::TIMESTAMP => b"()".len()
                 + unit_word(spelling, number).len()
@@ -47,7 +47,7 @@ impl Node<'_> {
     // The word of the row's kind and what stands behind it.
     #[tactic(auto, using(crate::proofs::WordLaws::word_few), unfolding(crate::specs::Internal::Steps::row_length))]
     pub(crate) fn own_length(&self) -> usize
-        ensures value { result ≡ row_length self.now.whole.now.spelling (label_in self.now) }
+        ensures value { result ≡ row_length self.now.of.now.spelling (label_in self.now) }
         ensures few { result ≤ 100000 }
     {
         let kind = self.kind();

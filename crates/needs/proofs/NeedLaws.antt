@@ -18,8 +18,9 @@ use Rattle.tokenizer.specs.Text.{is_empty}
 use Rattle.tokenizer.specs.Answer.{Refusal, refused, done, refuse}
 use Rattle.datatype.specs.Tree.{Label, part, zone_of, label_of}
 use Rattle.datatype.specs.Table.{word_at}
-use Rattle.datatype.specs.declared.row.Row.{Row as Place}
-use Rattle.subtrees.specs.Internal.Run.{row_at}
+use Rattle.datatype.specs.Table.{row_at}
+use Rattle.row_table.specs.declared.nodes.Node.{Node}
+use Rattle.row_table.specs.Nodes.{label_in}
 use Rattle.needs.specs.declared.Need.{Need}
 use Rattle.needs.specs.Needs.{need_name, are_named, fields_named, only, role_allowed, zone_allowed, is_needed, is_needed_one, need_met, first_unmet, columns_of, need_of, needs_of}
 use Rattle.needs.specs.Internal.Columns.{said}
@@ -30,21 +31,22 @@ pub empty_is : {A : Type 0} (s : List A) → is_empty s ≡ eqb (length s) 0
 empty_is [] = refl
 empty_is (x ∷ s) = grind (arith, nat_tests)
 
-module _ (text names : List ℕ) (kind number scale : ℕ) (null_allowed zoned : Bool) where
-  -- a row is as needed, by its words
-  pub needed_is : (table : List ℕ) (i : ℕ) → is_needed kind number scale null_allowed zoned (label_of text names (row_at table i))
-      ≡ (eqb (word_at table i 0) kind && eqb (word_at table i 4) number && eqb (word_at table i 5) scale && role_allowed null_allowed (word_at table i 2) && zone_allowed zoned (zone_of text (word_at table i 9) (word_at table i 10)))
+module _ (kind number scale : ℕ) (null_allowed zoned : Bool) where
+  -- a column is as needed, by the words of its row
+  pub needed_is : (n : Node) → is_needed kind number scale null_allowed zoned (label_in n)
+      ≡ (let table = n.whole.now.tree.rows.now in
+      eqb (word_at table n.at 0) kind && eqb (word_at table n.at 4) number && eqb (word_at table n.at 5) scale && role_allowed null_allowed (word_at table n.at 2) && zone_allowed zoned (zone_of n.whole.now.tree.text.now (word_at table n.at 9) (word_at table n.at 10)))
   unfolding is_needed label_of row_at
-  needed_is table i = refl
+  needed_is n = refl
 
-  module _ (name : List ℕ) (fields : List Label) (found : Option Place) (so : said text names found ≡ only (fields_named name fields)) where
+  module _ (name : List ℕ) (fields : List Label) (found : Option Node) (so : said found ≡ only (fields_named name fields)) where
     pub met_none : found ≡ None → false ≡ need_met kind number scale null_allowed zoned name fields
     unfolding need_met
     met_none e = rw (← so, e)
 
-    pub met_one : (r : Place) → found ≡ Some r → need_met kind number scale null_allowed zoned name fields ≡ is_needed kind number scale null_allowed zoned (label_of text names (row_at r.rows.now r.at))
+    pub met_one : (n : Node) → found ≡ Some n → need_met kind number scale null_allowed zoned name fields ≡ is_needed kind number scale null_allowed zoned (label_in n)
     unfolding need_met
-    met_one r e = rw (← so, e)
+    met_one n e = rw (← so, e)
 
 -- where a need is met, one field has its name, and that is as needed
 pub met_alone : (kind number scale : ℕ) (null_allowed zoned : Bool) (name : List ℕ) (fields : List Label) → need_met kind number scale null_allowed zoned name fields ≡ true
@@ -92,39 +94,38 @@ module _ (text : List ℕ) (fields : List Label) (i : ℕ) (needs : List Need) w
 
 -- ---- the answers
 
-module _ (text names table : List ℕ) where
-  module _ (r : Refusal) (is : columns_of text names table ≡ refused r) where
-    pub need_refused : (kind number scale : ℕ) (null_allowed zoned : Bool) (name : List ℕ) → need_of text names table kind number scale null_allowed zoned name ≡ refused r
+module _ (text names table : List ℕ) (r : Refusal) (is : columns_of text names table ≡ refused r) where
+  pub need_refused : (kind number scale : ℕ) (null_allowed zoned : Bool) (name : List ℕ) → need_of text names table kind number scale null_allowed zoned name ≡ refused r
+  unfolding need_of
+  need_refused kind number scale null_allowed zoned name = rw is
+
+  pub needs_refused : (words : List ℕ) (needs : List Need) → needs_of text names table words needs ≡ refused r
+  unfolding needs_of
+  needs_refused words needs = rw is
+
+module _ (text names table : List ℕ) (fields : List Label) (is : columns_of text names table ≡ done fields) where
+  module _ (kind number scale : ℕ) (null_allowed zoned : Bool) (name : List ℕ) (b : Bool) (test : b ≡ eqb (length name) 0) where
+    pub need_unnamed : b ≡ true → need_of text names table kind number scale null_allowed zoned name ≡ refuse 27
     unfolding need_of
-    need_refused kind number scale null_allowed zoned name = rw is
+    need_unnamed e = rw (is, empty_is name, ← test, e)
 
-    pub needs_refused : (words : List ℕ) (needs : List Need) → needs_of text names table words needs ≡ refused r
+    pub need_done : b ≡ false → need_of text names table kind number scale null_allowed zoned name ≡ done (need_met kind number scale null_allowed zoned name fields)
+    unfolding need_of
+    need_done e = rw (is, empty_is name, ← test, e)
+
+  module _ (words : List ℕ) (needs : List Need) where
+    pub needs_many : 32 < length needs → needs_of text names table words needs ≡ refuse 26
     unfolding needs_of
-    needs_refused words needs = rw is
+    needs_many h = rw (is, lt-ltb 32 (length needs) h)
 
-  module _ (fields : List Label) (is : columns_of text names table ≡ done fields) where
-    module _ (kind number scale : ℕ) (null_allowed zoned : Bool) (name : List ℕ) (b : Bool) (test : b ≡ eqb (length name) 0) where
-      pub need_unnamed : b ≡ true → need_of text names table kind number scale null_allowed zoned name ≡ refuse 27
-      unfolding need_of
-      need_unnamed e = rw (is, empty_is name, ← test, e)
-
-      pub need_done : b ≡ false → need_of text names table kind number scale null_allowed zoned name ≡ done (need_met kind number scale null_allowed zoned name fields)
-      unfolding need_of
-      need_done e = rw (is, empty_is name, ← test, e)
-
-    module _ (words : List ℕ) (needs : List Need) where
-      pub needs_many : 32 < length needs → needs_of text names table words needs ≡ refuse 26
+    module _ (l : length needs ≤ 32) (named : Bool) (test : named ≡ are_named words needs) where
+      pub needs_unnamed : named ≡ false → needs_of text names table words needs ≡ refuse 27
       unfolding needs_of
-      needs_many h = rw (is, lt-ltb 32 (length needs) h)
+      needs_unnamed e = rw (is, le-ltb 32 (length needs) l, ← test, e)
 
-      module _ (l : length needs ≤ 32) (named : Bool) (test : named ≡ are_named words needs) where
-        pub needs_unnamed : named ≡ false → needs_of text names table words needs ≡ refuse 27
-        unfolding needs_of
-        needs_unnamed e = rw (is, le-ltb 32 (length needs) l, ← test, e)
-
-        pub needs_done : named ≡ true → needs_of text names table words needs ≡ done (first_unmet words fields 0 needs)
-        unfolding needs_of
-        needs_done e = rw (is, le-ltb 32 (length needs) l, ← test, e)
+      pub needs_done : named ≡ true → needs_of text names table words needs ≡ done (first_unmet words fields 0 needs)
+      unfolding needs_of
+      needs_done e = rw (is, le-ltb 32 (length needs) l, ← test, e)
 
 pub ruleset met_steps = (met_none, met_one)
 

@@ -4,10 +4,8 @@ use Rattle.std.specs.Prelude.{Option, Some, None, Bool, true, false, not, ◌&&�
 use Rattle.std.specs.Bool.{beq}
 use Rattle.tokenizer.specs.Text.{same, is_empty}
 use Rattle.tokenizer.specs.Answer.{Out, done, refuse, ◌>>=◌}
-use Rattle.datatype.specs.Kind.{struct_kind}
-use Rattle.datatype.specs.Tree.{Forest, ∅, node, roots, Label, part}
-use Rattle.datatype.specs.Table.{tree_of}
-use Rattle.row_table.specs.Sound.{is_sound}
+use Rattle.datatype.specs.Tree.{roots, Label, part}
+use Rattle.row_table.specs.Sound.{struct_fields}
 use Rattle.needs.specs.declared.Need.{Need}
 
 -- The most needs.
@@ -29,17 +27,7 @@ unfoldable pub are_named : List ℕ → List Need → Bool
 are_named text [] = true
 are_named text (n ∷ ns) = is_named text n && are_named text ns
 
--- ---- the root's fields
-
--- The root is a Struct.
-abbrev pub is_struct : Forest Label → Bool
-is_struct ∅ = false
-is_struct (node l kids next) = nat_eq l.kind struct_kind
-
--- What the root's fields say.
-abbrev pub fields_of : Forest Label → List Label
-fields_of ∅ = []
-fields_of (node l kids next) = roots kids
+-- ---- the root's fields, which are the columns
 
 -- Those of a name, by its bytes, from whichever home a field has it.
 abbrev pub fields_named : List ℕ → List Label → List Label
@@ -84,13 +72,12 @@ first_unmet text fields i (n ∷ ns) =
 -- ---- the answers, with the refusals in document 02's order
 
 module _ (text names table : List ℕ) where
-  -- The fields that needs are asked of: 17 where the tree is not sound, 25 where its root is not a Struct.
+  -- The columns, which needs are asked of: what the root's fields say; 17 where the tree is not sound, 25 where its root is
+  -- not a Struct.
   unfoldable pub columns_of : Out (List Label)
-  columns_of =
-      let tree = tree_of text names table in
-      if not (is_sound text names table) then refuse 17
-      else if not (is_struct tree) then refuse 25
-      else done (fields_of tree)
+  columns_of = do
+    fields ← struct_fields text names table
+    done (roots fields)
 
   -- Whether one need is met, given as plain numbers and its name; 27 where that is empty.
   unfoldable pub need_of : (kind number scale : ℕ) (null_allowed zoned : Bool) → List ℕ → Out Bool

@@ -6,12 +6,13 @@
 ghost use Rattle.std.specs.Prelude.{◌≡◌};
 ghost use Rattle.needs.specs.Answer.{number_of, answer_of};
 ghost use Rattle.needs.specs.Needs.{need_name, are_named, first_unmet, need_of, needs_of};
-ghost use Rattle.needs.specs.Internal.Columns.{fields_in};
+ghost use Rattle.needs.specs.Internal.Columns.{columns_in};
 
 mod columns;
 
-use crate::columns::Columns;
+use crate::columns::{columns_of, meet, sound_tree};
 use datatype::Tree;
+use row_table::nodes::Nodes;
 
 // The most needs that are checked at once.
 pub const MAX_NEEDS: usize = 32;
@@ -69,13 +70,14 @@ fn are_named(text: &[u8], needs: &[Need]) -> bool
 
 // The first need that is not met: each record is copied out, and its numbers are handed to the check.
 #[tactic(auto, using(crate::proofs::NeedLaws::unmet_steps))]
-fn first_unmet(columns: Columns<'_>, text: &[u8], needs: &[Need]) -> Option<usize>
-    ensures { result ≡ first_unmet text.now (fields_in columns.entry) 0 needs.now }
+fn first_unmet(columns: Nodes<'_>, text: &[u8], needs: &[Need]) -> Option<usize>
+    ensures { result ≡ first_unmet text.now (columns_in columns.entry) 0 needs.now }
 {
     for (i, need) in needs.iter().enumerate() {
         let need = *need;
         let name = need.name(text);
-        if !columns.meet(
+        if !meet(
+            columns,
             name,
             need.kind,
             need.number,
@@ -102,11 +104,12 @@ pub fn meets(
 ) -> Result<bool, NotChecked>
     ensures { answer_of result ≡ need_of tree.entry.text.now tree.entry.names.now tree.entry.rows.now kind number scale null_allowed zoned name.now }
 {
-    let columns = Columns::of(tree)?;
+    let whole = sound_tree(tree)?;
+    let columns = columns_of(&whole)?;
     if name.is_empty() {
         return Err(NotChecked::WrongName);
     }
-    Ok(columns.meet(name, kind, number, scale, null_allowed, zoned))
+    Ok(meet(columns, name, kind, number, scale, null_allowed, zoned))
 }
 
 // Whether a tree fits needs over a text of names: none where it meets each of them, else the first, from 0, that it does not.
@@ -114,7 +117,8 @@ pub fn meets(
 pub fn fits(tree: Tree<'_>, text: &[u8], needs: &[Need]) -> Result<Option<usize>, NotChecked>
     ensures { answer_of result ≡ needs_of tree.entry.text.now tree.entry.names.now tree.entry.rows.now text.now needs.now }
 {
-    let columns = Columns::of(tree)?;
+    let whole = sound_tree(tree)?;
+    let columns = columns_of(&whole)?;
     if MAX_NEEDS < needs.len() {
         return Err(NotChecked::TooManyNeeds);
     }

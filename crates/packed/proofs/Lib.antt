@@ -1,2 +1,4 @@
 pub mod PackedLaws
 pub mod LentLaws
+pub mod PackerLaws
+pub mod PackerRuns

@@ -1,6 +1,7 @@
--- Names and zones packed into a text of their own (document 02, 'Take a column out, give the room back'): row order, name
+-- Names and zones packed into a text of their own (docs/SCOPE.md, 'Columns taken out'): row order, name
 -- before zone, home 1 for each name.
 use Rattle.std.specs.Prelude.{Bool, ◌&&◌, List, [], ◌∷◌, ◌++◌, ℕ, ◌+◌, min, length, drop, nat_le}
+use Rattle.tokenizer.specs.Answer.{Out, refused, done}
 use Rattle.datatype.specs.Limits.{max_text}
 use Rattle.datatype.specs.Tree.{Forest, ∅, node, count, Row, Label}
 use Rattle.datatype.specs.Table.{table_of, rows_lent}
@@ -71,3 +72,19 @@ packed_rows f before = table_of (packed f) ++ drop (length (table_of (packed f))
 -- What the lent text then holds.
 unfoldable pub packed_bytes : Forest Label → List ℕ → List ℕ
 packed_bytes f before = packed_text f ++ drop (length (packed_text f)) before
+
+-- ---- the answer
+
+-- How much was packed, or the refusal.
+abbrev pub size_by : Out (Forest Label) → Out Packed
+size_by (refused r) = refused r
+size_by (done f) = done (packed_size f)
+
+-- The same as two numbers, each 0 where it was refused.
+unfoldable pub rows_answered : Out Packed → ℕ
+rows_answered (refused r) = 0
+rows_answered (done size) = size.rows
+
+unfoldable pub bytes_answered : Out Packed → ℕ
+bytes_answered (refused r) = 0
+bytes_answered (done size) = size.bytes

@@ -6,6 +6,7 @@ use Prim.Native.Nat.{ℕ, suc, ◌+◌, ◌*◌, ◌≤◌}
 use native.Mathlib.Omega.{arith}
 use lib.ListN.{length, take, drop, replicate, length-append}
 use lib.Seq.{length-take-le}
+use lib.Dec.{T}
 use Rattle.std.proofs.Common.{Fits, w64}
 use Rattle.std.specs.declared.result.Result.{Result}
 use Rattle.std.specs.declared.result.Result.TheVariants.{Ok, Err}
@@ -16,6 +17,7 @@ use Rattle.parser.specs.declared.error.ReadError.{ReadError}
 use Rattle.datatype.specs.Tree.{Forest, node, count, ∅, Row, name_list}
 use Rattle.datatype.specs.Table.{row_words, rows_lent}
 use Rattle.subtrees.specs.Equal.{equal_trees}
+use Rattle.row_table.specs.Sound.{is_sound}
 use Rattle.parser.proofs.Holds.{Holds}
 use Rattle.subtrees.proofs.ParentTree.{count_parented}
 use Rattle.datatype_parse.specs.Parse.{parse, row_count, parse_answer, parse_rows}
@@ -176,6 +178,10 @@ module _ (source rows : List ℕ) (q : Result ℕ ReadError) (rows' : List ℕ) 
 
     pub rows_taken : length rows' ≡ length rows → row_words * n ≡ length (take (row_words * n) rows')
     rows_taken k = sym (length-take-le (row_words * n) rows' (rows_lent_fit k))
+
+    -- what was read is sound
+    pub tree-sound : T (is_sound source name_list (take (row_words * n) rows'))
+    tree-sound = rw p ((lent-sound source rows n is_read).sound)
 
     module _ (spelling : Spelling) (out back : List ℕ) where
       pub rewrites-answer : (w : Result PrintedAndRead NotRewritten) → rewritten_means w ≡ printed_again spelling source name_list (take (row_words * n) rows') out back → rewritten_means w ≡ rewrite_answer spelling source rows out back

@@ -12,8 +12,9 @@ use datatype::{Field, Tree};
 use datatype_parse::parse_data_type;
 use display_length::Spelling;
 use parser::ReadError;
-use print_and_read::print_and_read;
+use print_and_read::print_and_read_sound_tree;
 use round_trip::{NotReadBack, PrintedAndRead};
+use row_table::nodes::SoundTree;
 use subtrees::equal_trees;
 use tokenizer::Refusal;
 
@@ -36,15 +37,15 @@ fn clear(out: &mut [u8])
 #[tactic(auto, using(crate::proofs::Rewrites::compared_steps))]
 fn print_again(
     spelling: Spelling,
-    tree: Tree<'_>,
+    whole: &SoundTree<'_>,
     out: &mut [u8],
     back: &mut [u32],
 ) -> Result<PrintedAndRead, NotRewritten>
-    ensures answer { rewritten_means result ≡ printed_again spelling tree.entry.text.now tree.entry.names.now tree.entry.rows.now out.old back.old }
-    ensures bytes { out.new ≡ bytes_again spelling tree.entry.text.now tree.entry.names.now tree.entry.rows.now out.old back.old }
-    ensures contents { back.new ≡ print_and_read_rows spelling tree.entry.text.now tree.entry.names.now tree.entry.rows.now out.old back.old }
+    ensures answer { rewritten_means result ≡ printed_again spelling whole.now.tree.text.now whole.now.tree.names.now whole.now.tree.rows.now out.old back.old }
+    ensures bytes { out.new ≡ bytes_again spelling whole.now.tree.text.now whole.now.tree.names.now whole.now.tree.rows.now out.old back.old }
+    ensures contents { back.new ≡ print_and_read_rows spelling whole.now.tree.text.now whole.now.tree.names.now whole.now.tree.rows.now out.old back.old }
 {
-    match print_and_read(spelling, tree, out, back) {
+    match print_and_read_sound_tree(spelling, whole, out, back) {
         Err(NotReadBack::NotPrinted(refusal)) => Err(NotRewritten::NotPrinted(refusal)),
         Err(NotReadBack::NotRead(error)) => {
             clear(out);
@@ -53,10 +54,10 @@ fn print_again(
         Ok(read) => {
             let again = Tree {
                 text: &out[..read.bytes],
-                names: tree.names,
+                names: whole.tree.names,
                 rows: &back[..ROW_WORDS * read.rows],
             };
-            if equal_trees(again, tree) {
+            if equal_trees(again, whole.tree) {
                 return Ok(read);
             }
             clear(out);
@@ -88,5 +89,6 @@ pub fn rewrite(
         names: &Field::NAME_LIST,
         rows: &rows[..ROW_WORDS * count],
     };
-    print_again(spelling, tree, out, back)
+    // What was just read is sound, and is not tested again.
+    print_again(spelling, &SoundTree { tree }, out, back)
 }

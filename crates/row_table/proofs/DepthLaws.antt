@@ -2,10 +2,9 @@
 use mathlib.Core.Path.{◌≡◌, refl}
 use mathlib.Core.Bool.{true, false}
 use mathlib.Core.List.{List}
-use Prim.Native.Nat.{ℕ, suc, max}
+use Prim.Native.Nat.{ℕ, suc, max, ◌≤◌}
 use native.Mathlib.Omega.{arith}
 use lib.Dec.{T}
-use Rattle.tokenizer.proofs.Basics.{of_true}
 use Rattle.tokenizer.specs.Answer.{done, refuse}
 use Rattle.datatype.specs.Tree.{Forest, ∅, node, depth, Row, labels}
 use Rattle.datatype.specs.Table.{tree_of}
@@ -32,13 +31,22 @@ module _ (text names table : List ℕ) where
       tree : SoundTree text names table
       tree = sound_tree text names table t
 
+  -- and are at most 64
+  pub sound-flat : T (is_sound text names table) → depth (tree_of text names table) ≤ 64
+  sound-flat t = let l = tree.levels in rw (sound-labels text names table tree, depth_labels text names (node tree.root tree.kids ∅)) (omega arith)
+    where
+      tree : SoundTree text names table
+      tree = sound_tree text names table t
+
   pub depth_not : is_sound text names table ≡ false → depth_of text names table ≡ refuse 17
   unfolding depth_of
   depth_not e = rw e
 
-  pub depth_is : is_sound text names table ≡ true → depth_of text names table ≡ done (levels_of table)
+  pub depth_is : is_sound text names table ≡ true → depth_of text names table ≡ done (depth (tree_of text names table))
   unfolding depth_of
-  depth_is e = rw (e, sound-levels (of_true _ e))
+  depth_is e = rw e
 
--- what `depth_of` uses
+-- what `levels` and `depth_of` use
+pub ruleset sound_levels = (sound-levels)
+
 pub ruleset depths = (depth_not, depth_is)

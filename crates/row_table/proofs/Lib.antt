@@ -8,3 +8,5 @@ pub mod SoundLaws
 pub mod DepthLaws
 pub mod Parented
 pub mod Walks
+pub mod NodeLaws
+pub mod FieldLaws

@@ -1,2 +1,4 @@
 pub mod Sound
+pub mod Nodes
+pub mod Fields
 pub mod Internal

@@ -1,11 +1,11 @@
--- Sound trees, clause by clause (document 01, 'The row table'), and the depth of one.
-use Rattle.std.specs.Prelude.{Bool, true, false, ◌&&◌, ◌||◌, List, [], ◌∷◌, map, ℕ, zero, suc, ◌+◌, ◌^◌, length, nat_le, nat_lt, nat_eq, if◌then◌else◌}
+-- Sound trees, clause by clause (document 01, 'The row table'); the depth of one, and the fields of one that is a Struct.
+use Rattle.std.specs.Prelude.{Bool, true, false, not, ◌&&◌, ◌||◌, List, [], ◌∷◌, map, ℕ, zero, suc, ◌+◌, ◌^◌, length, nat_le, nat_lt, nat_eq, if◌then◌else◌}
 use Rattle.std.proofs.Math.Option.{Option, none, some}
 use Rattle.tokenizer.specs.Text.{same, is_empty}
 use Rattle.tokenizer.specs.Answer.{Out, done, refuse}
 use Rattle.tokenizer.specs.Utf8.{is_utf8}
 use Rattle.datatype.specs.Limits.{max_text, max_rows, max_levels}
-use Rattle.datatype.specs.Kind.{Shape, leaf, timestamp, time, interval, fixed, list, fixed_list, struct, union, dictionary, decimal, mapping, run_end_encoded, kinds, shape_of, unit_fits, decimal_fits, entries_refusal, ids_fit}
+use Rattle.datatype.specs.Kind.{Shape, leaf, timestamp, time, interval, fixed, list, fixed_list, struct, union, dictionary, decimal, mapping, run_end_encoded, kinds, shape_of, unit_fits, decimal_fits, entries_refusal, ids_fit, struct_kind}
 use Rattle.datatype.specs.Tree.{Forest, ∅, node, count, roots, depth, Row, Label, name_list, labels}
 use Rattle.datatype.specs.Table.{view_of, tree_of}
 use Rattle.subtrees.specs.Parents.{parents_right}
@@ -169,3 +169,23 @@ is_sound text names table = nat_le (length text) max_text && is_utf8 text && sam
 
 unfoldable pub depth_of : List ℕ → List ℕ → List ℕ → Out ℕ
 depth_of text names table = if is_sound text names table then done (depth (tree_of text names table)) else refuse 17
+
+-- ---- its root's fields, which are a file's columns
+
+-- The root is a Struct.
+abbrev pub is_struct : Forest Label → Bool
+is_struct ∅ = false
+is_struct (node root fields next) = nat_eq root.kind struct_kind
+
+-- What the root's fields say, with the rows below them.
+abbrev pub fields_of : Forest Label → Forest Label
+fields_of ∅ = ∅
+fields_of (node root fields next) = fields
+
+-- The fields: 17 where the tree is not sound, then 25 where its root is not a Struct.
+unfoldable pub struct_fields : List ℕ → List ℕ → List ℕ → Out (Forest Label)
+struct_fields text names table =
+    let tree = tree_of text names table in
+    if not (is_sound text names table) then refuse 17
+    else if not (is_struct tree) then refuse 25
+    else done (fields_of tree)

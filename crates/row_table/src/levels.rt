@@ -3,9 +3,8 @@ ghost use Rattle.std.specs.Prelude.{◌≡◌};
 ghost use Rattle.tokenizer.specs.Answer.{answer_of};
 ghost use Rattle.row_table.specs.Sound.{depth_of};
 
-use crate::sound::is_sound;
+use crate::nodes::SoundTree;
 use datatype::Tree;
-use subtrees::levels_of;
 use tokenizer::Refusal;
 
 // The depth of a sound tree; refusal 17 where the tree is not sound.
@@ -13,8 +12,8 @@ use tokenizer::Refusal;
 pub fn depth_of(tree: Tree<'_>) -> Result<usize, Refusal>
     ensures { answer_of result ≡ depth_of tree.entry.text.now tree.entry.names.now tree.entry.rows.now }
 {
-    if is_sound(tree) {
-        return Ok(levels_of(tree.rows));
-    }
-    Err(Refusal::NotSound)
+    let Some(whole) = SoundTree::of(tree) else {
+        return Err(Refusal::NotSound);
+    };
+    Ok(whole.levels())
 }

@@ -1,10 +1,11 @@
-// The row table: soundness, and the depth of a sound tree.
+// The row table: soundness, the rows of a sound tree as nodes, and its depth.
 
 #![tactic(auto)]
 
 mod children;
 mod levels;
 mod names;
+pub mod nodes;
 mod rules;
 mod sound;
 

@@ -1,3 +1,4 @@
+pub mod Rows
 pub mod Parents
 pub mod Levels
 pub mod Siblings

@@ -3,7 +3,7 @@ use Rattle.std.specs.Prelude.{◌≡◌, List, ◌∷◌, ◌++◌, ℕ, ◌+◌
 use Rattle.tokenizer.specs.Text.{bytes}
 use Rattle.tokenizer.specs.Answer.{Out, refused, done}
 use Rattle.datatype.specs.Limits.{max_text}
-use Rattle.datatype.specs.Tree.{depth, name_list}
+use Rattle.datatype.specs.Tree.{depth}
 use Rattle.datatype.specs.Table.{row_words, tree_of}
 use Rattle.output.specs.Digits.{digits}
 use Rattle.datatype_display.specs.Print.{default_spelling, print}
@@ -41,5 +41,5 @@ tree_line rows levels (refused r) = no_line r
 tree_line rows levels (done printed) = ok_head rows levels ++ (printed ++ bytes "\n")
 
 -- The answer to a text that was read into a table.
-unfoldable pub table_line : List ℕ → List ℕ → List ℕ
-table_line text table = tree_line (length table / row_words) (depth (tree_of text name_list table)) (print default_spelling text name_list table max_text)
+unfoldable pub table_line : List ℕ → List ℕ → List ℕ → List ℕ
+table_line text names table = tree_line (length table / row_words) (depth (tree_of text names table)) (print default_spelling text names table max_text)

@@ -6,9 +6,11 @@ use Rattle.tokenizer.specs.Text.{bytes}
 use Rattle.datatype.specs.Kind.{Shape}
 use Rattle.output.specs.Digits.{digits}
 use Rattle.display_length.specs.Display.{is_lead, escaped_from, quoted, Shown, nullity_text, field_text, shape_text, type_text, shown}
-use Rattle.display_length.specs.declared.nodes.Node.{Node}
-use Rattle.display_length.specs.declared.nodes.Nodes.{Nodes}
-use Rattle.display_length.specs.Internal.Nodes.{label_in, children_in, levels_below, labels_in}
+use Rattle.row_table.specs.declared.nodes.Nodes.{Nodes}
+use Rattle.row_table.specs.Nodes.{labels_in}
+use Rattle.display_length.specs.declared.printed.PrintedNode.{PrintedNode}
+use Rattle.display_length.specs.declared.words.Spelling.{Spelling}
+use Rattle.display_length.specs.Internal.Nodes.{label_in, children_in, levels_below}
 use Rattle.datatype_display.specs.declared.write.Printer.{Printer}
 
 -- ---- the output
@@ -75,32 +77,32 @@ union_field_text k = bytes ", " ++ (digits k.label.union_id ++ (bytes ": (" ++ (
 -- ---- nodes
 
 -- What the types below a node print.
-abbrev pub fields_in : Node → List Shown
-fields_in n = shown n.whole.now.spelling (children_in n)
+abbrev pub fields_in : PrintedNode → List Shown
+fields_in n = shown n.of.now.spelling (children_in n)
 
 -- A node's printed type.
-unfoldable pub text_in : Node → List ℕ
-text_in n = type_text n.whole.now.spelling (label_in n) (fields_in n)
+unfoldable pub text_in : PrintedNode → List ℕ
+text_in n = type_text n.of.now.spelling (label_in n) (fields_in n)
 
-abbrev pub shown_in : Node → Shown
+abbrev pub shown_in : PrintedNode → Shown
 shown_in n = record { label = label_in n; text = text_in n }
 
--- What nodes side by side print.
-abbrev pub all_shown : Nodes → List Shown
-all_shown ns = shown ns.whole.now.spelling (labels_in ns)
+-- What nodes side by side print in a spelling.
+abbrev pub all_shown : Spelling → Nodes → List Shown
+all_shown spelling ns = shown spelling (labels_in ns)
 
 -- What stands behind the kind's word, where the kind has a shape.
-unfoldable pub shape_in : Shape → Node → List ℕ
-shape_in s n = shape_text n.whole.now.spelling s (label_in n) (fields_in n)
+unfoldable pub shape_in : Shape → PrintedNode → List ℕ
+shape_in s n = shape_text n.of.now.spelling s (label_in n) (fields_in n)
 
 -- The first type below a node's.
-pub record HasFirst (n : Node) (child : Node) : Type 0 where
+pub record HasFirst (n : PrintedNode) (child : PrintedNode) : Type 0 where
   pub levels : levels_below child < levels_below n
   pub others : List Shown
   pub is : fields_in n ≡ shown_in child ∷ others
 
 -- The first two.
-pub record HasTwo (n : Node) (first second : Node) : Type 0 where
+pub record HasTwo (n : PrintedNode) (first second : PrintedNode) : Type 0 where
   pub levels-first : levels_below first < levels_below n
   pub levels-second : levels_below second < levels_below n
   pub others : List Shown

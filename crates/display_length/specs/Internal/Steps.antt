@@ -1,33 +1,14 @@
 -- What private functions of this crate promise; nothing here has to be believed, since no public function's contract
 -- cites it.
-use Rattle.std.specs.Prelude.{◌≡◌, Bool, true, false, not, ◌&&◌, ◌||◌, List, ℕ, ◌+◌, ◌-◌, ◌≤◌, length, T, nat_le, nat_lt, nat_eq, if◌then◌else◌}
+use Rattle.std.specs.Prelude.{◌≡◌, Bool, true, false, not, ◌&&◌, ◌||◌, List, ℕ, ◌+◌, ◌≤◌, length, T, nat_le, nat_lt, nat_eq, if◌then◌else◌}
 use Rattle.tokenizer.specs.Text.{all}
 use Rattle.datatype.specs.Limits.{max_text}
 use Rattle.datatype.specs.Kind.{Shape, leaf, timestamp, time, interval, fixed, list, fixed_list, struct, union, dictionary, decimal, mapping, run_end_encoded, shape_of}
-use Rattle.datatype.specs.Tree.{Forest, ∅, node, roots, depth, Label, label_of, labels}
-use Rattle.datatype.specs.Table.{rows_at}
-use Rattle.subtrees.specs.Internal.Run.{row_at, forest_at}
+use Rattle.datatype.specs.Tree.{Forest, ∅, node, roots, Label}
 use Rattle.output.specs.Digits.{digits}
 use Rattle.display_length.specs.Display.{kind_text, unit_text, interval_text, mode_text, sorted_text, scale_text, is_lead, quoted, list_name_text, zone_text}
 use Rattle.display_length.specs.declared.words.Spelling.{Spelling}
 use Rattle.display_length.specs.PrintedLength.{quotes_names, is_latin, names_latin}
-
--- ---- rows
-
--- What row i says, and its children.
-abbrev pub label_at : List ℕ → List ℕ → List ℕ → ℕ → Label
-label_at text names table i = label_of text names (row_at table i)
-
-abbrev pub kids_at : List ℕ → List ℕ → List ℕ → ℕ → Forest Label
-kids_at text names table i = labels text names (forest_at table (i + 1) (i + rows_at table i - (i + 1)))
-
--- The trees of the rows from start to end.
-abbrev pub labels_of : List ℕ → List ℕ → List ℕ → ℕ → ℕ → Forest Label
-labels_of text names table start end = labels text names (forest_at table start (end - start))
-
--- How many levels stand below row i.
-abbrev pub depth_below : List ℕ → ℕ → ℕ
-depth_below table i = depth (forest_at table (i + 1) (i + rows_at table i - (i + 1)))
 
 -- ---- refusal 18
 
@@ -110,6 +91,3 @@ children_length spelling s quotes first (node l kids next) =
 -- A row's type.
 unfoldable pub type_length : Spelling → Label → Forest Label → ℕ
 type_length spelling l kids = row_length spelling l + children_length spelling (shape_of l.kind) (quotes_names (shape_of l.kind) (roots kids)) true kids
-
-unfoldable pub length_at : Spelling → List ℕ → List ℕ → List ℕ → ℕ → ℕ
-length_at spelling text names table i = type_length spelling (label_at text names table i) (kids_at text names table i)

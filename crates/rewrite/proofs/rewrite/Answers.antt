@@ -1,4 +1,4 @@
-use Rattle.rewrite.proofs.Rewrites.{not-read-answer, not-read-bytes, not-read-again, words_read, rows_lent_fit, rows_taken, rewrites-answer, rewrites-bytes, rewrites-again}
+use Rattle.rewrite.proofs.Rewrites.{not-read-answer, not-read-bytes, not-read-again, words_read, rows_lent_fit, rows_taken, tree-sound, rewrites-answer, rewrites-bytes, rewrites-again}
 use Rattle.rewrite.proofs.rewrite.Goals as goal
 
 pub returns-in-Err-clause-answer : goal.returns-in-Err-clause-answer
@@ -18,6 +18,9 @@ slice_bounds-tree-end-2 c = let e = c.parse_data_type.ensures in rows_lent_fit _
 
 pub slice_bounds-tree-end-3 : goal.slice_bounds-tree-end-3
 slice_bounds-tree-end-3 c = let e = c.parse_data_type.ensures in rows_taken _ _ _ _ e.answer e.contents _ c.in-Ok.is c.parse_data_type.auto.rows
+
+pub invariant_of-print_again : goal.invariant_of-print_again
+invariant_of-print_again c = let e = c.parse_data_type.ensures in record { sound = tree-sound _ _ _ _ e.answer e.contents _ c.in-Ok.is }
 
 pub returns-clause-answer : goal.returns-clause-answer
 returns-clause-answer c = let e = c.parse_data_type.ensures in rewrites-answer _ _ _ _ e.answer e.contents _ c.in-Ok.is _ _ _ _ c.print_again.ensures.answer

@@ -47,8 +47,8 @@ decreases-put_union l = 6 * l.level + 5
 abbrev pub decreases-put_union_field : goal.decreases-put_union_field
 decreases-put_union_field l = 6 * l.level + 4
 
-abbrev pub invariant-put_struct-loop-field : goal.invariant-put_struct-loop-field
-invariant-put_struct-loop-field l = Fields l.node l.level l.fn.self (shape_in struct l.node) (struct_rest (eqb l.field-iterator.start (l.node.at + 1))) l.field-iterator l.self
+abbrev pub invariant-put_struct-loop-node : goal.invariant-put_struct-loop-node
+invariant-put_struct-loop-node l = Fields l.printed l.level l.fn.self (shape_in struct l.printed) (struct_rest (eqb l.node-iterator.start (l.printed.at + 1))) l.node-iterator l.self
 
-abbrev pub invariant-put_union-loop-field : goal.invariant-put_union-loop-field
-invariant-put_union-loop-field l = Fields l.node l.level l.fn.self (shape_in union l.node) union_text l.field-iterator l.self
+abbrev pub invariant-put_union-loop-node : goal.invariant-put_union-loop-node
+invariant-put_union-loop-node l = Fields l.printed l.level l.fn.self (shape_in union l.printed) union_text l.node-iterator l.self
