@@ -31,8 +31,14 @@ ANTT_IMPORT = re.compile(r"^(?P<head>use (?P<module>[^\s{]+)\.\{)(?P<names>[^}]*
 GHOST_IMPORT = re.compile(r"^(?P<head>ghost use (?P<module>[^\s{]+)\.\{)(?P<names>[^}]*)(?P<tail>\};\n)", re.M)
 RUST_IMPORT = re.compile(r"^use (?P<module>(?:\w+::)+)(?P<name>\w+)(?: as (?P<other>\w+))?;\n", re.M)
 RUST_LIST = re.compile(r"^use (?P<module>(?:\w+::)+)\{(?P<names>[^{}]*)\};\n", re.M)
-# Traits of std that are brought in for their methods: used where one of these is called.
-METHODS = {"Env": r"\.arg\(", "Read": r"\.read\w*\(", "Write": r"\.(?:write\w*|flush)\("}
+# Traits that are brought in for their methods: used where one of these is called.
+METHODS = {
+    "Env": r"\.arg\(",
+    "Read": r"\.read\w*\(",
+    "Write": r"\.(?:write\w*|flush)\(",
+    "Numbered": r"\.number\(",
+    "KeptRows": r"\.(?:word|count|word_count)\(",
+}
 MODULE_IMPORT = re.compile(r"^use (?P<module>[^\s{]+?)(?: as (?P<other>[^\s{]+))?\n", re.M)
 IMPORT_LINE = re.compile(r"^(?:pub |unfoldable |ghost )*use [^;{\n]*(?:\{[^}]*\})?;?$", re.M)
 

@@ -1,8 +1,8 @@
 #!/usr/bin/env python3
 """Checks that need no proof: public functions state what they answer and ask nothing, by definitions that a reader must
-believe; functions are small, and those that write output hold no long array; no import is idle; the documents name
-definitions that exist; no crate is left off the list; the table of the listed words is what its script writes; and the
-layout is that of `rt fmt`.
+believe; functions are small, and those that write output hold no long array; crates, header and Rust crate say the same of
+each refusal; no import is idle; the documents name definitions that exist; no crate is left off the list; the table of the
+listed words is what its script writes; and the layout is that of `rt fmt`.
 
     python3 tests/source/check.py
     python3 tests/source/check.py --believe     # the definitions that each demand rests on, with their lines
@@ -20,6 +20,7 @@ sys.path[:0] = [str(ROOT / folder) for folder in ("tests", "tests/source", "tool
 import arrays  # noqa: E402
 import functions  # noqa: E402
 import needs  # noqa: E402
+import refusals  # noqa: E402
 import unused_imports  # noqa: E402
 import word_table  # noqa: E402
 
@@ -90,6 +91,13 @@ def check_arrays():
     for path, text in texts.items():
         for function, array in arrays.faults(text, numbers, named, holding):
             faults.append(f"{path.relative_to(ROOT)}: fn {function} writes output and holds {array}, longer than {arrays.MOST_HELD}")
+
+
+def check_refusals():
+    sources = [(path.relative_to(ROOT), path.read_text(encoding="utf8")) for path in sorted(ROOT.glob("crates/*/src/**/*.rt"))]
+    header = (ROOT / "bindings/c/arrow_types.h").read_text(encoding="utf8")
+    rust = (ROOT / "bindings/rust/src/error.rs").read_text(encoding="utf8")
+    faults.extend(refusals.faults(sources, header, rust))
 
 
 def check_imports():
@@ -308,6 +316,7 @@ def main():
         check_internal,
         check_functions,
         check_arrays,
+        check_refusals,
         check_imports,
         check_listed_functions,
         check_documents,

@@ -68,8 +68,12 @@ def functions(text):
         if not head:
             continue
         first = ends = at - 1
-        while not lines[ends].endswith("{") or re.match(r"\s*(?:requires|ensures)\b", lines[ends]):
+        while not lines[ends].endswith(";") and (not lines[ends].endswith("{") or re.match(r"\s*(?:requires|ensures)\b", lines[ends])):
             ends += 1
+        # A trait's method without a body.
+        if lines[ends].endswith(";"):
+            at = ends + 1
+            continue
         start = ends + 1
         while lines[ends].rstrip() != head["indent"] + "}":
             ends += 1

@@ -1,8 +1,9 @@
 #!/usr/bin/env python3
 """Planted cases for the checks on sources. Imports: those that are used in some way must stay, others must go. Functions:
 those that are too long, nest too deep or have two loops are found, others not. Arrays: those longer than 32 in functions
-that write output are found, in whatever way they are written. The table of words: a file that is missing or has another
-number is found, and a walk through the numbers tells the words apart.
+that write output are found, in whatever way they are written. Refusals: a sentence or a number that differs between the
+crates, the header and the Rust crate is found. The table of words: a file that is missing or has another number is found,
+and a walk through the numbers tells the words apart.
 
     python3 tests/source/planted.py
 """
@@ -15,6 +16,7 @@ import unittest
 sys.path[:0] = [str(pathlib.Path(__file__).resolve().parents[2] / folder) for folder in ("tools", "tests/source")]
 import arrays  # noqa: E402
 import functions  # noqa: E402
+import refusals  # noqa: E402
 import unused_imports  # noqa: E402
 import word_table  # noqa: E402
 
@@ -215,6 +217,48 @@ class Arrays(unittest.TestCase):
         self.assertEqual(found(printer + handed), ["an array in its body"])
         self.assertEqual(found(f"{printer}impl Place {{\n{method}}}\n"), [])
         self.assertEqual(found(f"{printer}impl<'a> Printer<'a> {{\n{method.replace('33', '32')}}}\n"), [])
+
+
+class Refusals(unittest.TestCase):
+    ENUM = (
+        "#[derive(Clone, Copy, Error)]\npub enum Refusal {\n    // Of the reader.\n    #[error(\"too long\")]\n    TooLong = 1,\n"
+        "    #[error(\"no tree\")]\n    NotSound = 17,\n}\n\nimpl Numbered for Refusal {\n    fn number(self) -> u32 {\n    }\n}\n"
+    )
+    OTHER = "pub enum NotTaken {\n    #[error(\"no tree\")]\n    NotSound = 17,\n}\n\nimpl Numbered for NotTaken {\n}\n"
+    ANSWERS = ["too long", *["this is no refusal"] * 15, "no tree"]
+    HEADER = (
+        "enum arrow_types_refusal {\n    ARROW_TYPES_TOO_LONG = 1, /* too long */\n    ARROW_TYPES_NOT_SOUND = 17 /* no tree */\n};\n"
+        "static inline const char *arrow_types_sentence(uint32_t number)\n{\n    static const char *const sentences[] = {\n"
+        "        \"this is no refusal\",\n" + "".join(f'        "{answer}",\n' for answer in ANSWERS) + "    };\n}\n"
+    )
+    RUST = (
+        "pub enum Error {\n    /// Too long.\n    TooLong = 1,\n    /// No tree.\n    NotSound = 17,\n}\n\nimpl Error {\n"
+        "    fn sentence(self) -> &'static str {\n        match self {\n            Error::TooLong => \"too long\",\n"
+        "            Error::NotSound => {\n                \"no tree\"\n            }\n        }\n    }\n}\n"
+    )
+
+    def found(self, *sources, header=HEADER, rust=RUST):
+        return refusals.faults([("a.rt", source) for source in sources], header, rust)
+
+    def test_alike(self):
+        self.assertEqual(self.found(self.ENUM, self.OTHER), [])
+        # an enum that is no error of numbers says nothing
+        self.assertEqual(self.found(self.ENUM, "pub enum Kind {\n    A = 3,\n}\n"), [])
+
+    def test_crates(self):
+        self.assertEqual(len(self.found(self.ENUM, self.OTHER.replace("no tree", "no"))), 1)
+        self.assertEqual(len(self.found(self.ENUM.replace("= 17", "= 18"))), 6)
+        self.assertEqual(len(self.found(self.ENUM, self.OTHER.replace(" = 17", ""))), 1)
+        self.assertEqual(len(self.found(self.ENUM, self.OTHER.replace("#[error(\"no tree\")]", "// no tree"))), 1)
+        self.assertIn("crates/: no error has numbers", self.found())
+
+    def test_header(self):
+        for old, new in [("/* too long */", "/* long */"), ("\"no tree\",", "\"tree\","), ("= 17 /*", "= 18 /*")]:
+            self.assertTrue(self.found(self.ENUM, header=self.HEADER.replace(old, new)), new)
+
+    def test_rust(self):
+        for old, new in [("\"too long\"", "\"long\""), ("= 17", "= 18"), ("Error::NotSound =>", "Error::Sound =>")]:
+            self.assertTrue(self.found(self.ENUM, rust=self.RUST.replace(old, new)), new)
 
 
 class WordTable(unittest.TestCase):

@@ -138,8 +138,8 @@ module _ (text names table out : List ℕ) (size rows levels h : ℕ) (head : He
       let e : length lent ≡ size - h = ap (λ (l : List ℕ). length l) is_lent ∙ lent_length out size h sized (omega arith) in
       omega arith
 
-  module _ (p : Result ℕ Refusal) (e : answer_of p ≡ print_answer default_spelling text names table lent) (o : part ≡ print_bytes default_spelling text names table lent) where
-    answers : answer_of p ≡ length_of (print default_spelling text names table 16384)
+  module _ (p : Result ℕ Refusal) (e : answer_of number_of p ≡ print_answer default_spelling text names table lent) (o : part ≡ print_bytes default_spelling text names table lent) where
+    answers : answer_of number_of p ≡ length_of (print default_spelling text names table 16384)
     answers = e ∙ (print_enough text names table lent lent_room).0
 
     writes : part ≡ written lent (print default_spelling text names table 16384)
@@ -149,7 +149,7 @@ module _ (text names table out : List ℕ) (size rows levels h : ℕ) (head : He
     pub tree-refused : (d : Refusal) → p ≡ Err d → (r : ℕ) (after : List ℕ) → Answers (no_line (record { number = number_of d; place = None })) back r after
         → Answers (tree_line rows levels (print default_spelling text names table 16384)) out r after
     unfolding tree_line
-    tree-refused d q r after a = go (print default_spelling text names table 16384) (sym (ap answer_of q) ∙ answers) writes
+    tree-refused d q r after a = go (print default_spelling text names table 16384) (sym (ap (answer_of number_of) q) ∙ answers) writes
       where
         go : (t : Out (List ℕ)) → refuse (number_of d) ≡ length_of t → part ≡ written lent t → Answers (tree_line rows levels t) out r after
         go (refused x) i w =
@@ -162,7 +162,7 @@ module _ (text names table out : List ℕ) (size rows levels h : ℕ) (head : He
     pub tree-printed : (n : ℕ) → p ≡ Ok n → (r : ℕ) (after : List ℕ) → Framed (ok_head rows levels) n back r after
         → Answers (tree_line rows levels (print default_spelling text names table 16384)) out r after
     unfolding tree_line
-    tree-printed n q r after f = go (print default_spelling text names table 16384) (sym (ap answer_of q) ∙ answers) writes (print_enough text names table lent lent_room).1
+    tree-printed n q r after f = go (print default_spelling text names table 16384) (sym (ap (answer_of number_of) q) ∙ answers) writes (print_enough text names table lent lent_room).1
       where
         go : (t : Out (List ℕ)) → done n ≡ length_of t → part ≡ written lent t → text_size t ≤ 16384 → Answers (tree_line rows levels t) out r after
         go (refused x) i w few = absurd (let z : ◌≡◌ {A = ℕ} 0 1 = cc in omega arith)

@@ -1,17 +1,23 @@
 -- Writing an answer's own bytes: bytes behind bytes, and a head and a newline around a text.
-use mathlib.Core.Path.{◌≡◌, refl, sym, ap, ◌∙◌}
-use Rattle.std.specs.Prelude.{Some, None}
+use mathlib.Core.Path.{◌≡◌, ap, ◌∙◌}
+use Rattle.std.specs.Prelude.{None}
 use mathlib.Core.List.{List, [], ◌∷◌, ◌++◌, append_assoc}
 use Prim.Native.Nat.{ℕ, suc, ◌+◌, ◌≤◌, ◌<◌}
 use native.Mathlib.Omega.{arith}
 use lib.ListN.{length, set, take, drop, length-append, length-drop}
 use lib.Seq.{sets, sets-eq, set_split, take-append-add, drop-append-add, drop-drop}
-use Rattle.tokenizer.specs.Text.{bytes}
-use Rattle.datatype.proofs.Sets.{sets_append}
 use Rattle.output.specs.Digits.{digits}
 use Rattle.output.proofs.DigitLaws.{digits_at_most, digits_few}
+use Rattle.tokenizer.specs.Answer.{number_of}
+use Rattle.tokenizer.specs.declared.refusal.Refusal as R
+use Rattle.tokenizer.proofs.Answered.{number_low}
+use Rattle.parser.specs.declared.error.ReadError.{ReadError}
+use Rattle.parser.specs.Answer.{refusal_in}
 use Rattle.answer_line.specs.Line.{no_line, answer_bytes}
-use Rattle.answer_line.specs.Internal.Steps.{Answers, no_head, NoLength, ok_head, HeadLength}
+use Rattle.output.specs.declared.Writer.{Writer}
+use Rattle.output.specs.Written.{last_place, written}
+use Rattle.output.proofs.Written.{written_then, written_place, written_sets, written_first}
+use Rattle.answer_line.specs.Internal.Steps.{Answers, ok_head, HeadLength, Framed}
 
 -- ---- how many digits the numbers have
 
@@ -21,61 +27,32 @@ row_digits n h = digits_at_most 3 n (omega arith)
 pub level_digits : (n : ℕ) → n ≤ 64 → length (digits n) ≤ 2
 level_digits n h = digits_at_most 1 n (omega arith)
 
--- ---- bytes behind bytes
-
-behind : (before : List ℕ) (s t : List ℕ) (place : ℕ) → place ≡ length s → sets (sets before 0 s) place t ≡ sets before 0 (s ++ t)
-behind before s t place e = ap (λ (k : ℕ). sets (sets before 0 s) k t) (let z : place ≡ 0 + length s = omega arith in z) ∙ sets_append before 0 s t
+-- ---- an answer at the start of the output
 
 -- bytes stored at the start
 sets_start : (s before : List ℕ) → length s ≤ length before → sets before 0 s ≡ s ++ drop (length s) before
 sets_start s before h = sets-eq s before 0 (omega arith) ∙ ap (λ (k : ℕ). s ++ drop k before) (let e : 0 + length s ≡ length s = omega arith in e)
 
+-- what a writer that began there has written
+pub line_answers : (p q : Writer) (s : List ℕ) → q ≡ written p s → p.at ≡ 0 → length s ≤ length p.out.now → length p.out.now ≤ last_place → Answers s p.out.now q.at q.out.now
+line_answers p q s e start h k =
+    record {
+      counted = ap (λ (w : Writer). w.at) e ∙ written_place p s (omega arith) ∙ omega arith;
+      stored = ap (λ (w : Writer). w.out.now) e ∙ written_first p s start k h;
+    }
+
 -- ---- the line of a refusal
 
-pub no-length : (n r : ℕ) → n < 4294967296 → r ≡ 3 + length (digits n) → NoLength n r
-unfolding no_head
-no-length n r h e =
-    let l = length-append (bytes "no ") (digits n) in
-    let few = digits_few n h in
-    record { is = omega arith; short = omega arith }
+-- It fits into an answer.
+pub no_short : (e : R.Refusal) → length (no_line (record { number = number_of e; place = None })) ≤ 14
+no_short e = let d = digits_few (number_of e) (let n = number_low e in omega arith) in simp length-append (omega arith)
 
-pub no-put : (n : ℕ) (before : List ℕ) → sets (sets before 0 (bytes "no ")) 3 (digits n) ≡ sets before 0 (no_head n)
-unfolding no_head
-no-put n before = behind before (bytes "no ") (digits n) 3 refl
-
--- a line that fits is the buffer's start
-line_answers : (s before : List ℕ) (r : ℕ) (after : List ℕ) → r ≡ length s → r ≤ length before → after ≡ sets before 0 s → Answers s before r after
-line_answers s before r after e h w = record { counted = e; stored = w ∙ sets_start s before (omega arith) }
-
-pub no-stored : (n end r : ℕ) (before mid after : List ℕ) → answer_bytes ≤ length before → NoLength n end → mid ≡ sets before 0 (no_head n) → r ≡ end + 1 → after ≡ sets mid end (bytes "\n")
-    → Answers (no_line (record { number = n; place = None })) before r after
-unfolding no_head
-no-stored n end r before mid after room l q e w =
-    let s : List ℕ = bytes "no " ++ digits n in
-    let whole : s ++ bytes "\n" ≡ bytes "no " ++ (digits n ++ ([] ++ bytes "\n")) = simp append_assoc in
-    let m = ap length (sym whole) ∙ length-append s (bytes "\n") in
-    let few = l.short in
-    let is = l.is in
-    line_answers _ before r after (omega arith) (omega arith) (w ∙ ap (λ (m : List ℕ). sets m end (bytes "\n")) q ∙ behind before s (bytes "\n") end is ∙ ap (sets before 0) whole)
-
-pub placed-stored : (n place end digit_count : ℕ) (before m₁ m₂ m₃ after : List ℕ) → answer_bytes ≤ length before → NoLength n end → place < 4294967296 → m₁ ≡ sets before 0 (no_head n)
-    → m₂ ≡ sets m₁ end (bytes " ") → digit_count ≡ length (digits place) → m₃ ≡ sets m₂ (end + 1) (digits place) → after ≡ sets m₃ (end + 1 + digit_count) (bytes "\n")
-    → Answers (no_line (record { number = n; place = Some place })) before (end + 1 + digit_count + 1) after
-unfolding no_head
-placed-stored n place end digit_count before m₁ m₂ m₃ after room l h e₁ e₂ d e₃ w =
-    let s₁ : List ℕ = bytes "no " ++ digits n in
-    let s₂ : List ℕ = s₁ ++ bytes " " in
-    let s₃ : List ℕ = s₂ ++ digits place in
-    let n₂ : length s₂ ≡ length s₁ + 1 = length-append s₁ (bytes " ") in
-    let n₃ : length s₃ ≡ length s₂ + length (digits place) = length-append s₂ (digits place) in
-    let whole : s₃ ++ bytes "\n" ≡ bytes "no " ++ (digits n ++ ((bytes " " ++ digits place) ++ bytes "\n")) = simp append_assoc in
-    let m = ap length (sym whole) ∙ length-append s₃ (bytes "\n") in
-    let few = l.short in
-    let is = l.is in
-    let digits_short = digits_few place h in
-    line_answers _ before _ after (omega arith) (omega arith)
-    (w
-    ∙ rw (e₃, e₂, e₁, d) (rw (behind before s₁ (bytes " ") end is, behind before s₂ (digits place) (end + 1) (omega arith), behind before s₃ (bytes "\n") (end + 1 + length (digits place)) (omega arith), whole)))
+pub no_place_short : (e : ReadError) → e.place ≤ 16384 → length (no_line (refusal_in e)) ≤ 25
+unfolding refusal_in
+no_place_short e h =
+    let d = digits_few (number_of e.refusal) (let n = number_low e.refusal in omega arith) in
+    let p = digits_few e.place (omega arith) in
+    simp length-append (omega arith)
 
 -- ---- the head of a tree's line
 
@@ -89,29 +66,6 @@ head_short rows levels h k =
     let m = row_digits rows h in
     let n = level_digits levels k in
     omega arith
-
-pub head-length : (rows levels : ℕ) → rows ≤ 1024 → levels ≤ 64 → (r : ℕ) → r ≡ 5 + length (digits rows) + length (digits levels) → HeadLength rows levels r
-head-length rows levels h k r e =
-    let l = head_size rows levels in
-    let s = head_short rows levels h k in
-    record { is = omega arith; short = omega arith }
-
--- the head, put together from the left
-pub head-put : (rows levels : ℕ) (before : List ℕ)
-    → sets (sets (sets (sets (sets before 0 (bytes "ok ")) 3 (digits rows)) (3 + length (digits rows)) (bytes " ")) (3 + length (digits rows) + 1) (digits levels)) (3 + length (digits rows) + 1 + length (digits levels)) (bytes " ")
-    ≡ sets before 0 (ok_head rows levels)
-unfolding ok_head
-head-put rows levels before =
-    let a : ℕ = 3 + length (digits rows) in
-    let s₁ : List ℕ = bytes "ok " in
-    let s₂ : List ℕ = s₁ ++ digits rows in
-    let s₃ : List ℕ = s₂ ++ bytes " " in
-    let s₄ : List ℕ = s₃ ++ digits levels in
-    let n₂ : length s₂ ≡ 3 + length (digits rows) = length-append s₁ (digits rows) in
-    let n₃ : length s₃ ≡ length s₂ + 1 = length-append s₂ (bytes " ") in
-    let n₄ : length s₄ ≡ length s₃ + length (digits levels) = length-append s₃ (digits levels) in
-    let whole : s₄ ++ bytes " " ≡ bytes "ok " ++ (digits rows ++ (bytes " " ++ (digits levels ++ bytes " "))) = simp append_assoc in
-    rw (behind before s₁ (digits rows) 3 refl, behind before s₂ (bytes " ") a (omega arith), behind before s₃ (digits levels) (a + 1) (omega arith), behind before s₄ (bytes " ") (a + 1 + length (digits levels)) (omega arith), whole)
 
 -- ---- the head and the newline around a text
 
@@ -129,11 +83,30 @@ framed head size before h =
     (ap (λ (k : ℕ). drop k (head ++ rest)) next ∙ drop-append-add head rest (size + 1) ∙ drop-drop (size + 1) (length head) before ∙ ap (λ (k : ℕ). drop k before) past)
     ∙ append_assoc head (take size rest) (10 ∷ drop (length head + size + 1) before)
 
--- what the functions that write use
-pub ruleset few_digits = (row_digits, level_digits, head_size, head-length, head-put)
+-- what a writer that began at the start has written
+module _ (p q : Writer) (rows levels : ℕ) (e : q ≡ written p (ok_head rows levels)) (start : p.at ≡ 0) (few : rows ≤ 1024) (low : levels ≤ 64) where
+  pub head_place : HeadLength rows levels q.at
+  head_place =
+      let s = head_short rows levels few low in
+      let k : q.at ≡ p.at + length (ok_head rows levels) = ap (λ (w : Writer). w.at) e ∙ written_place p (ok_head rows levels) (omega arith) in
+      record { is = omega arith; short = omega arith }
 
-pub ruleset no_digits = (digits_few, no-length, no-put, length-append)
+  pub head_framed : (size : ℕ) (r : Writer) → size ≤ 16384 → answer_bytes ≤ length p.out.now → length p.out.now ≤ last_place → r ≡ written (record q { at = q.at + size }) (10 ∷ [])
+      → Framed (ok_head rows levels) size p.out.now r.at r.out.now
+  head_framed size r h room most w =
+      let s = head_short rows levels few low in
+      let k = head_place.is in
+      let fits : q.at + size + 1 ≤ last_place = omega arith in
+      record {
+        place = ap (λ (o : Writer). o.at) w ∙ written_place (record q { at = q.at + size }) (10 ∷ []) fits ∙ omega arith;
+        stored =
+            ap (λ (o : Writer). o.out.now) w
+            ∙ written_sets (record q { at = q.at + size }) (10 ∷ []) fits
+            ∙ ap (λ (l : List ℕ). set l (q.at + size) 10) (ap (λ (o : Writer). o.out.now) e ∙ written_sets p (ok_head rows levels) (omega arith))
+            ∙ ap (λ (n : ℕ). set (sets p.out.now n (ok_head rows levels)) (q.at + size) 10) start
+            ∙ ap (λ (n : ℕ). set (sets p.out.now 0 (ok_head rows levels)) (n + size) 10) k
+            ∙ framed (ok_head rows levels) size p.out.now (omega arith);
+      }
 
-pub ruleset no_line_steps = (digits_few, no-stored, placed-stored)
-
-pub ruleset frame_steps = (head_short, framed)
+-- what the functions that write one part behind another cite
+pub ruleset line_parts = (written_then, append_assoc)

@@ -4,7 +4,7 @@
 #![tactic(auto)]
 
 ghost use Rattle.std.specs.Prelude.{◌≡◌, length};
-ghost use Rattle.tokenizer.specs.Answer.{answer_of};
+ghost use Rattle.tokenizer.specs.Answer.{number_of, answer_of};
 ghost use Rattle.arrow_types.specs.Status.{status_of, value_of, place_of, flag, yes_of, row_of, if_named};
 ghost use Rattle.datatype.specs.Tree.{name_of, zone_of};
 ghost use Rattle.subtrees.specs.Parents.{with_parents};
@@ -25,13 +25,13 @@ use display_length::Spelling;
 pub use needed::arrow_types_needs;
 pub use rewritten::{arrow_types_rewrite, arrow_types_rewrite_micro};
 pub use taken::arrow_types_take_column_out;
-use tokenizer::Refusal;
+use tokenizer::{Numbered, Refusal};
 
 // An answer as two numbers: the status, and the value, 0 where it was refused.
 #[tactic(auto, unfolding(crate::specs::Status::status_of, crate::specs::Status::value_of))]
 fn status(answer: Result<usize, Refusal>, value: &mut usize) -> u32
-    ensures status { result ≡ status_of (answer_of answer) }
-    ensures value { value.new ≡ value_of (answer_of answer) }
+    ensures status { result ≡ status_of (answer_of number_of answer) }
+    ensures value { value.new ≡ value_of (answer_of number_of answer) }
 {
     match answer {
         Ok(n) => {

@@ -5,6 +5,7 @@ ghost use Rattle.needs.specs.Needs.{needs_of};
 
 use datatype::Tree;
 use needs::Need;
+use tokenizer::Numbered;
 
 // Whether a tree has the columns that are needed: whether it is yes, 1 or 0, and the first need that is not met, where it is
 // not. Each need has its name in the text of needs.

@@ -10,6 +10,7 @@ use datatype_display::DEFAULT_SPELLING;
 use display_length::Spelling;
 use rewrite::NotRewritten;
 use round_trip::PrintedAndRead;
+use tokenizer::Numbered;
 
 // A rewrite's answer as five numbers, each 0 where there is none.
 #[tactic(auto, unfolding(parser::specs::Answer::refusal_in, rewrite::specs::Rewrite::rewritten_means, crate::specs::Step::told_of))]

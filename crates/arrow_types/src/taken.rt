@@ -6,6 +6,7 @@ ghost use Rattle.column_out.specs.ColumnOut.{column_out_answer, column_out_rows,
 
 use column_out::take_column_out;
 use datatype::Tree;
+use tokenizer::Numbered;
 
 // Takes a field, counted from 0, out of a tree whose root is a Struct: what stays stands in lent rows, over a lent text.
 #[tactic(auto, unfolding(crate::specs::Status::status_of, packed::specs::Packed::rows_answered, packed::specs::Packed::bytes_answered))]

@@ -9,8 +9,8 @@ use Prim.Native.Nat.{ℕ, ◌-◌}
 use lib.ListN.{length}
 use Rattle.std.specs.Result.{IsErrAnd}
 use Rattle.std.specs.declared.result.Result.{Result}
-use Rattle.std.specs.declared.result.Result.TheVariants.{Ok, Err}
-use Rattle.tokenizer.specs.Answer.{done, refuse}
+use Rattle.tokenizer.specs.Answer.{done, refuse, answer_of}
+use Rattle.tokenizer.proofs.Answered.{handed_on}
 use Rattle.datatype.specs.Tree.{Label}
 use Rattle.packed.specs.Packed.{packed_size, packed_rows, packed_bytes, size_fits}
 use Rattle.packed.specs.Packer.{with_words, with_bytes, written, put_row, set_parents, trees_written}
@@ -19,19 +19,15 @@ use Rattle.packed.specs.declared.packer.Packer.{Packer}
 use Rattle.packed.proofs.PackerRuns.{first_fits, first_rows, first_text, first_size}
 use Rattle.column_out.specs.declared.NotTaken.{NotTaken}
 use Rattle.column_out.specs.declared.fields.Kept.{Kept}
-use Rattle.column_out.specs.ColumnOut.{tree_left, column_out, column_out_answer, column_out_rows, column_out_bytes, number_of, taken_means}
+use Rattle.column_out.specs.ColumnOut.{tree_left, column_out, column_out_answer, column_out_rows, column_out_bytes, number_of}
 use Rattle.column_out.specs.Internal.Stretch.{label_at, put_stretch}
 use Rattle.column_out.specs.Internal.Steps.{rows_in, Stays}
 
-pub handed_on : {A : Type 0} (r : Result A NotTaken) (e : NotTaken) → IsErrAnd r (λ y. y ≡ e) → taken_means r ≡ refuse (number_of e)
-handed_on (Ok x) e h = absurd h
-handed_on (Err y) e h = ap (λ (z : NotTaken). refuse (number_of z)) h
-
 module _ (text names table : List ℕ) (n : ℕ) (rows bytes : List ℕ) where
   module _ (e : NotTaken) (h : refuse (number_of e) ≡ tree_left text names table n) where
-    pub refused-answer : (r : Result Packed NotTaken) → IsErrAnd r (λ y. y ≡ e) → taken_means r ≡ column_out_answer text names table n rows bytes
+    pub refused-answer : (r : Result Packed NotTaken) → IsErrAnd r (λ y. y ≡ e) → answer_of number_of r ≡ column_out_answer text names table n rows bytes
     unfolding column_out_answer column_out
-    refused-answer r k = handed_on r e k ∙ rw (← h)
+    refused-answer r k = handed_on number_of r e k ∙ rw (← h)
 
     pub refused-rows : rows ≡ column_out_rows text names table n rows bytes
     unfolding column_out_rows column_out

@@ -1,6 +1,6 @@
 -- Taking a column out (docs/SCOPE.md, 'Columns taken out'): a field of a Struct goes with all that stands
 -- below it, and the names and zones that stay are packed into fresh lent rows and text.
-use Rattle.std.specs.Prelude.{Result, Ok, Err, List, [], ◌∷◌, ℕ, zero, suc, length, nat_lt, if◌then◌else◌}
+use Rattle.std.specs.Prelude.{List, [], ◌∷◌, ℕ, zero, suc, length, nat_lt, if◌then◌else◌}
 use Rattle.tokenizer.specs.Answer.{Out, refused, done, refuse, ◌>>=◌}
 use Rattle.datatype.specs.Kind.{struct_kind}
 use Rattle.datatype.specs.Tree.{Forest, ∅, node, roots, Label}
@@ -71,8 +71,3 @@ number_of NotSound = 17
 number_of NotStruct = 25
 number_of NoSuchField = 29
 number_of NoRoom = 28
-
--- What a `Result` says: the value, or the refusal by its number.
-abbrev pub taken_means : {A : Type 0} → Result A NotTaken → Out A
-taken_means (Ok value) = done value
-taken_means (Err e) = refuse (number_of e)

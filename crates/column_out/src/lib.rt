@@ -4,7 +4,9 @@
 #![tactic(auto)]
 
 ghost use Rattle.std.specs.Prelude.{◌≡◌};
-ghost use Rattle.column_out.specs.ColumnOut.{number_of, taken_means, column_out_answer, column_out_rows, column_out_bytes};
+ghost use Rattle.std.proofs.Common.{rules};
+ghost use Rattle.tokenizer.specs.Answer.{answer_of};
+ghost use Rattle.column_out.specs.ColumnOut.{number_of, column_out_answer, column_out_rows, column_out_bytes};
 
 mod fields;
 mod pack;
@@ -14,25 +16,28 @@ use crate::pack::put_rows;
 use datatype::rows::ROW_WORDS;
 use datatype::{Row, Tree};
 use packed::{Packed, Packer};
+use thiserror::Error;
+use tokenizer::Numbered;
 
-/// Why a column was not taken out, by the scope's numbers.
-#[derive(Clone, Copy, Debug, PartialEq, Eq)]
+/// Why a column was not taken out.
+#[derive(Clone, Copy, Debug, Drop, PartialEq, Eq, Error)]
 pub enum NotTaken {
-    /// Text and rows are no sound tree.
+    #[error("text and rows are no sound tree")]
     NotSound = 17,
-    /// The root is not a Struct.
+    #[error("the root is not a Struct")]
     NotStruct = 25,
-    /// Rows or text have no room for what stays.
+    #[error("there is no room for the rows, or for their names and zones")]
     NoRoom = 28,
-    /// The root has no such field.
+    #[error("there is no such field")]
     NoSuchField = 29,
 }
 
-impl NotTaken {
-    /// The refusal's number.
-    pub fn number(self) -> u32
-        ensures { result ≡ number_of self }
-    {
+impl Numbered for NotTaken {
+    ghost numbered = { number_of };
+
+    ghost listed = { Prim.search rules };
+
+    fn number(self) -> u32 {
         self as u32
     }
 }
@@ -45,7 +50,7 @@ pub fn take_column_out(
     rows: &mut [u32],
     text: &mut [u8],
 ) -> Result<Packed, NotTaken>
-    ensures answer { taken_means result ≡ column_out_answer tree.entry.text.now tree.entry.names.now tree.entry.rows.now field rows.old text.old }
+    ensures answer { answer_of number_of result ≡ column_out_answer tree.entry.text.now tree.entry.names.now tree.entry.rows.now field rows.old text.old }
     ensures contents { rows.new ≡ column_out_rows tree.entry.text.now tree.entry.names.now tree.entry.rows.now field rows.old text.old }
     ensures bytes { text.new ≡ column_out_bytes tree.entry.text.now tree.entry.names.now tree.entry.rows.now field rows.old text.old }
 {

@@ -15,8 +15,8 @@ use Rattle.tokenizer.proofs.Basics.{of_true, is_true, and_l, and_r, both}
 use Rattle.datatype.proofs.Sets.{sets_append}
 use Rattle.display_length.specs.Display.{is_lead, escape, escape_next, escaped_from, escaped, quoted}
 use Rattle.datatype_display.specs.declared.write.Printer.{Printer}
-use Rattle.datatype_display.specs.Internal.Steps.{Fits, Ran, Wrote, is_shown, no_lead, is_itself, written}
-use Rattle.datatype_display.proofs.Writes.{written_then, Left, wrote, left_start, left_as, left_fits, left_step, left_end, left_last}
+use Rattle.datatype_display.specs.Internal.Steps.{Fits, Ran, Wrote, is_shown, no_lead, is_itself}
+use Rattle.datatype_display.proofs.Writes.{stored, wrote_then, wrote_as, Left, left_start, left_as, left_fits, left_step, left_end, left_last}
 
 -- ---- what a string becomes
 
@@ -188,19 +188,22 @@ module _ (before s : List ℕ) (at : ℕ) where
     rest : take (length s - i) (drop i s) ≡ drop i s
     rest = take_all (length s - i) (drop i s) (let e = length-drop i s in omega arith)
 
-pub ran_then : (lead : Bool) (p : Printer) (s : List ℕ) (i : ℕ) (out : List ℕ) → lead ≡ false → Ran p.out.now p.at s i out → (q : Printer)
-    → Wrote (record p { out = record p.out { now = out }; at = p.at + i }) (escaped_from lead (take (length s - i) (drop i s))) q → Wrote p (escaped_from lead s) q
-unfolding written
-ran_then lead p s i out first r q w =
+-- The place is behind the run.
+pub ran_wrote : {p : Printer} (s : List ℕ) (i : ℕ) (out : List ℕ) → Fits p (escaped_from false s) → Ran p.out.now p.at s i out
+    → Wrote p (take i s) (record p { at = p.at + i; out = record p.out { now = out } })
+ran_wrote {p} s i out f r =
     let size : length (take i s) ≡ i = length-take-le i s r.few in
-    let here : record p { out = record p.out { now = out }; at = p.at + i } ≡ written p (take i s) = rw (r.stored, size) in
-    wrote
-    (
-    w.is ∙ ap (λ (o : Printer). written o (escaped_from lead (take (length s - i) (drop i s)))) here
-    ∙ ap (λ (t : List ℕ). written (written p (take i s)) (escaped_from lead t)) (rest p.out.now s p.at i out r)
-    ∙ written_then p (take i s) (escaped_from lead (drop i s))
-    ∙ ap (λ (t : List ℕ). written p t) (rw first r.same)
-    )
+    let e = ap length r.same in
+    let g = length-append (take i s) (escaped_from false (drop i s)) in
+    let h = f.room in
+    stored p _ (take i s) (record { room = omega arith; few = f.few }) r.stored (omega arith) refl refl
+
+pub ran_then : (lead : Bool) (p : Printer) (s : List ℕ) (i : ℕ) (out : List ℕ) → lead ≡ false → Fits p (escaped_from lead s) → Ran p.out.now p.at s i out → (q : Printer)
+    → Wrote (record p { at = p.at + i; out = record p.out { now = out } }) (escaped_from lead (take (length s - i) (drop i s))) q → Wrote p (escaped_from lead s) q
+ran_then lead p s i out first f r q w =
+    wrote_as
+    (ap (λ (t : List ℕ). take i s ++ escaped_from lead t) (rest p.out.now s p.at i out r) ∙ rw first r.same)
+    (wrote_then (ran_wrote s i out (rw first at f) r) w)
 
 -- ---- a piece
 
@@ -238,14 +241,12 @@ module _ {before p : Printer} {whole : List ℕ} (lead : Bool) (rest tail : List
 -- ---- what is left behind a run
 
 module _ {before p : Printer} {whole rest out : List ℕ} {n : ℕ} (tail : List ℕ) (l : Left before whole (escaped_from false rest ++ tail) p) (r : Ran p.out.now p.at rest n out) where
-  pub ran_left : Left before whole (escaped_from false (take (length rest - n) (drop n rest)) ++ tail) (record p { out = record p.out { now = out }; at = p.at + n })
-  unfolding written
+  pub ran_left : Left before whole (escaped_from false (take (length rest - n) (drop n rest)) ++ tail) (record p { at = p.at + n; out = record p.out { now = out } })
   ran_left =
-      let size : length (take n rest) ≡ n = length-take-le n rest r.few in
       rw (take_rest rest n)
       (left_step
       (left_as (ap (λ (t : List ℕ). t ++ tail) (sym r.same) ∙ append_assoc (take n rest) (escaped_from false (drop n rest)) tail) l)
-      (wrote {before = p} {s = take n rest} (rw (r.stored, size))))
+      (ran_wrote rest n out (left_fits tail l) r))
 
 pub none_left : {before p : Printer} {whole : List ℕ} (rest tail : List ℕ) → Left before whole (escaped_from false rest ++ tail) p → length rest ≡ 0 → Left before whole tail p
 none_left rest tail l e = left_as (ap (λ (t : List ℕ). escaped_from false t ++ tail) (nil_from_length rest e) ∙ ap (λ (t : List ℕ). t ++ tail) from_none) l
@@ -255,21 +256,24 @@ none_behind s n h = rw (take_rest s n) (let e = length-drop n s in omega arith)
 
 -- ---- a string in double quotes
 
-mark_wrote : (p : Printer) (c : ℕ) → Wrote p (c ∷ []) (record p { out = record p.out { now = set p.out.now p.at c }; at = p.at + 1 })
-unfolding written
-mark_wrote p c = wrote refl
+mark_wrote : (p : Printer) (c : ℕ) → Fits p (c ∷ []) → Wrote p (c ∷ []) (record p { at = p.at + 1; out = record p.out { now = set p.out.now p.at c } })
+mark_wrote p c f = stored p _ (c ∷ []) f refl refl refl refl
 
 module _ {p : Printer} {s out : List ℕ} {n : ℕ} (f : Fits p (quoted s)) (r : Ran (set p.out.now p.at 34) (p.at + 1) s n out) where
-  -- what is left behind the first mark and the run
-  start_left : Left p (quoted s) (escaped_from false (take (length s - n) (drop n s)) ++ (34 ∷ [])) (record p { out = record p.out { now = out }; at = p.at + 1 + n })
-  unfolding quoted escaped
-  start_left = ran_left (34 ∷ []) (left_step {s = 34 ∷ []} (left_start f) (mark_wrote p 34)) r
+  -- the printer behind the first mark and the run
+  abbrev behind : Printer
+  behind = record p { at = p.at + 1 + n; out = record p.out { now = out } }
 
-  pub quoted_rest : {q : Printer} → Wrote (record p { out = record p.out { now = out }; at = p.at + 1 + n }) (escaped_from false (take (length s - n) (drop n s)) ++ (34 ∷ [])) q → Wrote p (quoted s) q
+  -- what is left there
+  start_left : Left p (quoted s) (escaped_from false (take (length s - n) (drop n s)) ++ (34 ∷ [])) behind
+  unfolding quoted escaped
+  start_left = ran_left (34 ∷ []) (left_step {s = 34 ∷ []} (left_start f) (mark_wrote p 34 (left_fits (escaped_from false s ++ (34 ∷ [])) (left_start f)))) r
+
+  pub quoted_rest : {q : Printer} → Wrote behind (escaped_from false (take (length s - n) (drop n s)) ++ (34 ∷ [])) q → Wrote p (quoted s) q
   quoted_rest w = left_last start_left w
 
-  pub quoted_all : length s ≤ n → Wrote p (quoted s) (record p { out = record p.out { now = set out (p.at + 1 + n) 34 }; at = p.at + 1 + n + 1 })
-  quoted_all h = left_last (none_left _ (34 ∷ []) start_left (none_behind s n h)) (mark_wrote (record p { out = record p.out { now = out }; at = p.at + 1 + n }) 34)
+  pub quoted_all : length s ≤ n → Wrote p (quoted s) (record p { at = p.at + 1 + n + 1; out = record p.out { now = set out (p.at + 1 + n) 34 } })
+  quoted_all h = let l = none_left _ (34 ∷ []) start_left (none_behind s n h) in left_last l (mark_wrote behind 34 l.fits)
 
 pub ruleset run_steps = (ran-room, ran-more, ran-end)
 

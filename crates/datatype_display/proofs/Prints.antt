@@ -17,8 +17,10 @@ use Rattle.display_length.specs.Display.{display}
 use Rattle.display_length.specs.PrintedLength.{quoted_latin, printed_length}
 use Rattle.display_length.proofs.PrintedLaws.{Prints as Measured, prints, refuses}
 use Rattle.datatype_display.specs.Print.{print, print_answer, print_bytes}
-use Rattle.datatype_display.specs.Internal.Steps.{Fits, Wrote, written, text_in}
+use Rattle.datatype_display.specs.Internal.Steps.{writer_of, Fits, Wrote, text_in}
 use Rattle.datatype_display.specs.declared.write.Printer.{Printer}
+use Rattle.output.specs.declared.Writer.{Writer}
+use Rattle.output.proofs.Written.{written_sets}
 use Rattle.std.specs.Result.{IsErrAnd}
 use Rattle.std.specs.declared.result.Result.{Result}
 use Rattle.tokenizer.specs.declared.refusal.Refusal as R
@@ -47,8 +49,8 @@ module _ (spelling : Spelling) (text names table before : List ℕ) where
       go (inl e) = (rw (e.0, e.1), rw e.1)
       go (inr e) = (rw (e.0, e.1, e.2), rw (e.1, e.2))
 
-  pub refused-answer : (e : R.Refusal) → refuse (number_of e) ≡ printed_length spelling text names table → (r : Result ℕ R.Refusal) → IsErrAnd r (λ y. y ≡ e) → answer_of r ≡ print_answer spelling text names table before
-  refused-answer e h r k = handed_on r e k ∙ (prints-refused (number_of e) h).0
+  pub refused-answer : (e : R.Refusal) → refuse (number_of e) ≡ printed_length spelling text names table → (r : Result ℕ R.Refusal) → IsErrAnd r (λ y. y ≡ e) → answer_of number_of r ≡ print_answer spelling text names table before
+  refused-answer e h r k = handed_on number_of r e k ∙ (prints-refused (number_of e) h).0
 
   pub refused-bytes : (n : ℕ) → refuse n ≡ printed_length spelling text names table → before ≡ print_bytes spelling text names table before
   refused-bytes n h = (prints-refused n h).1
@@ -84,7 +86,7 @@ not_clean s e = absurd (false≢true e)
 
 -- the text of a sound tree that is known to fit
 module _ (t : Printed) (root : PrintedNode) (of : root.of.now ≡ t) (first : root.at ≡ 0) (before : List ℕ) (n : ℕ) (h : done n ≡ printed_length t.spelling t.whole.tree.text.now t.whole.tree.names.now t.whole.tree.rows.now)
-    (room : ℕ) (is : room ≡ min (length before) 16384) (l : n ≤ room) (p : Printer) (start : p.at ≡ 0) (lent : p.out.now ≡ before) where
+    (room : ℕ) (is : room ≡ min (length before) 16384) (l : n ≤ room) (few : length before ≤ 18446744073709551615) (p : Printer) (start : p.at ≡ 0) (lent : p.out.now ≡ before) where
   abbrev m : Measured t.spelling t.whole.tree.text.now t.whole.tree.names.now t.whole.tree.rows.now n
   m = measured t.spelling t.whole.tree.text.now t.whole.tree.names.now t.whole.tree.rows.now before n h
 
@@ -96,14 +98,14 @@ module _ (t : Printed) (root : PrintedNode) (of : root.of.now ≡ t) (first : ro
       let k = m.is in
       let e = ap (λ (s : List ℕ). length s) (root-text root first t of) in
       let o = ap (λ (s : List ℕ). length s) lent in
-      record { room = omega arith }
+      record { room = omega arith; few = omega arith }
 
   pub printed-bytes : (q : Printer) → Wrote p (text_in root) q → (after : List ℕ) → after ≡ q.out.now → after ≡ print_bytes t.spelling t.whole.tree.text.now t.whole.tree.names.now t.whole.tree.rows.now before
-  unfolding print print_bytes written
+  unfolding print print_bytes
   printed-bytes q c after ends =
       let k = m.is in
       let z : 0 + length text ≡ length text = omega arith in
-      let stored : after ≡ sets before 0 (text_in root) = ends ∙ ap (λ (r : Printer). r.out.now) c.is ∙ rw (start, lent) in
+      let stored : after ≡ sets before 0 (text_in root) = ends ∙ ap (λ (o : Writer). o.out.now) c.is ∙ written_sets (writer_of p) (text_in root) (let f = root-fits in let a = f.room in let b = f.few in omega arith) ∙ rw (start, lent) in
       rw (m.sound, m.latin, fits t.spelling t.whole.tree.text.now t.whole.tree.names.now t.whole.tree.rows.now before n h room is l)
       (stored ∙ ap (λ (s : List ℕ). sets before 0 s) (root-text root first t of) ∙ sets-eq text before 0 (omega arith) ∙ ap (λ (i : ℕ). text ++ drop i before) z)
 

@@ -27,7 +27,8 @@ use Rattle.display_length.specs.Display.{kind_word, unit_text, interval_text, mo
 use Rattle.display_length.specs.Internal.Nodes.{label_in, levels_below}
 use Rattle.datatype_display.specs.declared.write.Printer.{Printer}
 use Rattle.datatype_display.specs.Internal.Steps.{Wrote, is_alone, comma, nullability, name_text, nullable_text, union_field_text, fields_in, text_in, shown_in, all_shown, shape_in}
-use Rattle.datatype_display.proofs.Writes.{written_then, written_none, Left, left_as, left_step}
+use Rattle.output.proofs.Written.{written_then, written_none}
+use Rattle.datatype_display.proofs.Writes.{Left, left_as, left_step}
 use Rattle.display_length.proofs.TreeLaws.{child-levels, printed_kind}
 use Rattle.datatype_display.proofs.Children.{shown-none, shown-first, below-tree, below-start, below-levels, below-shown}
 

@@ -3,7 +3,7 @@
 #![tactic(auto)]
 
 ghost use Rattle.std.specs.Prelude.{◌≡◌};
-ghost use Rattle.tokenizer.specs.Answer.{answer_of};
+ghost use Rattle.tokenizer.specs.Answer.{number_of, answer_of};
 ghost use Rattle.datatype_display.specs.Print.{default_spelling, print_answer, print_bytes};
 
 use datatype::Tree;
@@ -25,7 +25,7 @@ pub const DEFAULT_SPELLING: Spelling = Spelling::Us;
 // Prints a tree into a lent buffer, in the default spelling.
 #[tactic(auto, unfolding(crate::specs::Print::default_spelling))]
 pub fn print_data_type(tree: Tree<'_>, out: &mut [u8]) -> Result<usize, Refusal>
-    ensures result_value { answer_of result ≡ print_answer default_spelling tree.entry.text.now tree.entry.names.now tree.entry.rows.now out.old }
+    ensures result_value { answer_of number_of result ≡ print_answer default_spelling tree.entry.text.now tree.entry.names.now tree.entry.rows.now out.old }
     ensures out_after { out.new ≡ print_bytes default_spelling tree.entry.text.now tree.entry.names.now tree.entry.rows.now out.old }
 {
     print_data_type_with(DEFAULT_SPELLING, tree, out)
@@ -39,7 +39,7 @@ pub fn print_data_type_with(
     tree: Tree<'_>,
     out: &mut [u8],
 ) -> Result<usize, Refusal>
-    ensures result_value { answer_of result ≡ print_answer spelling tree.entry.text.now tree.entry.names.now tree.entry.rows.now out.old }
+    ensures result_value { answer_of number_of result ≡ print_answer spelling tree.entry.text.now tree.entry.names.now tree.entry.rows.now out.old }
     ensures out_after { out.new ≡ print_bytes spelling tree.entry.text.now tree.entry.names.now tree.entry.rows.now out.old }
 {
     let Some(whole) = SoundTree::of(tree) else {
@@ -55,7 +55,7 @@ pub fn print_sound_tree(
     whole: &SoundTree<'_>,
     out: &mut [u8],
 ) -> Result<usize, Refusal>
-    ensures result_value { answer_of result ≡ print_answer spelling whole.now.tree.text.now whole.now.tree.names.now whole.now.tree.rows.now out.old }
+    ensures result_value { answer_of number_of result ≡ print_answer spelling whole.now.tree.text.now whole.now.tree.names.now whole.now.tree.rows.now out.old }
     ensures out_after { out.new ≡ print_bytes spelling whole.now.tree.text.now whole.now.tree.names.now whole.now.tree.rows.now out.old }
 {
     let length = printed_length_of(spelling, whole)?;

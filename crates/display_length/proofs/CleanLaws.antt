@@ -1,42 +1,27 @@
 -- Names and zones of a tree whose text is clean are clean.
-use Rattle.std.specs.Prelude.{if◌then◌else◌}
 use mathlib.Core.Path.{◌≡◌}
-use mathlib.Core.Bool.{Bool, true, false}
-use mathlib.Core.List.{List, []}
-use Prim.Native.Nat.{ℕ, zero, suc, ◌+◌, ◌≤◌}
+use mathlib.Core.Bool.{Bool, true}
+use mathlib.Core.List.{List}
+use Prim.Native.Nat.{ℕ}
 use native.Mathlib.Omega.{arith}
-use lib.ListN.{length, take, drop, length-take, length-drop}
-use lib.Dec.{T, leb}
+use lib.Dec.{T}
 use Rattle.tokenizer.specs.Text.{all}
 use Rattle.tokenizer.proofs.Basics.{of_true}
 use Rattle.datatype.specs.declared.tree.Tree.{Tree}
-use Rattle.datatype.specs.Tree.{part, name_of, zone_of, name_list}
+use Rattle.datatype.proofs.Parts.{name_short, zone_short}
+use Rattle.datatype.specs.Tree.{name_of, zone_of, name_list}
 use Rattle.row_table.specs.Sound.{is_sound}
 use Rattle.row_table.proofs.SoundTree.{sound_tree}
 use Rattle.display_length.specs.declared.printed.PrintedNode.{PrintedNode}
 use Rattle.display_length.specs.Internal.Steps.{is_clean, Clean}
 use Rattle.display_length.proofs.LatinLaws.{name-all, zone-all}
 
-part_short : (s : List ℕ) (start size : ℕ) → length (part s start size) ≤ length s
-part_short s start size = go (leb (start + size) (length s))
-  where
-    go : (b : Bool) → length (if b then take size (drop start s) else []) ≤ length s
-    go true = let e = length-take size (drop start s) in let f = length-drop start s in omega arith
-    go false = omega arith
-
-name_short : (text names : List ℕ) (home start size : ℕ) → length text ≤ 16384 → length names ≤ 16384 → length (name_of text names home start size) ≤ 16384
-unfolding name_of
-name_short text names zero start size a b = omega arith
-name_short text names (suc zero) start size a b = let e = part_short text start size in omega arith
-name_short text names (suc (suc zero)) start size a b = let e = part_short names start size in omega arith
-name_short text names (suc (suc (suc home))) start size a b = omega arith
-
 module _ (text names table : List ℕ) (sound : T (is_sound text names table)) (clean : Bool) (so : clean ≡ true → T (all is_clean text)) where
   zone_clean : (start size : ℕ) → Clean clean (zone_of text start size)
   zone_clean start size =
       let tree = sound_tree text names table sound in
       record {
-        short = let e = part_short text start size in let f = tree.short in unfold zone_of in omega arith;
+        short = zone_short text start size 16384 tree.short;
         so = λ e. of_true _ (zone-all is_clean text (so e) start size);
       }
 
@@ -46,7 +31,7 @@ module _ (text names table : List ℕ) (sound : T (is_sound text names table)) (
       let tree = sound_tree text names table sound in
       rw tree.listed
       (record {
-        short = name_short text name_list home start size tree.short (omega arith);
+        short = name_short text name_list home start size 16384 tree.short (omega arith);
         so = λ e. of_true _ (name-all is_clean text name_list (so e) tt home start size);
       })
 

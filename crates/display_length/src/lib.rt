@@ -3,7 +3,7 @@
 #![tactic(auto)]
 
 ghost use Rattle.std.specs.Prelude.{◌≡◌};
-ghost use Rattle.tokenizer.specs.Answer.{answer_of};
+ghost use Rattle.tokenizer.specs.Answer.{number_of, answer_of};
 ghost use Rattle.display_length.specs.PrintedLength.{printed_length};
 
 use crate::latin::is_latin_tree;
@@ -30,7 +30,7 @@ pub use words::{Spelling, interval_word, kind_word, mode_word, sorted_word, unit
 /// How many bytes a tree that is sound prints in a spelling.
 #[tactic(auto, using(crate::proofs::Rules::printed_steps))]
 pub fn printed_length_of(spelling: Spelling, whole: &SoundTree<'_>) -> Result<usize, Refusal>
-    ensures { answer_of result ≡ printed_length spelling whole.now.tree.text.now whole.now.tree.names.now whole.now.tree.rows.now }
+    ensures { answer_of number_of result ≡ printed_length spelling whole.now.tree.text.now whole.now.tree.names.now whole.now.tree.rows.now }
 {
     let clean = is_clean(whole.tree.text);
     if !is_latin_tree(whole, clean) {
@@ -47,7 +47,7 @@ pub fn printed_length_of(spelling: Spelling, whole: &SoundTree<'_>) -> Result<us
 // How many bytes a tree prints in a spelling.
 #[tactic(auto, using(crate::proofs::PrintedLaws::unsound_steps))]
 pub fn printed_length(spelling: Spelling, tree: Tree<'_>) -> Result<usize, Refusal>
-    ensures { answer_of result ≡ printed_length spelling tree.entry.text.now tree.entry.names.now tree.entry.rows.now }
+    ensures { answer_of number_of result ≡ printed_length spelling tree.entry.text.now tree.entry.names.now tree.entry.rows.now }
 {
     let Some(whole) = SoundTree::of(tree) else {
         return Err(Refusal::NotSound);

@@ -3,7 +3,7 @@
 #![tactic(auto)]
 
 ghost use Rattle.std.specs.Prelude.{◌≡◌};
-ghost use Rattle.tokenizer.specs.Answer.{answer_of};
+ghost use Rattle.tokenizer.specs.Answer.{number_of, answer_of};
 ghost use Rattle.datatype.specs.Kind.{shape_of};
 ghost use Rattle.subtrees.specs.Equal.{whole_rows};
 ghost use Rattle.layout.specs.Layout.{anything, kind_allowed, asked_of_first, verdict_of};
@@ -69,7 +69,7 @@ fn broken_row(rows: &[u32]) -> Option<usize>
 // tree is not sound.
 #[tactic(auto, using(crate::proofs::LayoutLaws::verdicts))]
 pub fn verdict_of(tree: Tree<'_>) -> Result<Option<usize>, Refusal>
-    ensures { answer_of result ≡ verdict_of tree.entry.text.now tree.entry.names.now tree.entry.rows.now }
+    ensures { answer_of number_of result ≡ verdict_of tree.entry.text.now tree.entry.names.now tree.entry.rows.now }
 {
     if is_sound(tree) {
         return Ok(broken_row(tree.rows));

@@ -4,7 +4,9 @@
 #![tactic(auto)]
 
 ghost use Rattle.std.specs.Prelude.{◌≡◌};
-ghost use Rattle.needs.specs.Answer.{number_of, answer_of};
+ghost use Rattle.std.proofs.Common.{rules};
+ghost use Rattle.tokenizer.specs.Answer.{answer_of};
+ghost use Rattle.needs.specs.Answer.{number_of};
 ghost use Rattle.needs.specs.Needs.{need_name, are_named, first_unmet, need_of, needs_of};
 ghost use Rattle.needs.specs.Internal.Columns.{columns_in};
 
@@ -13,6 +15,8 @@ mod columns;
 use crate::columns::{columns_of, meet, sound_tree};
 use datatype::Tree;
 use row_table::nodes::Nodes;
+use thiserror::Error;
+use tokenizer::Numbered;
 
 // The most needs that are checked at once.
 pub const MAX_NEEDS: usize = 32;
@@ -32,20 +36,25 @@ pub struct Need {
     pub zoned: bool,
 }
 
-// Why needs were not checked.
-#[derive(Clone, Copy, Debug, PartialEq, Eq)]
+/// Why needs were not checked.
+#[derive(Clone, Copy, Debug, Drop, PartialEq, Eq, Error)]
 pub enum NotChecked {
-    NotSound = 17, // text and rows are no sound tree
-    NotStruct = 25, // the tree's root is no Struct
-    TooManyNeeds = 26, // there are more than 32 needs
-    WrongName = 27, // a need's name is empty, or not inside the text of names
+    #[error("text and rows are no sound tree")]
+    NotSound = 17,
+    #[error("the root is not a Struct")]
+    NotStruct = 25,
+    #[error("there are more than 32 needs")]
+    TooManyNeeds = 26,
+    #[error("a need's name is empty or outside its text")]
+    WrongName = 27,
 }
 
-impl NotChecked {
-    // The number of document 02.
-    pub fn number(self) -> u32
-        ensures { result ≡ number_of self }
-    {
+impl Numbered for NotChecked {
+    ghost numbered = { number_of };
+
+    ghost listed = { Prim.search rules };
+
+    fn number(self) -> u32 {
         self as u32
     }
 }
@@ -102,7 +111,7 @@ pub fn meets(
     null_allowed: bool,
     zoned: bool,
 ) -> Result<bool, NotChecked>
-    ensures { answer_of result ≡ need_of tree.entry.text.now tree.entry.names.now tree.entry.rows.now kind number scale null_allowed zoned name.now }
+    ensures { answer_of number_of result ≡ need_of tree.entry.text.now tree.entry.names.now tree.entry.rows.now kind number scale null_allowed zoned name.now }
 {
     let whole = sound_tree(tree)?;
     let columns = columns_of(&whole)?;
@@ -115,7 +124,7 @@ pub fn meets(
 // Whether a tree fits needs over a text of names: none where it meets each of them, else the first, from 0, that it does not.
 #[tactic(auto, using(crate::proofs::NeedLaws::fits_steps))]
 pub fn fits(tree: Tree<'_>, text: &[u8], needs: &[Need]) -> Result<Option<usize>, NotChecked>
-    ensures { answer_of result ≡ needs_of tree.entry.text.now tree.entry.names.now tree.entry.rows.now text.now needs.now }
+    ensures { answer_of number_of result ≡ needs_of tree.entry.text.now tree.entry.names.now tree.entry.rows.now text.now needs.now }
 {
     let whole = sound_tree(tree)?;
     let columns = columns_of(&whole)?;

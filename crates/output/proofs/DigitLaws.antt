@@ -1,16 +1,17 @@
 -- Decimal digits: the number that only falls never decides them, the last digit stands behind the others, and how many
 -- they are.
 use mathlib.Core.Path.{◌≡◌, sym, ap, ◌∙◌}
-use mathlib.Core.List.{List, [], ◌∷◌, ◌++◌}
-use Prim.Native.Nat.{ℕ, zero, suc, min, ◌+◌, ◌/◌, ◌%◌, ◌^◌, ◌*◌, ◌≤◌, ◌<◌}
+use mathlib.Core.List.{List, [], ◌∷◌, ◌++◌, append_assoc, append-nil}
+use Prim.Native.Nat.{ℕ, zero, suc, ◌+◌, ◌-◌, ◌/◌, ◌%◌, ◌^◌, ◌*◌, ◌≤◌, ◌<◌}
 use native.Mathlib.Decide.{dec_lt}
 use native.Mathlib.Omega.{arith}
-use lib.ListN.{length, set, length-append}
-use lib.Seq.{sets}
+use lib.ListN.{length, take, drop, take-append-drop, length-append}
+use lib.Seq.{sets, sets-eq, take_all}
 use borrow.Author.Tests.{lt-ltb, le-ltb}
-use Rattle.datatype.proofs.Sets.{sets_append}
+use borrow.Author.Rules.{rules}
+use Rattle.std.specs.Fmt.{decimal}
+use Rattle.std.proofs.lemmas.Fmt.{decimal_from_appends, length-decimal-le, length-decimal-le_succ}
 use Rattle.output.specs.Digits.{digits_with, digits}
-use Rattle.output.proofs.Writes.{set_capped}
 
 pub digits_enough : (m n k : ℕ) → k < m → k < n → digits_with m k ≡ digits_with n k
 unfolding digits_with
@@ -71,14 +72,32 @@ digits_few n h = digits_at_most 9 n (omega arith)
 
 -- ---- writing them
 
--- The last digit is stored behind the others: a place that is capped is past the end, as the place itself.
-pub put_more : (before : List ℕ) (at n m place : ℕ) (between : List ℕ) → 10 ≤ n → m ≡ length (digits (n / 10)) → between ≡ sets before at (digits (n / 10))
-    → length between ≤ 18446744073709551615 → place ≡ min (at + m) 18446744073709551615 → sets before at (digits n) ≡ set between place (48 + n % 10)
-put_more before at n m place between h l e f p =
-    ap (λ (s : List ℕ). sets before at s) (digits_more n h)
-    ∙ sym (sets_append before at (digits (n / 10)) ((48 + n % 10) ∷ []))
-    ∙ ap (λ (k : ℕ). set (sets before at (digits (n / 10))) (at + k) (48 + n % 10)) (sym l)
-    ∙ ap (λ (b : List ℕ). set b (at + m) (48 + n % 10)) (sym e)
-    ∙ sym (set_capped between place (at + m) _ (48 + n % 10) f p)
+-- The library's word is the same, of a number of 64 bits.
+pub digits_decimal : (n : ℕ) → n < 18446744073709551616 → digits n ≡ decimal n
+unfolding digits digits_with
+digits_decimal n h = decimal_from_appends digits_with (search rules) (suc n) n h (let e = length-decimal-le_succ n h in omega arith)
 
-pub ruleset digit_steps = (digits_one, digits_length_lem, digits_few, put_more)
+-- Ten bytes hold the digits of a number of 32 bits.
+pub decimal_few : (n : ℕ) → n < 4294967296 → length (decimal n) ≤ 10
+decimal_few n h = length-decimal-le 10 n (omega arith) (omega arith) (omega arith)
+
+-- They stand at the end of the ten.
+pub digits_part : (n start : ℕ) (number : List ℕ) → n < 4294967296 → start + length (decimal n) ≡ 10 → drop start number ≡ decimal n ++ [] → take (10 - start) (drop start number) ≡ digits n
+digits_part n start number h k e =
+    ap (take (10 - start)) (e ∙ append-nil (decimal n)) ∙ take_all (10 - start) (decimal n) (omega arith) ∙ sym (digits_decimal n (omega arith))
+
+pub ruleset ten_digits = (digits_part, decimal_few)
+
+-- Written to their end in the output itself, they stand at their place.
+pub digits_stored : (before after : List ℕ) (n start at : ℕ) → n < 4294967296 → at + length (digits n) ≤ length before → start + length (decimal n) ≡ at + length (digits n)
+    → drop start after ≡ decimal n ++ drop (at + length (digits n)) before → take start after ≡ take start before → after ≡ sets before at (digits n)
+digits_stored before after n start at h room e w b =
+    let same = digits_decimal n (omega arith) in
+    let size = ap length same in
+    let place : start ≡ at = omega arith in
+    sym (take-append-drop start after)
+    ∙ ap (λ (l : List ℕ). l ++ drop start after) b
+    ∙ ap (λ (l : List ℕ). take start before ++ l) (w ∙ ap (λ (l : List ℕ). l ++ drop (at + length (digits n)) before) (sym same))
+    ∙ ap (λ (k : ℕ). take k before ++ (digits n ++ drop (at + length (digits n)) before)) place
+    ∙ sym (append_assoc (take at before) (digits n) (drop (at + length (digits n)) before))
+    ∙ sym (sets-eq (digits n) before at room)

@@ -5,6 +5,9 @@
 ghost use Rattle.std.specs.Prelude.{◌≡◌, [], ◌∷◌, length};
 ghost use Rattle.std.proofs.lemmas.List.Edits.{sets};
 ghost use Rattle.output.specs.Digits.{digits};
+ghost use Rattle.output.specs.Written.{written};
+
+use itoa::write_digits;
 
 // Writes bytes at a place: those that there is room for.
 #[tactic(auto, using(crate::proofs::Writes::puts))]
@@ -17,9 +20,9 @@ pub fn put_bytes(out: &mut [u8], at: usize, s: &[u8])
     }
 }
 
-// Writes one byte at a place.
+// Writes a byte at a place, if there is room for it.
 #[tactic(auto, using(crate::proofs::Writes::puts))]
-pub fn put_byte(out: &mut [u8], at: usize, c: u8)
+fn put_byte(out: &mut [u8], at: usize, c: u8)
     ensures { out.new ≡ sets out.old at (c ∷ []) }
 {
     if at < out.len() {
@@ -27,21 +30,46 @@ pub fn put_byte(out: &mut [u8], at: usize, c: u8)
     }
 }
 
-// Writes a number in decimal digits at a place, and answers how many they are. By hand: the library's `itoa` writes into an
-// array of 40 bytes, and document 02 [4] lets a function that writes output have none longer than 32.
-#[tactic(auto, using(crate::proofs::DigitLaws::digit_steps))]
-pub fn put_digits(out: &mut [u8], at: usize, n: u32) -> usize
-    ensures answer { result ≡ length (digits n) }
-    ensures bytes { out.new ≡ sets out.old at (digits n) }
-{
-    if n < 10 {
-        put_byte(out, at, b'0' + n as u8);
-        return 1;
+// The digits of the greatest number of 32 bits.
+const MAX_DIGITS: usize = 10;
+
+/// Bytes written one behind another into a lent output: those that there is room for. All are counted, so that a writer
+/// over no bytes says how many there would be.
+#[derive(Drop)]
+pub struct Writer<'a> {
+    /// The place in the output where the next byte belongs. It stops at `usize::MAX`.
+    pub at: usize,
+    pub out: &'a mut [u8],
+}
+
+impl<'a> Writer<'a> {
+    /// Writes bytes.
+    #[tactic(auto, using(crate::proofs::Written::wrote))]
+    pub fn put(&mut self, s: &[u8])
+        ensures { self.new ≡ written self.old s.now }
+    {
+        put_bytes(self.out, self.at, s);
+        self.at = self.at.saturating_add(s.len());
     }
-    let before = put_digits(out, at, n / 10);
-    // A sum too great for a number is no place in the bytes either.
-    put_byte(out, at.saturating_add(before), b'0' + (n % 10) as u8);
-    before + 1
+
+    /// Writes one byte.
+    #[tactic(auto, using(crate::proofs::Written::wrote))]
+    pub fn put_byte(&mut self, c: u8)
+        ensures { self.new ≡ written self.old (c ∷ []) }
+    {
+        put_byte(self.out, self.at, c);
+        self.at = self.at.saturating_add(1);
+    }
+
+    /// Writes a number in decimal digits.
+    #[tactic(auto, using(crate::proofs::DigitLaws::ten_digits))]
+    pub fn put_number(&mut self, n: u32)
+        ensures { self.new ≡ written self.old (digits n) }
+    {
+        let mut number = [0; MAX_DIGITS];
+        let start = write_digits(n as u64, &mut number, MAX_DIGITS);
+        self.put(&number[start..]);
+    }
 }
 
 // How many decimal digits a number has.

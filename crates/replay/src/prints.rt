@@ -1,7 +1,7 @@
 // Replaying the samples of the printer.
 ghost use Rattle.std.specs.Prelude.{◌≡◌, length, nat_eq};
 ghost use Rattle.tokenizer.specs.Text.{all};
-ghost use Rattle.tokenizer.specs.Answer.{answer_of};
+ghost use Rattle.tokenizer.specs.Answer.{number_of, answer_of};
 ghost use Rattle.replay.specs.Sample.{most_words, most_bytes};
 ghost use Rattle.replay.specs.PrintCase.{print_case_at, is_answer, leaves_bytes, gives_print, one_print, print_one};
 
@@ -11,7 +11,7 @@ use crate::stored::{after_part, bytes_of, number_at, part_at, rest_at, words_at}
 use crate::{MOST_BYTES, MOST_WORDS, PrintCase, Tally, UNTOUCHED};
 use datatype::Tree;
 use display_length::Spelling;
-use tokenizer::Refusal;
+use tokenizer::{Numbered, Refusal};
 
 // What stands before the rows' words of a case.
 #[tactic(auto, unfolding(crate::specs::PrintCase::print_case_at))]
@@ -38,7 +38,7 @@ fn case_at(sample: &[u8], at: usize) -> PrintCase
 // Whether an answer has this status and this value.
 #[tactic(auto, unfolding(crate::specs::PrintCase::is_answer, arrow_types::specs::Status::status_of, arrow_types::specs::Status::value_of))]
 fn is_answer(answer: Result<usize, Refusal>, status: u32, value: u32) -> bool
-    ensures { result ≡ is_answer (answer_of answer) status value }
+    ensures { result ≡ is_answer (answer_of number_of answer) status value }
 {
     match answer {
         Ok(n) => 0 == status && n == value as usize,

@@ -2,7 +2,7 @@
 // first table, the value it is set to, and what is then to be answered.
 ghost use Rattle.std.specs.Prelude.{◌≡◌, ◌*◌, ◌/◌, length, get_or, set};
 ghost use Rattle.datatype.specs.Table.{row_words};
-ghost use Rattle.tokenizer.specs.Answer.{answer_of};
+ghost use Rattle.tokenizer.specs.Answer.{number_of, answer_of};
 ghost use Rattle.replay.specs.Sample.{most_words};
 ghost use Rattle.replay.specs.TableCase.{table_at, table_case_at, is_verdict, tree_alike, row_alike, change_alike, one_change, changes, group_cases, group_of, one_group};
 
@@ -12,7 +12,7 @@ use crate::stored::{after_part, bytes_of, number_at, words_at};
 use crate::{Answer, MOST_WORDS, Table, TableCase, Tally};
 use datatype::rows::{HOME, NAME_LENGTH, NAME_START, ROW_WORDS, ZONE_LENGTH, ZONE_START};
 use datatype::{Field, Tree};
-use tokenizer::Refusal;
+use tokenizer::{Numbered, Refusal};
 
 // What the cases of a group share: the sample, the table that they change, and the table that it is compared with.
 #[derive(Clone, Copy)]
@@ -80,8 +80,7 @@ fn word(words: &[u32], place: usize) -> u32
     words.get(place).copied().unwrap_or(0)
 }
 
-// Sets a word of a table, unless it is past its end, as `output::put_byte` does a byte. One function for both would be
-// `output`'s, which writes bytes alone, for the sake of a test.
+// Sets a word of a table, unless it is past its end.
 fn put(words: &mut [u32], place: usize, value: u32)
     ensures { words.new ≡ set words.old place value }
 {
@@ -93,7 +92,7 @@ fn put(words: &mut [u32], place: usize, value: u32)
 // Whether a verdict is this one: the value is 0 for yes, else the row's number from 1.
 #[tactic(auto, unfolding(crate::specs::TableCase::is_verdict, crate::specs::TableCase::verdict_value, arrow_types::specs::Status::status_of))]
 fn is_verdict(verdict: Result<Option<usize>, Refusal>, status: u32, value: u32) -> bool
-    ensures { result ≡ is_verdict (answer_of verdict) status value }
+    ensures { result ≡ is_verdict (answer_of number_of verdict) status value }
 {
     match verdict {
         Ok(row) => match row {

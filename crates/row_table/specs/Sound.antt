@@ -1,4 +1,4 @@
--- Sound trees, clause by clause (document 01, 'The row table'); the depth of one, and the fields of one that is a Struct.
+-- Sound trees, clause by clause (docs/SCOPE.md, 'The row table'); the depth of one, and the fields of one that is a Struct.
 use Rattle.std.specs.Prelude.{Bool, true, false, not, ◌&&◌, ◌||◌, List, [], ◌∷◌, map, ℕ, zero, suc, ◌+◌, ◌^◌, length, nat_le, nat_lt, nat_eq, if◌then◌else◌}
 use Rattle.std.proofs.Math.Option.{Option, none, some}
 use Rattle.tokenizer.specs.Text.{same, is_empty}

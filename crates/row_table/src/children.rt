@@ -62,7 +62,7 @@ impl Children<'_> {
         run.start < run.end && run.start + run.first_row().subtree() == run.end
     }
 
-    // Whether there are two children: they are whole trees, which `subtrees` cannot say of the rows that it asks it of.
+    // Whether there are two children. They are whole trees, so that the count of rows in each can be trusted.
     #[tactic(auto, using(crate::proofs::ChildLaws::counts))]
     fn are_two(self) -> bool
         ensures { result ≡ nat_eq (length (roots (trees self.entry.run.rows.now self.entry.run.start self.entry.run.end))) 2 }

@@ -4,7 +4,7 @@
 #![tactic(auto)]
 
 ghost use Rattle.std.specs.Prelude.{◌≡◌};
-ghost use Rattle.tokenizer.specs.Answer.{answer_of};
+ghost use Rattle.tokenizer.specs.Answer.{number_of, answer_of};
 ghost use Rattle.tokenizer.specs.Token.{token_or_refusal, token_at};
 ghost use Rattle.token_stream.specs.Stream.{start_of, token_of, moved_on};
 ghost use Rattle.token_stream.specs.Count.{count_of, count_tokens};
@@ -27,7 +27,7 @@ impl<'a> Tokenizer<'a> {
 
     // The token at the place.
     pub fn peek(self) -> Result<Token, Refusal>
-        ensures { answer_of result ≡ token_of self.entry }
+        ensures { answer_of number_of result ≡ token_of self.entry }
     {
         next_token(self.text, self.at)
     }
@@ -45,7 +45,7 @@ impl<'a> Tokenizer<'a> {
 
     // The token at the place, and the place moves behind it.
     pub fn next(&mut self) -> Result<Token, Refusal>
-        ensures token { answer_of result ≡ token_of self.old }
+        ensures token { answer_of number_of result ≡ token_of self.old }
         ensures place { self.new ≡ moved_on self.old }
     {
         let token = self.peek();
@@ -57,7 +57,7 @@ impl<'a> Tokenizer<'a> {
 // The place behind the token that is read at a place, or behind a word that is none; else where it would begin.
 #[tactic(auto, using(crate::proofs::CountLaws::behind_steps))]
 fn place_behind(text: &[u8], at: usize, token: Result<Token, Refusal>) -> usize
-    requires { answer_of token ≡ token_or_refusal (token_at text.now at) }
+    requires { answer_of number_of token ≡ token_or_refusal (token_at text.now at) }
     ensures { result ≡ (token_at text.now at).next }
 {
     let start = skip_spaces(text, at);
@@ -73,7 +73,7 @@ fn place_behind(text: &[u8], at: usize, token: Result<Token, Refusal>) -> usize
 // The token at or behind a place, by a tokenizer that stands there: what `tokenizer::next_token` answers. What is public
 // stays.
 pub fn token_from(text: &[u8], at: usize) -> Result<Token, Refusal>
-    ensures { answer_of result ≡ token_or_refusal (token_at text.now at) }
+    ensures { answer_of number_of result ≡ token_or_refusal (token_at text.now at) }
 {
     let tokens = Tokenizer { text, at };
     tokens.peek()

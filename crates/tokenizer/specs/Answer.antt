@@ -1,5 +1,5 @@
 -- Answers: a value, or a refusal (document 01, 'Numbers a caller may get').
-use Rattle.std.specs.Prelude.{Option, Some, None, ℕ}
+use Rattle.std.specs.Prelude.{Option, Some, None, ℕ, Bool, ◌&&◌, nat_le}
 use Rattle.std.specs.declared.result.Result.{Result}
 use Rattle.std.specs.declared.result.Result.TheVariants.{Ok, Err}
 use Rattle.tokenizer.specs.declared.refusal.Refusal as R
@@ -30,6 +30,19 @@ done a >>= f = f a
 
 -- ---- the answers of the code
 
+-- What a `Result` says, by what its error says: the value, or the refusal.
+abbrev pub answer_by : {A E : Type 0} → (E → Refusal) → Result A E → Out A
+answer_by says (Ok value) = done value
+answer_by says (Err e) = refused (says e)
+
+-- The same of an error that is a number: each crate's contracts cite it with the numbers of its own errors.
+abbrev pub answer_of : {A E : Type 0} → (E → ℕ) → Result A E → Out A
+answer_of number = answer_by (λ e. record { number = number e; place = None })
+
+-- The numbers that a refusal may have.
+abbrev pub is_number : ℕ → Bool
+is_number n = nat_le 1 n && nat_le n 31
+
 -- The number of each refusal (document 01, 'Numbers a caller may get').
 abbrev pub number_of : R.Refusal → ℕ
 number_of TextTooLong = 1
@@ -51,8 +64,3 @@ number_of TrailingText = 16
 number_of NotSound = 17
 number_of NotLatin = 18
 number_of PrintTooLong = 19
-
--- What a `Result` says: the value, or the refusal by its number.
-abbrev pub answer_of : {A : Type 0} → Result A R.Refusal → Out A
-answer_of (Ok value) = done value
-answer_of (Err e) = refuse (number_of e)

@@ -14,7 +14,7 @@ mod utf8;
 mod words;
 
 pub use edges::{EDGES, WordTable};
-pub use refusal::Refusal;
+pub use refusal::{Numbered, Refusal};
 pub use tokenizer::{is_separator, next_byte, next_token, next_token_by, skip_spaces, word_end};
 pub use utf8::is_utf8;
 

@@ -1,6 +1,6 @@
 // Numbers of signed 64 bits: a sign, and decimal digits.
 ghost use Rattle.std.specs.Prelude.{◌≡◌};
-ghost use Rattle.tokenizer.specs.Answer.{answer_of};
+ghost use Rattle.tokenizer.specs.Answer.{number_of, answer_of};
 ghost use Rattle.tokenizer.specs.Token.{word_kind};
 ghost use Rattle.tokenizer.specs.Internal.Digits.{BeginsNumber};
 
@@ -10,7 +10,7 @@ use crate::{Refusal, TokenKind};
 #[tactic(auto, using(crate::proofs::Rules::parse_steps))]
 pub(crate) fn parse_integer(word: &[u8]) -> Result<TokenKind, Refusal>
     requires { BeginsNumber word.now }
-    ensures { answer_of result ≡ word_kind word.now }
+    ensures { answer_of number_of result ≡ word_kind word.now }
 {
     let Ok(digits) = str::from_utf8(word) else {
         return Err(Refusal::UnknownWord);

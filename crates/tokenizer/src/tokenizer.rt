@@ -1,6 +1,6 @@
 // The token at a place of a text.
 ghost use Rattle.std.specs.Prelude.{◌≡◌, false, ◌+◌, ◌<◌, ◌≤◌, length, drop};
-ghost use Rattle.tokenizer.specs.Answer.{answer_of};
+ghost use Rattle.tokenizer.specs.Answer.{number_of, answer_of};
 ghost use Rattle.tokenizer.specs.Token.{token_or_refusal, is_separator, escaped_after, until_quote, string_token, token_at};
 ghost use Rattle.tokenizer.specs.Places.{after_spaces, next_byte, word_end};
 ghost use Rattle.tokenizer.specs.WordTable.{token_by};
@@ -153,7 +153,7 @@ pub(crate) fn token_of(kind: TokenKind, at: usize, size: usize) -> Token
 #[tactic(auto, using(crate::proofs::Rules::string_steps))]
 fn quoted_string(text: &[u8], at: usize, quote: u8, kind: TokenKind) -> Result<Token, Refusal>
     requires { (at < length text.now) × (quote ≤ 92) }
-    ensures { answer_of result ≡ token_or_refusal (string_token kind at (until_quote quote false (drop (at + 1) text.now))) }
+    ensures { answer_of number_of result ≡ token_or_refusal (string_token kind at (until_quote quote false (drop (at + 1) text.now))) }
 {
     let start = at + 1;
     let letters = past_letters(text, start, quote);
@@ -174,7 +174,7 @@ fn quoted_string(text: &[u8], at: usize, quote: u8, kind: TokenKind) -> Result<T
 // The token at or behind a place, a word by a walk through the table that is lent. Only the space is skipped.
 #[tactic(auto, using(crate::proofs::Rules::token_steps))]
 pub fn next_token_by(table: &WordTable, text: &[u8], from: usize) -> Result<Token, Refusal>
-    ensures { answer_of result ≡ token_or_refusal (token_by table.now text.now from) }
+    ensures { answer_of number_of result ≡ token_or_refusal (token_by table.now text.now from) }
 {
     let at = skip_spaces(text, from);
     if at >= text.len() {
@@ -194,7 +194,7 @@ pub fn next_token_by(table: &WordTable, text: &[u8], from: usize) -> Result<Toke
 // The token at or behind a place.
 #[tactic(auto, using(crate::proofs::Rules::table_steps), unfolding(crate::specs::Edges::edges))]
 pub fn next_token(text: &[u8], from: usize) -> Result<Token, Refusal>
-    ensures { answer_of result ≡ token_or_refusal (token_at text.now from) }
+    ensures { answer_of number_of result ≡ token_or_refusal (token_at text.now from) }
 {
     next_token_by(&EDGES, text, from)
 }

@@ -1,6 +1,6 @@
 // How a word becomes a token: a number, or one of the words of a table, found by a walk (specs/WordTable.antt).
 ghost use Rattle.std.specs.Prelude.{◌≡◌, false, ◌+◌, ◌/◌, ◌<◌, ◌≤◌, length, drop, get_or};
-ghost use Rattle.tokenizer.specs.Answer.{answer_of};
+ghost use Rattle.tokenizer.specs.Answer.{number_of, answer_of};
 ghost use Rattle.tokenizer.specs.Token.{token, token_or_refusal, is_separator, word_of, word_kind};
 ghost use Rattle.tokenizer.specs.WordTable.{ending, token_of_number, walk_kind, word_kind_by};
 ghost use Rattle.tokenizer.specs.Internal.Digits.{BeginsNumber};
@@ -20,7 +20,7 @@ const SPACE: u16 = 32;
 // The token with a number.
 #[tactic(auto, unfolding(crate::specs::WordTable::token_of_number))]
 fn token_of_number(number: u16) -> Result<TokenKind, Refusal>
-    ensures { answer_of result ≡ token_of_number number }
+    ensures { answer_of number_of result ≡ token_of_number number }
 {
     let n = number as u32;
     match n {
@@ -42,7 +42,7 @@ fn token_of_number(number: u16) -> Result<TokenKind, Refusal>
 #[tactic(auto, unfolding(crate::specs::WordTable::ending, crate::specs::WordTable::token_of_number))]
 fn end_kind(table: &WordTable, state: usize) -> Result<TokenKind, Refusal>
     requires { state ≤ 510 }
-    ensures { answer_of result ≡ token_of_number (ending table.now state) }
+    ensures { answer_of number_of result ≡ token_of_number (ending table.now state) }
 {
     let place = state + (SPACE as usize);
     if place >= PLACES {
@@ -68,7 +68,7 @@ fn state_behind(e: u16, b: u8) -> usize
 #[tactic(auto, using(crate::proofs::Rules::walk_steps))]
 fn walk_word(table: &WordTable, text: &[u8], at: usize) -> Result<Token, Refusal>
     requires { at < length text.now }
-    ensures { answer_of result ≡ token_or_refusal (token (walk_kind table.now (word_of (drop at text.now))) at (length (word_of (drop at text.now)))) }
+    ensures { answer_of number_of result ≡ token_or_refusal (token (walk_kind table.now (word_of (drop at text.now))) at (length (word_of (drop at text.now)))) }
 {
     let mut state = 0;
     for i in at..text.len() {
@@ -93,7 +93,7 @@ fn walk_word(table: &WordTable, text: &[u8], at: usize) -> Result<Token, Refusal
 #[tactic(auto, using(crate::proofs::Rules::number_steps))]
 fn number_token(text: &[u8], at: usize) -> Result<Token, Refusal>
     requires { (at < length text.now) × BeginsNumber (word_of (drop at text.now)) }
-    ensures { answer_of result ≡ token_or_refusal (token (word_kind (word_of (drop at text.now))) at (length (word_of (drop at text.now)))) }
+    ensures { answer_of number_of result ≡ token_or_refusal (token (word_kind (word_of (drop at text.now))) at (length (word_of (drop at text.now)))) }
 {
     let end = word_end(text, at);
     let kind = parse_integer(&text[at..end])?;
@@ -104,7 +104,7 @@ fn number_token(text: &[u8], at: usize) -> Result<Token, Refusal>
 #[tactic(auto, using(crate::proofs::Rules::word_steps), unfolding(crate::specs::WordTable::word_kind_by, crate::specs::Token::word_kind, crate::specs::Token::is_digit))]
 pub(crate) fn word_token(table: &WordTable, text: &[u8], at: usize) -> Result<Token, Refusal>
     requires { (at < length text.now) × (is_separator (get_or text.now at 0) ≡ false) }
-    ensures { answer_of result ≡ token_or_refusal (token (word_kind_by table.now (word_of (drop at text.now))) at (length (word_of (drop at text.now)))) }
+    ensures { answer_of number_of result ≡ token_or_refusal (token (word_kind_by table.now (word_of (drop at text.now))) at (length (word_of (drop at text.now)))) }
 {
     let first = text[at];
     if first == b'-' {

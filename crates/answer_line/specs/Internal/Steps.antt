@@ -14,17 +14,9 @@ pub record Answers (s before : List ℕ) (size : ℕ) (after : List ℕ) : Type 
   pub counted : size ≡ length s
   pub stored : after ≡ s ++ drop (length s) before
 
--- `no` and a number.
-unfoldable pub no_head : ℕ → List ℕ
-no_head n = bytes "no " ++ digits n
-
 -- `ok`, rows, depth, each with a space behind it.
 unfoldable pub ok_head : ℕ → ℕ → List ℕ
 ok_head rows levels = bytes "ok " ++ (digits rows ++ (bytes " " ++ (digits levels ++ bytes " ")))
-
-pub record NoLength (n r : ℕ) : Type 0 where
-  pub is : r ≡ length (no_head n)
-  pub short : r ≤ 13
 
 pub record HeadLength (rows levels r : ℕ) : Type 0 where
   pub is : r ≡ length (ok_head rows levels)

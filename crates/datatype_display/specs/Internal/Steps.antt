@@ -5,6 +5,8 @@ use Rattle.std.proofs.lemmas.List.Edits.{sets}
 use Rattle.tokenizer.specs.Text.{bytes}
 use Rattle.datatype.specs.Kind.{Shape}
 use Rattle.output.specs.Digits.{digits}
+use Rattle.output.specs.declared.Writer.{Writer}
+use Rattle.output.specs.Written.{last_place, written}
 use Rattle.display_length.specs.Display.{is_lead, escaped_from, quoted, Shown, nullity_text, field_text, shape_text, type_text, shown}
 use Rattle.row_table.specs.declared.nodes.Nodes.{Nodes}
 use Rattle.row_table.specs.Nodes.{labels_in}
@@ -15,17 +17,18 @@ use Rattle.datatype_display.specs.declared.write.Printer.{Printer}
 
 -- ---- the output
 
--- There is room for the bytes s.
+-- A writer at the printer's place.
+abbrev pub writer_of : Printer → Writer
+writer_of p = record { at = p.at; out = p.out }
+
+-- There is room for the bytes s, and places for the whole output.
 pub record Fits (p : Printer) (s : List ℕ) : Type 0 where
   pub room : p.at + length s ≤ length p.out.now
-
--- The printer when the bytes s are written: nothing else of the output has changed.
-unfoldable pub written : Printer → List ℕ → Printer
-written p s = record p { out = record p.out { now = sets p.out.now p.at s }; at = p.at + length s }
+  pub few : length p.out.now ≤ last_place
 
 -- The bytes s are written. The place and the size follow, and are said for the next call's room.
 pub record Wrote (before : Printer) (s : List ℕ) (after : Printer) : Type 0 where
-  pub is : after ≡ written before s
+  pub is : writer_of after ≡ written (writer_of before) s
   pub place : after.at ≡ before.at + length s
   pub size : length after.out.now ≡ length before.out.now
 

@@ -1,9 +1,8 @@
--- By rules alone the search does not put the two stores together.
-use native.Mathlib.Omega.{arith}
-use borrow.Author.Rules.{rules}
+-- The law of an answer at the start takes the writer before it, which a search for its parts does not.
 use mathlib.Core.Path.{refl}
-use Rattle.answer_line.proofs.Writing.{no-stored}
+use native.Mathlib.Omega.{arith}
+use Rattle.answer_line.proofs.Writing.{line_answers, no_short}
 use Rattle.answer_line.proofs.write.put_no.Goals as goal
 
 pub returns : goal.returns
-returns c = no-stored _ _ _ _ _ _ (search (rules, arith)) c.put_number-at.ensures.size c.put_number-at.ensures.bytes refl c.put_bytes.ensures
+returns c = line_answers _ _ _ c.put_no_line.ensures refl (omega (arith, no_short c.args.refusal)) (omega arith)
