@@ -36,9 +36,9 @@ extern "C" {
 #endif
 
 /* The version of the library and of this header. */
-#define ARROW_TYPES_VERSION "0.4.0"
+#define ARROW_TYPES_VERSION "0.5.0"
 #define ARROW_TYPES_VERSION_MAJOR 0
-#define ARROW_TYPES_VERSION_MINOR 4
+#define ARROW_TYPES_VERSION_MINOR 5
 #define ARROW_TYPES_VERSION_PATCH 0
 
 /* Words to a row. */
@@ -49,6 +49,9 @@ extern "C" {
 
 /* The most bytes of a text, read or printed. */
 #define ARROW_TYPES_MAX_TEXT 16384
+
+/* The bytes of a row in the archive record: an image has so many for each row, and names and zones come on top. */
+#define ARROW_TYPES_RECORD_BYTES 17
 
 /* The most bytes of stack that a call takes. */
 #define ARROW_TYPES_MAX_STACK 65536
@@ -63,8 +66,9 @@ extern "C" {
 /*
  * The numbers of the refusals. 1 to 16 are the reader's: 1 and 2 come first, then the first that is met from left to
  * right. 17 to 19 are the printer's, in that order; depth and verdict refuse with 17 alone. The check of needs refuses with
- * 17 and 25 to 27, in that order, and taking a column out with 17, 25, 29 and 28, in that order. No function here refuses
- * with 20 to 24.
+ * 17 and 25 to 27, in that order, and taking a column out with 17, 25, 29 and 28, in that order. Writing into the archive record
+ * refuses with 17 and 28, in that order, and reading from it with 30, 31 and 28, of which the first in the image counts, and then
+ * with 17. No function here refuses with 20 to 24.
  */
 enum arrow_types_refusal {
     ARROW_TYPES_TEXT_TOO_LONG = 1,       /* the text is longer than 16,384 bytes */
@@ -89,8 +93,10 @@ enum arrow_types_refusal {
     ARROW_TYPES_NOT_STRUCT = 25,         /* the root is not a Struct */
     ARROW_TYPES_TOO_MANY_NEEDS = 26,     /* there are more than 32 needs */
     ARROW_TYPES_WRONG_NEED_NAME = 27,    /* a need's name is empty or outside its text */
-    ARROW_TYPES_NO_ROOM = 28,            /* there is no room for the rows, or for their names and zones */
-    ARROW_TYPES_NO_SUCH_FIELD = 29       /* there is no such field */
+    ARROW_TYPES_NO_ROOM = 28,            /* there is no room for what is to be written */
+    ARROW_TYPES_NO_SUCH_FIELD = 29,      /* there is no such field */
+    ARROW_TYPES_WRONG_LENGTH = 30,       /* a length does not fit what is there */
+    ARROW_TYPES_UNKNOWN_KIND = 31        /* there is no such kind */
 };
 
 /* The sentence of a refusal, for a person: what the enum says of its number. 0 and other numbers are no refusal. */
@@ -125,8 +131,10 @@ static inline const char *arrow_types_sentence(uint32_t number)
         "the root is not a Struct",
         "there are more than 32 needs",
         "a need's name is empty or outside its text",
-        "there is no room for the rows, or for their names and zones",
+        "there is no room for what is to be written",
         "there is no such field",
+        "a length does not fit what is there",
+        "there is no such kind",
     };
     return sentences[number < sizeof sentences / sizeof *sentences ? number : 0];
 }
@@ -394,6 +402,52 @@ uint32_t arrow_types_take_column_out(const uint8_t *text, size_t text_length,
                                      uint32_t *rows_left, size_t rows_left_length,
                                      uint8_t *text_left, size_t text_left_length,
                                      size_t *count, size_t *length);
+
+/*
+ * Writes a tree's image: the bytes of its archive record, which has the records of its children in it.
+ *
+ * 0: the first *length bytes of out are the image, and the bytes behind them are as they were.
+ * 17: the tree is not sound; 28: the image is longer than out. The first of these counts; *length is 0, and out is as it was.
+ *
+ * An image has ARROW_TYPES_RECORD_BYTES bytes for each row, and the bytes of all names and zones: of a tree that was read,
+ * ARROW_TYPES_RECORD_BYTES for each row and text_length more are enough. Equal trees have one image, whatever their texts. A record
+ * is, each number with its lowest byte first:
+ *
+ *     4  length of the record, these 4 bytes and the children's records included
+ *     2  word 0, the kind
+ *     1  word 2, the role
+ *     1  word 3, the union id
+ *     4  word 4
+ *     1  word 5
+ *     2  length of the name, and then the name
+ *     2  length of the zone, and then the zone
+ *        the children's records, in order
+ */
+uint32_t arrow_types_to_archive(const uint8_t *text, size_t text_length,
+                                const uint8_t *names, size_t names_length,
+                                const uint32_t *rows, size_t rows_length,
+                                uint8_t *out, size_t out_length, size_t *length);
+
+/*
+ * Reads an image into lent rows, over a lent text.
+ *
+ * 0: the first ARROW_TYPES_ROW_WORDS * *count words of rows are the rows, and the first *length bytes of text are their text,
+ *    with no zero behind it; what stands behind both is as it was. The text is the names and zones end to end, by rows, the name
+ *    before the zone. The tree is sound, its name list is ARROW_TYPES_NAMES, and it has this image and no other.
+ * 30: a length is not whole, runs past its record, its parent's record or the image, or is under 17 for a record; 31: there is no
+ *    such kind; 28: there are too few words for a row, or too few bytes for a name or a zone, or they would be more than
+ *    ARROW_TYPES_MAX_ROWS rows or ARROW_TYPES_MAX_TEXT bytes. Of these the first in the image counts; then 30 once more, bytes
+ *    stand behind the root's record; then 17: what is read is no sound tree. *count and *length are 0, and all words of rows and
+ *    all bytes of text are 0.
+ *
+ * A record is judged in this order: its length, its kind, a row for it, the name's length and then room for the name, the zone's
+ * length and then room for the zone, its children. Any bytes may be lent as an image, however deep they nest. Words that make no
+ * whole row are not used. image_length / ARROW_TYPES_RECORD_BYTES rows and image_length bytes of text are enough for every image.
+ */
+uint32_t arrow_types_from_archive(const uint8_t *image, size_t image_length,
+                                  uint32_t *rows, size_t rows_length,
+                                  uint8_t *text, size_t text_length,
+                                  size_t *count, size_t *length);
 
 /*
  * Where a field's name is; home, start and size are words 6 to 8 of its row.

@@ -1,5 +1,5 @@
-/* Calls every function of the header and checks what it answers and what it leaves as it was. The last line says how
- * many checks there were; the status is 1 if one failed. */
+/* Calls every function of the header and checks what it answers and what it leaves as it was. Its argument is the folder of the
+ * golden files, bindings/images. The last line says how many checks there were; the status is 1 if one failed. */
 
 #include "arrow_types.h"
 
@@ -957,10 +957,174 @@ static void taking_out_in_order(void)
     CHECK(keeps(0, WORDS, ARROW_TYPES_MAX_TEXT, ARROW_TYPES_NO_SUCH_FIELD));
 }
 
+/* An image, with a byte before and one behind it; what is read of it, with a word and a byte before and behind. */
+enum { MOST_IMAGE = ARROW_TYPES_MAX_ROWS * ARROW_TYPES_RECORD_BYTES + ARROW_TYPES_MAX_TEXT };
+static uint8_t image[MOST_IMAGE + 2];
+static size_t image_length;
+static struct tree archived;
+
+/* Writes the tree in a into so many bytes of such as nothing writes. */
+static uint32_t to_archive(size_t bytes)
+{
+    memset(image, 'x', sizeof image);
+    image_length = UNWRITTEN;
+    return arrow_types_to_archive(TREE(&a), image + 1, bytes, &image_length);
+}
+
+/* Whether the call wrote these bytes alone. */
+static int has_image(const void *bytes, size_t length)
+{
+    return image_length == length && image[0] == 'x' && memcmp(image + 1, bytes, length) == 0
+        && untouched(image + 1 + length, sizeof image - 1 - length);
+}
+
+/* Reads an image into so many words and bytes of such as nothing writes. */
+static uint32_t from_archive(const void *bytes, size_t length, size_t words, size_t text)
+{
+    fill(left_rows, 7);
+    left_rows[WORDS] = left_rows[WORDS + 1] = 7;
+    memset(left_text, 'x', sizeof left_text);
+    for (int i = 0; i < 3; i++)
+        left_count[i] = left_length[i] = UNWRITTEN;
+    return arrow_types_from_archive(bytes, length, left_rows + 1, words, left_text + 1, text, &left_count[1], &left_length[1]);
+}
+
+/* Whether an image is refused with a number, and all that is lent is cleared, and nothing else written. */
+static int clears(const void *bytes, size_t length, size_t words, size_t text, uint32_t number)
+{
+    static const uint8_t zeros[sizeof left_text];
+    return from_archive(bytes, length, words, text) == number
+        && left_count[1] == 0 && left_length[1] == 0 && left_count[0] == UNWRITTEN && left_length[2] == UNWRITTEN
+        && left_rows[0] == 7 && all(left_rows + 1, words, 0) && all(left_rows + 1 + words, WORDS + 1 - words, 7)
+        && left_text[0] == 'x' && memcmp(left_text + 1, zeros, text) == 0
+        && untouched(left_text + 1 + text, sizeof left_text - 1 - text);
+}
+
+/* Whether a text's image has these bytes, in just as many lent and in more, and reads back as an equal tree. */
+static int archives(const char *text, const void *bytes, size_t length)
+{
+    if (read_text(&a, text) != 0)
+        return 0;
+    if (to_archive(length - 1) != ARROW_TYPES_NO_ROOM || !has_image("", 0) || image_length != 0)
+        return 0;
+    if (to_archive(length) != 0 || !has_image(bytes, length) || to_archive(MOST_IMAGE) != 0 || !has_image(bytes, length))
+        return 0;
+    if (from_archive(bytes, length, WORDS, ARROW_TYPES_MAX_TEXT) != 0)
+        return 0;
+    size_t words = left_count[1] * ARROW_TYPES_ROW_WORDS, packed = left_length[1];
+    if (words != a.words || from_archive(bytes, length, words, packed) != 0)
+        return 0;
+    if (!wrote(words / ARROW_TYPES_ROW_WORDS, packed))
+        return 0;
+    archived = (struct tree){.text = left_text + 1, .length = packed, .words = words};
+    memcpy(archived.rows, left_rows + 1, words * sizeof *left_rows);
+    int equal = arrow_types_equal(TREE(&a), TREE(&archived)) == 1 && arrow_types_is_sound(TREE(&archived)) == 1;
+    return equal && clears(bytes, length, words - 1, packed, ARROW_TYPES_NO_ROOM)
+        && (packed == 0 || clears(bytes, length, words, packed - 1, ARROW_TYPES_NO_ROOM));
+}
+
+#define ARCHIVES(text, bytes) archives(text, bytes, sizeof bytes - 1)
+#define ZEROS "\0\0\0\0\0\0\0\0\0\0\0"
+#define INT8_IMAGE "\x11\0\0\0\2\0" ZEROS
+
+static void archiving(void)
+{
+    CHECK(ARCHIVES("Int8", INT8_IMAGE));
+#define CET_IMAGE "\x26\0\0\0\x20\0" ZEROS "\x15\0\0\0\x0d\0\2\0\0\0\0\0\0\1\0" "a" "\3\0" "CET"
+    CHECK(ARCHIVES("Struct(\"a\": non-null Timestamp(s, \"CET\"))", CET_IMAGE));
+    static const uint32_t rows[] = {32, 2, 0, 0, 0, 0, 0, 0, 0, 0, 0, 0, 13, 1, 2, 0, 0, 0, 1, 0, 1, 1, 3, 0};
+    CHECK(archived.words == sizeof rows / sizeof *rows && memcmp(archived.rows, rows, sizeof rows) == 0);
+#define ITEM "\x26\0\0\0\x1b\0" ZEROS "\x15\0\0\0\2\0\1\0\0\0\0\0\0\4\0" "item" "\0\0"
+    CHECK(ARCHIVES("List(Int8)", ITEM));
+    CHECK(ARCHIVES("List(Int8, field: 'item')", ITEM));
+    CHECK(ARCHIVES("Union(Dense, 5: (\"x\": Int8))",
+                   "\x23\0\0\0\x21\0\0\0\1\0\0\0\0\0\0\0\0" "\x12\0\0\0\2\0\1\5\0\0\0\0\0\1\0" "x" "\0\0"));
+    CHECK(ARCHIVES("FixedSizeBinary(2147483647)", "\x11\0\0\0\x15\0\0\0\xff\xff\xff\x7f\0\0\0\0\0"));
+    CHECK(ARCHIVES("Decimal256(76, -128)", "\x11\0\0\0\x26\0\0\0\x4c\0\0\0\0\0\0\0\0"));
+    CHECK(ARCHIVES("Dictionary(Int8, Utf8)", "\x33\0\0\0\x22\0" ZEROS INT8_IMAGE "\x11\0\0\0\x18\0" ZEROS));
+    CHECK(from_archive(CET_IMAGE, sizeof CET_IMAGE - 1, 24, 4) == 0 && wrote(2, 4) && memcmp(left_text + 1, "aCET", 4) == 0);
+    CHECK(from_archive(ITEM, sizeof ITEM - 1, WORDS, ARROW_TYPES_MAX_TEXT) == 0 && wrote(2, 4)
+          && memcmp(left_text + 1, "item", 4) == 0);
+
+    /* 17 comes before 28, and a refusal changes nothing. */
+    CHECK(read_text(&a, "Int8") == 0);
+    a.rows[ARROW_TYPES_WORD_ROLE] = 1;
+    CHECK(to_archive(0) == ARROW_TYPES_NOT_SOUND && has_image("", 0));
+    CHECK(to_archive(MOST_IMAGE) == ARROW_TYPES_NOT_SOUND && has_image("", 0));
+}
+
+/* Whether an image is refused with a number where all may be used. */
+static int refuses(const char *bytes, size_t length, uint32_t number)
+{
+    return clears(bytes, length, WORDS, ARROW_TYPES_MAX_TEXT, number);
+}
+
+#define REFUSES(bytes, number) refuses(bytes, sizeof bytes - 1, number)
+
+static void not_archiving(void)
+{
+    CHECK(clears("", 0, 25, 3, ARROW_TYPES_WRONG_LENGTH));
+    CHECK(refuses(INT8_IMAGE, 3, ARROW_TYPES_WRONG_LENGTH));
+    CHECK(refuses(INT8_IMAGE, 16, ARROW_TYPES_WRONG_LENGTH));
+    CHECK(REFUSES("\x10\0\0\0\2\0" ZEROS, ARROW_TYPES_WRONG_LENGTH));
+    CHECK(REFUSES("\x12\0\0\0\2\0" ZEROS, ARROW_TYPES_WRONG_LENGTH));
+    CHECK(REFUSES(INT8_IMAGE "\0", ARROW_TYPES_WRONG_LENGTH));
+    CHECK(REFUSES(INT8_IMAGE INT8_IMAGE, ARROW_TYPES_WRONG_LENGTH));
+    CHECK(REFUSES("\x14\0\0\0\x20\0" ZEROS "\1\2\3", ARROW_TYPES_WRONG_LENGTH));
+    CHECK(clears("\x11\0\0\0\x29\0" ZEROS, 17, 0, 0, ARROW_TYPES_UNKNOWN_KIND));
+    CHECK(clears("\x11\0\0\0\2\1" ZEROS, 17, 0, 0, ARROW_TYPES_UNKNOWN_KIND));
+    CHECK(clears(INT8_IMAGE, 17, 0, 0, ARROW_TYPES_NO_ROOM));
+    CHECK(clears(INT8_IMAGE, 17, 11, 5, ARROW_TYPES_NO_ROOM));
+    /* The name's room comes before the zone's length. */
+#define SHORT_ZONE "\x12\0\0\0\2\0\0\0\0\0\0\0\0\2\0" "ab" "\0"
+    CHECK(clears(SHORT_ZONE, 18, 12, 1, ARROW_TYPES_NO_ROOM));
+    CHECK(clears(SHORT_ZONE, 18, 12, 2, ARROW_TYPES_WRONG_LENGTH));
+    CHECK(clears(SHORT_ZONE, 18, 0, 2, ARROW_TYPES_NO_ROOM));
+    /* A leaf with a child, a named root, a root of role 1, a zone on Int8. */
+    CHECK(REFUSES("\x22\0\0\0\2\0" ZEROS INT8_IMAGE, ARROW_TYPES_NOT_SOUND));
+    CHECK(REFUSES("\x12\0\0\0\2\0\0\0\0\0\0\0\0\1\0" "a" "\0\0", ARROW_TYPES_NOT_SOUND));
+    CHECK(REFUSES("\x11\0\0\0\2\0\1\0\0\0\0\0\0\0\0\0\0", ARROW_TYPES_NOT_SOUND));
+    CHECK(REFUSES("\x12\0\0\0\2\0\0\0\0\0\0\0\0\0\0\1\0" "a", ARROW_TYPES_NOT_SOUND));
+}
+
+/* The whole of a file. */
+static size_t file(const char *folder, const char *name, char *bytes, size_t most)
+{
+    char path[4096];
+    snprintf(path, sizeof path, "%s/%s", folder, name);
+    FILE *from = fopen(path, "rb");
+    if (from == NULL) {
+        printf("%s is not there\n", path);
+        return 0;
+    }
+    size_t length = fread(bytes, 1, most, from);
+    fclose(from);
+    return length;
+}
+
+/* Each golden file is its text's image, byte for byte. A line of texts is the file's name, a space and the text. */
+static void golden_files(const char *folder)
+{
+    static char texts[4 * ARROW_TYPES_MAX_TEXT], bytes[MOST_IMAGE];
+    unsigned files = 0;
+    size_t length = file(folder, "texts", texts, sizeof texts - 1);
+    texts[length] = 0;
+    for (char *line = texts, *end; (end = strchr(line, '\n')) != NULL; line = end + 1, files++) {
+        char *text = strchr(line, ' ');
+        *end = *text++ = 0;
+        size_t size = file(folder, line, bytes, sizeof bytes);
+        int as_stored = size >= ARROW_TYPES_RECORD_BYTES && archives(text, bytes, size);
+        if (!as_stored)
+            printf("%s differs\n", line);
+        CHECK(as_stored);
+    }
+    CHECK(files >= 12);
+}
+
 /* Every number has a sentence of its own, and no other number has one. */
 static void sentences(void)
 {
-    enum { LAST = ARROW_TYPES_NO_SUCH_FIELD };
+    enum { LAST = ARROW_TYPES_UNKNOWN_KIND };
     const char *none = arrow_types_sentence(0);
     unsigned refusals = 0;
     for (uint32_t number = 1; number <= LAST; number++) {
@@ -970,12 +1134,13 @@ static void sentences(void)
         for (uint32_t other = 1; is_refusal && other < number; other++)
             CHECK(strcmp(arrow_types_sentence(number), arrow_types_sentence(other)) != 0);
     }
-    CHECK(refusals == 24);
+    CHECK(refusals == 26);
     CHECK(strcmp(arrow_types_sentence(LAST + 1), none) == 0);
     CHECK(strcmp(arrow_types_sentence(UINT32_MAX), none) == 0);
     CHECK(strcmp(arrow_types_sentence(ARROW_TYPES_NOT_UTF8), "the text is not UTF-8") == 0);
     CHECK(strcmp(arrow_types_sentence(ARROW_TYPES_NOT_STRUCT), "the root is not a Struct") == 0);
     CHECK(strcmp(arrow_types_sentence(ARROW_TYPES_NO_SUCH_FIELD), "there is no such field") == 0);
+    CHECK(strcmp(arrow_types_sentence(ARROW_TYPES_UNKNOWN_KIND), "there is no such kind") == 0);
 }
 
 /* And every step. */
@@ -997,8 +1162,12 @@ static void version(void)
     CHECK(strcmp(text, ARROW_TYPES_VERSION) == 0);
 }
 
-int main(void)
+int main(int count, char **arguments)
 {
+    if (count != 2) {
+        fprintf(stderr, "usage: check FOLDER\n");
+        return 2;
+    }
     reading();
     places();
     lending();
@@ -1022,6 +1191,9 @@ int main(void)
     taking_out();
     taking_out_of_overlap();
     taking_out_in_order();
+    archiving();
+    not_archiving();
+    golden_files(arguments[1]);
     sentences();
     step_sentences();
     version();

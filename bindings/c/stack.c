@@ -1,4 +1,5 @@
-/* Measures how much stack the functions take for the deepest texts and trees: 64 levels of each kind that types nest in.
+/* Measures how much stack the functions take for the deepest texts and trees: 64 levels of each kind that types nest in, and for
+ * images of up to 1,025 records in one another.
  * Each call runs on a stack of its own that is painted before; what is painted over was used. The status is 1 if a call
  * takes more than ARROW_TYPES_MAX_STACK. */
 
@@ -89,6 +90,21 @@ static void take_column_out(void)
             status = 1;
 }
 
+/* The image of the tree that was read last, of a record for each row; and room for more records than there may be. */
+enum { TOO_MANY = ARROW_TYPES_MAX_ROWS + 1 };
+static uint8_t image[TOO_MANY * (ARROW_TYPES_RECORD_BYTES + 8)];
+static size_t image_length;
+
+static void to_archive(void)
+{
+    status = arrow_types_to_archive(TREE, image, sizeof image, &image_length);
+}
+
+static void from_archive(void)
+{
+    status = arrow_types_from_archive(image, image_length, back, WORDS, out, sizeof out, &count, &size);
+}
+
 static void set_parents(void)
 {
     arrow_types_set_parents(rows, words);
@@ -112,7 +128,10 @@ static struct call {
     {"arrow_types_needs", needs, 0, ""},
     {"arrow_types_take_column_out", take_column_out, 0, ""},
     {"arrow_types_set_parents", set_parents, 0, ""},
+    {"arrow_types_to_archive", to_archive, 0, ""},
+    {"arrow_types_from_archive", from_archive, 0, ""},
 };
+enum { FROM_ARCHIVE = COUNT(calls) - 1 };
 
 /* What opens a level and what closes it. A Map is two levels. */
 static const struct nest {
@@ -206,12 +225,59 @@ static int measure_all(const struct nest *nest, const struct leaf *leaf)
     return 1;
 }
 
+static void put(uint8_t *bytes, size_t number, size_t count)
+{
+    for (size_t i = 0; i < count; i++)
+        bytes[i] = (uint8_t)(number >> 8 * i);
+}
+
+/* Fills the image: so many records in one another, each of a List but for the innermost, whose kind is named. */
+static void nest_records(size_t records, uint32_t innermost)
+{
+    enum { BYTES = ARROW_TYPES_RECORD_BYTES + 4 };
+    image_length = records * BYTES - 4;
+    memset(image, 0, image_length);
+    for (size_t i = 0, at = 0; i < records; i++) {
+        int is_root = i == 0;
+        put(image + at, image_length - at, 4);
+        put(image + at + 4, i + 1 == records ? innermost : ARROW_TYPES_KIND_LIST, 2);
+        image[at + 6] = (uint8_t)!is_root;
+        put(image + at + 13, is_root ? 0 : 4, 2);
+        memcpy(image + at + 15, "item", is_root ? 0 : 4);
+        at += is_root ? ARROW_TYPES_RECORD_BYTES : BYTES;
+    }
+}
+
+/* Images that nest deeper than a type may: they are refused, by the same stack. */
+static int measure_images(void)
+{
+    static const struct {
+        size_t records;
+        uint32_t innermost, refusal;
+        const char *what;
+    } images[] = {
+        {LEVELS, ARROW_TYPES_KIND_INT8, 0, "64 records in one another, List("},
+        {LEVELS + 1, ARROW_TYPES_KIND_INT8, ARROW_TYPES_NOT_SOUND, "65 records in one another, List("},
+        {ARROW_TYPES_MAX_ROWS, ARROW_TYPES_KIND_INT8, ARROW_TYPES_NOT_SOUND, "1,024 records in one another, List("},
+        {ARROW_TYPES_MAX_ROWS, ARROW_TYPES_KIND_RUN_END_ENCODED + 1, ARROW_TYPES_UNKNOWN_KIND, "1,024 records, the last at fault, List("},
+        {TOO_MANY, ARROW_TYPES_KIND_INT8, ARROW_TYPES_NO_ROOM, "1,025 records in one another, List("},
+    };
+    int good = 1;
+    for (size_t i = 0; i < COUNT(images); i++) {
+        nest_records(images[i].records, images[i].innermost);
+        strcpy(built, images[i].what);
+        good = measure(&calls[FROM_ARCHIVE], images[i].what, images[i].refusal) && good;
+    }
+    return good;
+}
+
 int main(void)
 {
     int good = 1;
     for (size_t i = 0; i < COUNT(nests); i++)
         for (size_t j = 0; j < COUNT(leaves); j++)
             good = measure_all(&nests[i], &leaves[j]) && good;
+    good = measure_images() && good;
     printf("stack, of %d bytes at the most; a call of nothing takes %zu\n", ARROW_TYPES_MAX_STACK, stack_of(nothing));
     for (size_t i = 0; i < COUNT(calls); i++) {
         printf("%6zu %s, in %s..\n", calls[i].most, calls[i].name, calls[i].deepest);

@@ -93,11 +93,21 @@ def check_arrays():
             faults.append(f"{path.relative_to(ROOT)}: fn {function} writes output and holds {array}, longer than {arrays.MOST_HELD}")
 
 
+def linked_crates():
+    """The crates that the library for services has."""
+    lines = (ROOT / "crates.txt").read_text(encoding="utf8").splitlines()
+    return set(next(line for line in lines if line.startswith("arrow_types_c ")).split(":")[1].split())
+
+
 def check_refusals():
+    """All errors say the same of a number, and those that services can get are in the header and the Rust crate."""
     sources = [(path.relative_to(ROOT), path.read_text(encoding="utf8")) for path in sorted(ROOT.glob("crates/*/src/**/*.rt"))]
+    faults.extend(refusals.of_crates(sources)[1])
+    linked = linked_crates()
+    sources = [(path, source) for path, source in sources if path.parts[1] in linked]
     header = (ROOT / "bindings/c/arrow_types.h").read_text(encoding="utf8")
     rust = (ROOT / "bindings/rust/src/error.rs").read_text(encoding="utf8")
-    faults.extend(refusals.faults(sources, header, rust))
+    faults.extend(fault for fault in refusals.faults(sources, header, rust) if fault not in faults)
 
 
 def check_imports():

@@ -2,14 +2,15 @@
 
 use std::fmt;
 
-/// Why a text is not read, a tree not printed, needs not checked or a column not taken out: document 01's numbers a caller
-/// may get, and those of document 02.
+/// Why a text or an image is not read, a tree not printed, needs not checked or a column not taken out: the numbers that a
+/// caller may get, as docs/SCOPE.md of the repository has them.
 ///
 /// 1 to 16 are the reader's: 1 and 2 come first, then the first that is met from left to right; reading answers them in
 /// a [`ReadError`](crate::ReadError), with their place. 17 to 19 are the printer's, in that order. 25 to 27 are
 /// those of [`DataType::first_unmet`](crate::DataType::first_unmet), in that order.
-/// [`DataType::without_field`](crate::DataType::without_field) refuses with 25, 29 and 28, in that order. There is none
-/// of 20 to 24.
+/// [`DataType::without_field`](crate::DataType::without_field) refuses with 25, 29 and 28, in that order.
+/// [`DataType::from_archive`](crate::DataType::from_archive) refuses with 30, 31 and 28, of which the first in the image
+/// counts, and then with 17. There is none of 20 to 24.
 ///
 /// ```
 /// use arrow_types::{DataType, Error};
@@ -68,15 +69,19 @@ pub enum Error {
     TooManyNeeds,
     /// The name of a need is empty, or outside its text.
     WrongNeedName,
-    /// The names and zones of what stays take more than 16,384 bytes, end to end.
+    /// The names and zones of a type, end to end, take more than 16,384 bytes, or an image has more than 1,024 rows.
     NoRoom,
     /// There is no field of that number.
     NoSuchField,
+    /// A length in an image is not whole, too short, or runs past what it stands in, or bytes stand behind the image.
+    WrongLength,
+    /// An image has a kind that there is not.
+    UnknownKind,
 }
 
 impl Error {
     /// Every refusal, in the order of the numbers.
-    pub const ALL: [Error; 24] = [
+    pub const ALL: [Error; 26] = [
         Error::TextTooLong,
         Error::NotUtf8,
         Error::TooDeep,
@@ -101,9 +106,11 @@ impl Error {
         Error::WrongNeedName,
         Error::NoRoom,
         Error::NoSuchField,
+        Error::WrongLength,
+        Error::UnknownKind,
     ];
 
-    /// The refusal's number, 1 to 19 or 25 to 29.
+    /// The refusal's number, 1 to 19 or 25 to 31.
     pub fn number(self) -> u32 {
         self as u32
     }
@@ -141,8 +148,10 @@ impl Error {
             Error::NotStruct => "the root is not a Struct",
             Error::TooManyNeeds => "there are more than 32 needs",
             Error::WrongNeedName => "a need's name is empty or outside its text",
-            Error::NoRoom => "there is no room for the rows, or for their names and zones",
+            Error::NoRoom => "there is no room for what is to be written",
             Error::NoSuchField => "there is no such field",
+            Error::WrongLength => "a length does not fit what is there",
+            Error::UnknownKind => "there is no such kind",
         }
     }
 }

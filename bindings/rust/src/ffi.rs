@@ -149,6 +149,29 @@ unsafe extern "C" {
         length: *mut usize,
     ) -> u32;
 
+    fn arrow_types_to_archive(
+        text: *const u8,
+        text_length: usize,
+        names: *const u8,
+        names_length: usize,
+        rows: *const u32,
+        rows_length: usize,
+        out: *mut u8,
+        out_length: usize,
+        length: *mut usize,
+    ) -> u32;
+
+    fn arrow_types_from_archive(
+        image: *const u8,
+        image_length: usize,
+        rows: *mut u32,
+        rows_length: usize,
+        text: *mut u8,
+        text_length: usize,
+        count: *mut usize,
+        length: *mut usize,
+    ) -> u32;
+
     fn arrow_types_set_parents(rows: *mut u32, rows_length: usize);
 
     fn arrow_types_name(
@@ -427,6 +450,50 @@ pub fn take_column_out(
             rows_left.len(),
             text_left.as_mut_ptr(),
             text_left.len(),
+            &mut count,
+            &mut length,
+        )
+    };
+    answer(status, (count, length))
+}
+
+/// Writes a tree's image into a lent buffer: how many bytes are filled.
+pub fn to_archive(tree: Tree, out: &mut [u8]) -> Result<usize, Error> {
+    let mut length = 0;
+    // SAFETY: as in `is_sound`; `out`, which is borrowed mutably, and the local `length` are written.
+    let status = unsafe {
+        arrow_types_to_archive(
+            tree.text.as_ptr(),
+            tree.text.len(),
+            NAME_LIST.as_ptr(),
+            NAME_LIST.len(),
+            tree.rows.as_ptr(),
+            tree.rows.len(),
+            out.as_mut_ptr(),
+            out.len(),
+            &mut length,
+        )
+    };
+    answer(status, length)
+}
+
+/// Reads an image into lent rows and a lent text: how many rows and how many bytes are filled.
+pub fn from_archive(
+    image: &[u8],
+    rows: &mut [u32],
+    text: &mut [u8],
+) -> Result<(usize, usize), Error> {
+    let (mut count, mut length) = (0, 0);
+    // SAFETY: as in `read`; all that is written is borrowed mutably, each by itself, or a local, so it is no part of `image`,
+    // nor of one another.
+    let status = unsafe {
+        arrow_types_from_archive(
+            image.as_ptr(),
+            image.len(),
+            rows.as_mut_ptr(),
+            rows.len(),
+            text.as_mut_ptr(),
+            text.len(),
             &mut count,
             &mut length,
         )

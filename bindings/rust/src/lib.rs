@@ -1,8 +1,8 @@
 //! Reads the type texts of Apache Arrow into trees and prints them again, as the Rust crate arrow-schema 60.1.0 does.
 //!
-//! Reader, printer, rewrite, soundness, depth, equality, the layout verdict, the check of needed columns and the taking
-//! out of one are those of the proved library `arrow_types`, which is linked; this crate gives them the shape that a Rust
-//! service expects. 'Document 01' is the library's scope.
+//! Reader, printer, rewrite, soundness, depth, equality, the layout verdict, the check of needed columns, the taking out of
+//! one and the archive record are those of the proved library `arrow_types`, which is linked; this crate gives them the shape
+//! that a Rust service expects. 'Document 01' is the library's scope.
 //!
 //! A service that rewrites a text calls [`rewrite`], which reads back what it prints, so that no name and no zone is lost:
 //!
@@ -37,6 +37,7 @@
 //! Types are equal, ordered and hashed as trees, whatever their texts. [`DataType::timestamp`] and others put them together
 //! by hand; [`DataType::lossy`] shows a type in a log in any case. [`DataType::first_unmet`] says whether a type has the
 //! columns that a caller needs, and [`DataType::without_field`] takes a column out, with every name and zone of it.
+//! [`DataType::to_archive`] and [`DataType::from_archive`] write a type into the bytes of an archive record and read it from them.
 //!
 //! A text is read into rows that each thread keeps, 49,152 bytes, of which it is lent as many as its length asks for
 //! ([`rows_to_lend`]), and the rows filled are copied out of them; so a [`DataType`] has two allocations, its text and
@@ -47,6 +48,7 @@
 
 #![deny(missing_docs, unsafe_code)]
 
+mod archive;
 mod buffers;
 mod builder;
 mod children;
@@ -92,6 +94,9 @@ pub const MAX_ROWS: usize = 1_024;
 
 /// The most bytes that a text has, read or printed.
 pub const MAX_TEXT: usize = 16_384;
+
+/// The bytes of a row in the archive record; its name and its zone come on top.
+pub const RECORD_BYTES: usize = 17;
 
 /// The most needs that are checked at once.
 pub const MAX_NEEDS: usize = 32;

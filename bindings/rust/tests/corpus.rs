@@ -10,8 +10,8 @@
 use std::panic::{AssertUnwindSafe, catch_unwind};
 
 use arrow_types::{
-    DataType, Error, Field, MAX_ROWS, ROW_WORDS, ReadError, RewriteError, Spelling, Verdict, read,
-    rewrite_with, rows_to_lend,
+    DataType, Error, Field, MAX_ROWS, MAX_TEXT, ROW_WORDS, ReadError, RewriteError, Spelling,
+    Verdict, read, rewrite_with, rows_to_lend,
 };
 
 const NAME_LIST: &[u8] = b"itemrun_endsvalues";
@@ -440,4 +440,76 @@ fn prints() {
     let counts = counts_of_prints("prints", Spelling::Micro);
     assert_eq!(counts[..3], [1_963, 9, 377]);
     assert_eq!(counts[17..], [480, 179, 2]);
+}
+
+/// An image and what it is read into where so many words and bytes are lent: a text and rows, or the number of a refusal.
+struct Image {
+    words: usize,
+    bytes: usize,
+    image: Vec<u8>,
+    status: u32,
+    text: Vec<u8>,
+    rows: Vec<u32>,
+}
+
+impl Image {
+    fn of(sample: &mut Sample) -> Image {
+        let (words, bytes) = (sample.number(), sample.number());
+        let image = sample.bytes();
+        let (status, count) = (sample.number() as u32, sample.number());
+        let text = sample.bytes();
+        Image {
+            words,
+            bytes,
+            image,
+            status,
+            text,
+            rows: sample.words(count * ROW_WORDS),
+        }
+    }
+
+    /// What is counted: 0 for an image that is read, the number of a refusal, 1 for an image that has no room in what the case
+    /// lends, where all is lent here.
+    fn check(&self) -> usize {
+        let read = DataType::from_archive(&self.image);
+        let rows_lent = self.words / ROW_WORDS;
+        match (read, self.status) {
+            (Ok(read), 28) => {
+                let short = rows_lent < read.row_count() || self.bytes < read.text().len();
+                assert!(short, "{read:?}");
+                assert_eq!(read.to_archive(), self.image);
+                1
+            }
+            (Ok(read), status) => {
+                assert_eq!(status, 0);
+                assert_eq!(read.text().as_bytes(), self.text);
+                assert_eq!(read.rows(), self.rows);
+                assert_eq!(read.to_archive(), self.image);
+                0
+            }
+            (Err(error), 28) if error != Error::NoRoom => {
+                assert!(rows_lent < MAX_ROWS || self.bytes < MAX_TEXT);
+                1
+            }
+            (Err(error), status) => {
+                assert_eq!(error.number(), status);
+                status as usize
+            }
+        }
+    }
+}
+
+#[test]
+fn images() {
+    let mut sample = Sample::open("images");
+    let mut counts = [0; 32];
+    for _ in 1..sample.number() {
+        counts[Image::of(&mut sample).check()] += 1;
+    }
+    let wrong = Image::of(&mut sample);
+    fails(|| wrong.check());
+    sample.end();
+    assert_eq!(counts[..2], [971, 127]);
+    let refused = [17, 28, 30, 31].map(|number| counts[number]);
+    assert_eq!(refused, [337, 4, 380, 96]);
 }

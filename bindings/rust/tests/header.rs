@@ -2,7 +2,8 @@
 #![cfg(repository)]
 
 use arrow_types::{
-    DataType, Error, Kind, MAX_NEEDS, MAX_ROWS, MAX_STACK, MAX_TEXT, ROW_WORDS, RewriteError,
+    DataType, Error, Kind, MAX_NEEDS, MAX_ROWS, MAX_STACK, MAX_TEXT, RECORD_BYTES, ROW_WORDS,
+    RewriteError,
 };
 
 const HEADER: &str = include_str!("../../c/arrow_types.h");
@@ -129,6 +130,7 @@ fn limits() {
         ("NAMES_LENGTH", 18),
         ("MAX_NEEDS", MAX_NEEDS),
         ("MAX_STACK", MAX_STACK),
+        ("RECORD_BYTES", RECORD_BYTES),
     ] {
         let line = format!("#define ARROW_TYPES_{name} {value}\n");
         assert!(HEADER.contains(&line), "{line}");

@@ -16,10 +16,12 @@ ghost use Rattle.datatype_parse.specs.RowsToLend.{rows_to_lend};
 ghost use Rattle.datatype_display.specs.Print.{default_spelling, print_answer, print_bytes};
 ghost use Rattle.display_length.specs.declared.words.Spelling.TheVariants.{Micro};
 
+mod archived;
 mod needed;
 mod rewritten;
 mod taken;
 
+pub use archived::{arrow_types_from_archive, arrow_types_to_archive};
 use datatype::{Field, Tree};
 use display_length::Spelling;
 pub use needed::arrow_types_needs;

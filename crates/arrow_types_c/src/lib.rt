@@ -13,6 +13,7 @@ ghost use Rattle.layout.specs.Layout.{verdict_of};
 ghost use Rattle.needs.specs.Needs.{needs_of};
 ghost use Rattle.packed.specs.Packed.{rows_answered, bytes_answered};
 ghost use Rattle.column_out.specs.ColumnOut.{column_out_answer, column_out_rows, column_out_bytes};
+ghost use Rattle.archive.specs.Archive.{archive_answer, archive_bytes, unarchive_answer, unarchive_rows, unarchive_text};
 ghost use Rattle.datatype_parse.specs.Parse.{parse_answer, parse_rows};
 ghost use Rattle.datatype_parse.specs.RowsToLend.{rows_to_lend};
 ghost use Rattle.datatype_display.specs.Print.{default_spelling, print_answer, print_bytes};
@@ -258,4 +259,38 @@ pub extern "C" fn arrow_types_take_column_out<'a>(
     arrow_types::arrow_types_take_column_out(
         text, names, rows, field, rows_left, text_left, count, length,
     )
+}
+
+// Writes a tree's image, the bytes of its archive record, into a lent buffer.
+#[unsafe(no_mangle)]
+pub extern "C" fn arrow_types_to_archive<'a>(
+    text: &'a [u8],
+    names: &'a [u8],
+    rows: &[u32],
+    out: &mut [u8],
+    length: &mut usize,
+) -> u32
+    ensures status { result ≡ status_of (archive_answer text.now names.now rows.now out.old) }
+    ensures value { length.new ≡ value_of (archive_answer text.now names.now rows.now out.old) }
+    ensures bytes { out.new ≡ archive_bytes text.now names.now rows.now out.old }
+{
+    arrow_types::arrow_types_to_archive(text, names, rows, out, length)
+}
+
+// Reads an image into lent rows, over a lent text.
+#[unsafe(no_mangle)]
+pub extern "C" fn arrow_types_from_archive(
+    image: &[u8],
+    rows: &mut [u32],
+    text: &mut [u8],
+    count: &mut usize,
+    length: &mut usize,
+) -> u32
+    ensures status { result ≡ status_of (unarchive_answer image.now rows.old text.old) }
+    ensures count { count.new ≡ rows_answered (unarchive_answer image.now rows.old text.old) }
+    ensures length { length.new ≡ bytes_answered (unarchive_answer image.now rows.old text.old) }
+    ensures contents { rows.new ≡ unarchive_rows image.now rows.old text.old }
+    ensures bytes { text.new ≡ unarchive_text image.now rows.old text.old }
+{
+    arrow_types::arrow_types_from_archive(image, rows, text, count, length)
 }

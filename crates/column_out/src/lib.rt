@@ -26,7 +26,7 @@ pub enum NotTaken {
     NotSound = 17,
     #[error("the root is not a Struct")]
     NotStruct = 25,
-    #[error("there is no room for the rows, or for their names and zones")]
+    #[error("there is no room for what is to be written")]
     NoRoom = 28,
     #[error("there is no such field")]
     NoSuchField = 29,

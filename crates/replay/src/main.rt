@@ -5,6 +5,7 @@
 
 ghost use Rattle.std.specs.Prelude.{◌≡◌, ◌≤◌, length, take};
 
+use images::Images;
 use prints::{AsMicro, AsUs, Prints};
 use samples::{Sample, replay};
 use std::fs::File;
@@ -14,6 +15,7 @@ use tables::Tables;
 use texts::{RowsToLend, Stored, Texts};
 
 mod counts;
+mod images;
 mod prints;
 mod samples;
 mod stored;
@@ -73,6 +75,15 @@ struct PrintCase {
     printed: Number,
     count: u32,
     next: usize,
+}
+
+// A stored case of the archive, but for the rows' words: what is said of the rows, where the image stands as a text does, the
+// bytes lent, and the packed text.
+#[derive(Clone, Copy)]
+struct ImageCase {
+    read: ReadCase,
+    bytes: u32,
+    text: Number,
 }
 
 // A stored table, but for its words: the text, the name list, how many words, and the place of the words.
@@ -162,5 +173,7 @@ fn main(rt: HostRuntime) -> io::Result<()> {
     replay_and_print(&rt, " prints, ", &mut Prints::new(AsMicro), &sample[..k])?;
     let j = load(&rt, "prints_us", &mut sample);
     let plain = " prints with plain us, ";
-    replay_and_print(&rt, plain, &mut Prints::new(AsUs), &sample[..j])
+    replay_and_print(&rt, plain, &mut Prints::new(AsUs), &sample[..j])?;
+    let i = load(&rt, "images", &mut sample);
+    replay_and_print(&rt, " images, ", &mut Images::new(), &sample[..i])
 }

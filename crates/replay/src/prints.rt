@@ -47,7 +47,7 @@ fn is_answer(answer: Result<usize, Refusal>, status: u32, value: u32) -> bool
 }
 
 // Whether all bytes have a value.
-fn all_are(bytes: &[u8], value: u8) -> bool
+pub(crate) fn all_are(bytes: &[u8], value: u8) -> bool
     ensures { result ≡ all (nat_eq value) bytes.now }
 {
     bytes.iter().all(|b| value == *b)

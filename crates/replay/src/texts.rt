@@ -80,7 +80,7 @@ fn rest(status: u32) -> u32
 
 // Fills words with those that the reader is to leave: the place behind those of them that are stored.
 #[tactic(auto, unfolding(crate::specs::ReadCase::left_words, crate::specs::ReadCase::after_case))]
-fn left_words(sample: &[u8], case: ReadCase, left: &mut [u32]) -> usize
+pub(crate) fn left_words(sample: &[u8], case: ReadCase, left: &mut [u32]) -> usize
     ensures place { result ≡ after_case sample.now case (length left.old) }
     ensures words { left.new ≡ left_words sample.now case (length left.old) }
 {

@@ -1,6 +1,8 @@
 //! The comparisons. Every text goes to the model, to the Rust where it has a say, and to the port
-//! if it is there; every tree goes to their printers, and to the check of needed columns, and has columns taken out.
+//! if it is there; every tree goes to their printers, to the check of needed columns and into the archive record, and has columns
+//! taken out.
 
+mod archive;
 mod column_out;
 mod needs;
 
@@ -46,6 +48,8 @@ pub struct Check<'s> {
     pub needs: needs::Tally,
     /// Columns taken out.
     pub taken: column_out::Tally,
+    /// Images of the archive record, written and read.
+    pub archive: archive::Tally,
     pub counts: Counts,
 }
 
@@ -63,6 +67,7 @@ impl<'s> Check<'s> {
             placed: 0,
             needs: needs::Tally::new(seed),
             taken: column_out::Tally::new(seed),
+            archive: archive::Tally::new(seed),
             counts: [0; 20],
         }
     }
@@ -192,6 +197,7 @@ impl<'s> Check<'s> {
         self.port_and_rust(tree, &rust);
         self.needs(tree, Some(data_type));
         self.columns_out(tree, Some(data_type));
+        self.archives(tree, Some(data_type));
     }
 
     /// A tree that is sound by the way it was made.
@@ -265,15 +271,24 @@ impl<'s> Check<'s> {
         self.subject_prints(tree, &printed);
         self.needs(tree, None);
         self.columns_out(tree, None);
+        self.archives(tree, None);
     }
 
-    /// Two sound trees: equal by the model exactly if the Rust's types are equal. Answers whether.
+    /// Two sound trees: equal by the model exactly if the Rust's types are equal, and if their images are. Answers whether.
     pub fn pair(&mut self, a: &Tree, b: &Tree) -> bool {
         let types = [a, b].map(|tree| oracle::data_type(&tree.text, &tree.list, &tree.words));
         let rows = [a, b].map(|tree| model::from_words(&tree.words));
         let equal = model::equal((&a.text, &a.list, &rows[0]), (&b.text, &b.list, &rows[1]));
         if equal != (types[0] == types[1]) {
             self.differ_tree(a, &format!("equal by the model: {equal}, to {:?}", b.words));
+        }
+        let images =
+            [a, b].map(|tree| crate::archive::image((&tree.text, &tree.list, &tree.words)));
+        if equal != (images[0] == images[1]) {
+            self.differ_tree(
+                a,
+                &format!("equal: {equal}, in the archive not, to {:?}", b.words),
+            );
         }
         equal
     }

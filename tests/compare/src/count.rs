@@ -1,9 +1,10 @@
-//! How many instructions port and Rust take to read and print the texts of speed.rs. Valgrind's
+//! How many instructions port and Rust take to read and print the texts of speed.rs, and to write and read their images. Valgrind's
 //! callgrind counts those of this program, which repeats one of them N times and 2 N times; the
 //! difference is what N repetitions take. Unlike times they are the same in every run, but for one or two.
 
+use crate::archive;
 use crate::model::{MOST_BYTES, MOST_ROWS, NAME_LIST, Spelling, WORDS};
-use crate::speed::texts;
+use crate::speed::{shapes, texts};
 use crate::subject::{Linked, Subject};
 use arrow_schema::DataType;
 use std::hint::black_box;
@@ -16,6 +17,15 @@ const BYTES: usize = 40_000;
 const SIDES: [&str; 3] = ["rust", "port", "fewer"];
 
 pub fn run() -> Result<ExitCode, String> {
+    reading()?;
+    let printed = printing()?;
+    archiving(&printed)?;
+    unarchiving()?;
+    growing()?;
+    Ok(ExitCode::SUCCESS)
+}
+
+fn reading() -> Result<(), String> {
     println!(
         "instructions for one text, by valgrind's callgrind. The port is lent 1,024 rows, or those"
     );
@@ -31,6 +41,12 @@ pub fn run() -> Result<ExitCode, String> {
             rust / fewer,
         );
     }
+    Ok(())
+}
+
+/// What the port takes to print each text that is accepted, by its number.
+fn printing() -> Result<Vec<(usize, f64)>, String> {
+    let mut printed = Vec::new();
     println!("\nthe same, printing what was read; the port is lent 16,384 bytes.");
     println!("text                      bytes       Rust       port  times");
     for (number, (name, text)) in texts().iter().enumerate() {
@@ -44,8 +60,89 @@ pub fn run() -> Result<ExitCode, String> {
             "{name:<24} {bytes:>6} {rust:>10.0} {port:>10.0} {:>6.1}",
             rust / port
         );
+        printed.push((number, port));
     }
-    Ok(ExitCode::SUCCESS)
+    Ok(printed)
+}
+
+/// Writing the image of each text that is accepted, beside printing the same tree.
+fn archiving(printed: &[(usize, f64)]) -> Result<(), String> {
+    println!(
+        "\nthe same, writing the image of what was read; the part is that of what printing takes."
+    );
+    println!("text                      bytes plain Rust       port  times   printing   part");
+    let texts = texts();
+    for (number, print) in printed {
+        let (name, text) = &texts[*number];
+        let bytes = image(text).len();
+        let rust = counted("archive", *number, "rust", bytes)?;
+        let port = counted("archive", *number, "port", bytes)?;
+        println!(
+            "{name:<24} {bytes:>6} {rust:>10.0} {port:>10.0} {:>6.1} {print:>10.0} {:>6.2}",
+            rust / port,
+            port / print,
+        );
+    }
+    Ok(())
+}
+
+/// Reading each image, beside reading the printed text.
+fn unarchiving() -> Result<(), String> {
+    println!(
+        "\nthe same, reading the image; the part is that of what reading the printed text takes, or the text, where"
+    );
+    println!("the printed one is refused, with the rows that rows_to_lend says.");
+    println!("text                      bytes plain Rust       port  times    reading   part");
+    for (number, (name, text)) in texts().iter().enumerate() {
+        if text.parse::<DataType>().is_err() {
+            continue;
+        }
+        let bytes = image(text).len();
+        let rust = counted("unarchive", number, "rust", bytes)?;
+        let port = counted("unarchive", number, "port", bytes)?;
+        let read = counted("again", number, "fewer", text.len())?;
+        println!(
+            "{name:<24} {bytes:>6} {rust:>10.0} {port:>10.0} {:>6.1} {read:>10.0} {:>6.2}",
+            rust / port,
+            port / read,
+        );
+    }
+    Ok(())
+}
+
+/// What writing and reading take by the bytes of a name, and by depth.
+fn growing() -> Result<(), String> {
+    println!("\nthe same, writing and reading images of one shape and another.");
+    println!("shape                     bytes    writing    reading");
+    let first = texts().len();
+    let mut taken = Vec::new();
+    for (number, (name, text)) in shapes().iter().enumerate() {
+        let bytes = image(text).len();
+        let write = counted("archive", first + number, "port", bytes)?;
+        let read = counted("unarchive", first + number, "port", bytes)?;
+        println!("{name:<24} {bytes:>6} {write:>10.0} {read:>10.0}");
+        taken.push((bytes as f64, write, read));
+    }
+    let [one, long, deep, flat] = taken[..] else {
+        return Err("four shapes".into());
+    };
+    let bytes = long.0 - one.0;
+    let (write, read) = ((long.1 - one.1) / bytes, (long.2 - one.2) / bytes);
+    println!("a byte of a name more: {write:.2} and {read:.2}");
+    let (write, read) = (deep.1 / flat.1, deep.2 / flat.2);
+    println!("64 levels, of what as many rows beside one another take: {write:.2} and {read:.2}");
+    Ok(())
+}
+
+/// The image of a text's tree, by the port.
+fn image(text: &str) -> Vec<u8> {
+    let mut rows = vec![0; MOST_ROWS * WORDS];
+    let count = Linked.read(text.as_bytes(), &mut rows).expect("read");
+    let mut out = vec![0; MOST_ROWS * archive::FIXED_BYTES + MOST_BYTES];
+    let table = (text.as_bytes(), NAME_LIST, &rows[..count * WORDS]);
+    let length = Linked.write_archive(table, &mut out).expect("written");
+    out.truncate(length);
+    out
 }
 
 /// The instructions of one reading or printing.
@@ -75,14 +172,18 @@ fn collected(act: &str, text: usize, side: &str, times: usize) -> Result<u64, St
     }
 }
 
-/// Reads or prints a text again and again: `repeat read|print TEXT rust|port|fewer TIMES`.
+/// Does one of these with a text again and again: `repeat read|print|again|archive|unarchive TEXT rust|port|fewer TIMES`.
 pub fn repeat(arguments: &[String]) -> Result<ExitCode, String> {
     let [act, text, side, times] = arguments else {
         return Err("repeat takes four words".into());
     };
     let number = |word: &String| word.parse::<usize>().map_err(|error| error.to_string());
     let (text, times) = (number(text)?, number(times)?);
-    let (_, text) = texts().into_iter().nth(text).ok_or("no such text")?;
+    let (_, text) = texts()
+        .into_iter()
+        .chain(shapes())
+        .nth(text)
+        .ok_or("no such text")?;
     let side = SIDES
         .iter()
         .position(|name| name == side)
@@ -90,7 +191,10 @@ pub fn repeat(arguments: &[String]) -> Result<ExitCode, String> {
     match act.as_str() {
         "read" => read(&text, side, times),
         "print" => print(&text, side, times),
-        _ => return Err(format!("{act} is neither read nor print")),
+        "again" => read(&printed(&text), side, times),
+        "archive" => write_archive(&text, side, times),
+        "unarchive" => read_archive(&text, side, times),
+        _ => return Err(format!("{act} is nothing that is counted")),
     }
     Ok(ExitCode::SUCCESS)
 }
@@ -127,6 +231,54 @@ fn print(text: &str, side: usize, times: usize) {
                 let out = black_box(&mut out);
                 let printed = Linked.print(Spelling::Micro, text, NAME_LIST, rows, out);
                 black_box(printed.expect("printed"))
+            }
+        };
+    }
+}
+
+/// What the port prints of a text, where that is read; else the text.
+fn printed(text: &str) -> String {
+    let mut rows = vec![0; MOST_ROWS * WORDS];
+    let count = Linked.read(text.as_bytes(), &mut rows).expect("read");
+    let mut out = vec![0; MOST_BYTES];
+    let words = &rows[..count * WORDS];
+    let length = Linked.print(Spelling::Us, text.as_bytes(), NAME_LIST, words, &mut out);
+    out.truncate(length.expect("printed"));
+    match Linked.read(&out, &mut rows) {
+        Ok(_) => String::from_utf8(out).expect("UTF-8"),
+        Err(_) => text.into(),
+    }
+}
+
+fn write_archive(text: &str, side: usize, times: usize) {
+    let mut rows = vec![0; MOST_ROWS * WORDS];
+    let count = Linked.read(text.as_bytes(), &mut rows).expect("read");
+    let rows = &rows[..count * WORDS];
+    let mut out = vec![0; MOST_ROWS * archive::FIXED_BYTES + MOST_BYTES];
+    for _ in 0..times {
+        let table = (black_box(text).as_bytes(), NAME_LIST, black_box(rows));
+        match side {
+            0 => black_box(archive::image(table).expect("an image").len()),
+            _ => black_box(
+                Linked
+                    .write_archive(table, black_box(&mut out))
+                    .expect("an image"),
+            ),
+        };
+    }
+}
+
+fn read_archive(text: &str, side: usize, times: usize) {
+    let image = image(text);
+    let (mut rows, mut out) = (vec![0; MOST_ROWS * WORDS], vec![0; MOST_BYTES]);
+    let lent = (rows.len(), out.len());
+    for _ in 0..times {
+        let image = black_box(&*image);
+        match side {
+            0 => black_box(archive::read(image, lent).1.is_none()),
+            _ => {
+                let (rows, out) = (black_box(&mut rows), black_box(&mut out));
+                black_box(Linked.read_archive(image, rows, out).is_ok())
             }
         };
     }

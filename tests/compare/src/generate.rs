@@ -1,5 +1,6 @@
 //! Generators of texts and trees. Each is fixed by its seed and counts.
 
+pub mod archive;
 pub mod bytes;
 pub mod column_out;
 pub mod damage;

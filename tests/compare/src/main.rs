@@ -1,11 +1,13 @@
 //! Compares the model, the supplied Rust and, once it is linked, the port, on generated texts and
 //! trees. README.md says more.
 
+mod archive;
 mod check;
 mod column_out;
 #[cfg(feature = "subject")]
 mod count;
 mod generate;
+mod images;
 mod known;
 mod lines;
 mod model;
@@ -30,7 +32,7 @@ use std::io::Read;
 use std::process::ExitCode;
 
 const USAGE: &str = "\
-compare run [seed=N] [sequences=N] [texts=N] [trees=N] [columns=N]
+compare run [seed=N] [sequences=N] [texts=N] [trees=N] [columns=N] [images=N]
     compares generated texts and trees; exit status 1 if any difference is found
 compare texts FILE [seed=N]
     writes texts with their answers, for a replay without Rust
@@ -40,6 +42,10 @@ compare prints FILE [seed=N]
     writes trees with what they print in the Rust's spelling, for the same
 compare prints_us FILE [seed=N]
     writes trees that have microseconds with what they print in the default spelling, for the same
+compare images FILE [seed=N]
+    writes images of the archive, damaged ones too, with what they are read into, for the same
+compare golden FOLDER
+    writes the images of some types, which are to stay as they are
 compare service [seed=N] [texts=N]
     compares the crate that services use with the Rust (with the feature subject)
 compare show
@@ -72,15 +78,20 @@ fn command(arguments: &[String]) -> Result<ExitCode, String> {
     match name.as_str() {
         "run" => run(&settings(
             rest,
-            &["seed", "sequences", "texts", "trees", "columns"],
+            &["seed", "sequences", "texts", "trees", "columns", "images"],
         )?),
-        "texts" | "tables" | "prints" | "prints_us" => {
+        "golden" => match rest {
+            [folder] => images::golden(folder),
+            _ => Err("not one folder".into()),
+        },
+        "texts" | "tables" | "prints" | "prints_us" | "images" => {
             let (file, rest) = rest.split_first().ok_or("no file")?;
             let seed = settings(rest, &["seed"])?.get("seed").copied().unwrap_or(1);
             match name.as_str() {
                 "texts" => sample::texts(file, seed),
                 "prints" => prints::prints(file, seed),
                 "prints_us" => prints::prints_us(file, seed),
+                "images" => images::images(file, seed),
                 _ => sample::tables(file, seed),
             }
         }
@@ -197,6 +208,7 @@ fn run(settings: &BTreeMap<String, u64>) -> Result<ExitCode, String> {
     let text_count = setting("texts", 600_000) as usize;
     let tree_count = setting("trees", 400_000) as usize;
     let column_count = setting("columns", 200_000) as usize;
+    let image_count = setting("images", 100_000) as usize;
     let subject = subject::linked();
     let mut report = Report {
         check: Check::new(subject.as_deref(), seed),
@@ -349,12 +361,16 @@ fn run(settings: &BTreeMap<String, u64>) -> Result<ExitCode, String> {
     );
     report.check.columns(column_count);
     report.check.long_names(column_count / 50);
+    report.check.archive(image_count);
     let (needs, taken) = (&report.check.needs, &report.check.taken);
+    let archive = &report.check.archive;
     needs.print();
     taken.print();
+    archive.print();
     let differences = report.check.differences();
     println!("\ndifferences: {differences}");
-    Ok(if differences == 0 && needs.is_full() && taken.is_full() {
+    let full = needs.is_full() && taken.is_full() && archive.is_full();
+    Ok(if differences == 0 && full {
         ExitCode::SUCCESS
     } else {
         ExitCode::FAILURE

@@ -825,7 +825,7 @@ fn parent(node: &Node) -> bool {
 }
 
 /// Kind, word 4 and word 5.
-fn numbers(row: &Row) -> bool {
+pub fn numbers(row: &Row) -> bool {
     let number = row.number;
     let scale = i64::from(row.scale) - 128;
     match row.kind {

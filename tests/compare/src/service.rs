@@ -1,6 +1,8 @@
 //! The crate that services use, in bindings/rust, beside the Rust: reading, every field's view, the classes of types,
-//! printing as `µs`, rewriting and equality; beside the model number and place of a refused text, and printing in the default spelling.
+//! printing as `µs`, rewriting and equality; beside the model number and place of a refused text, printing in the default spelling,
+//! and the image of the archive record, written and read back.
 
+use crate::archive;
 use crate::generate::{Random, Visit, damage, limits, places, texts};
 use crate::model::{self, Limits, MOST_BYTES, MOST_ROWS, NAME_LIST};
 use crate::oracle::{self, Answer, ErrorKind, Row};
@@ -79,6 +81,7 @@ fn trees(read: &DataType, rust: &arrow_schema::DataType, rows: &[Row]) -> Result
     if classes != [rust.is_nested(), rust.is_numeric(), rust.is_temporal()] {
         return Err(format!("{read:?} nested, numeric, temporal: {classes:?}"));
     }
+    archived(read)?;
     let plain = printed_by_default(read)?;
     let printed = match (read.print_with(Spelling::Micro), rust.to_string()) {
         (Ok(printed), other) if printed == other => printed,
@@ -121,6 +124,19 @@ fn printed_by_default(read: &DataType) -> Result<Result<String, Error>, String> 
     };
     same.then(|| printed.clone())
         .ok_or_else(|| format!("prints {printed:?} by default, and the model {model:?}"))
+}
+
+/// Whether the image is the model's, and reads back as the type.
+fn archived(read: &DataType) -> Result<(), String> {
+    let model = archive::image((read.text().as_bytes(), NAME_LIST, read.rows()));
+    let image = read.to_archive();
+    let back = DataType::from_archive(&image);
+    if Ok(&image) == model.as_ref() && back.as_ref() == Ok(read) {
+        return Ok(());
+    }
+    Err(format!(
+        "{read:?} archived as {image:?} and read back as {back:?}"
+    ))
 }
 
 /// Whether all characters of a row's name and zone are up to U+017F.

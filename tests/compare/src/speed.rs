@@ -1,6 +1,7 @@
 //! How fast the port reads beside the Rust's `from_str` and prints beside its `to_string`: the same
-//! texts, in one process, in turn.
+//! texts, in one process, in turn; and writes and reads the image of each beside the plain Rust of `archive`.
 
+use crate::archive;
 use crate::model::{MOST_BYTES, MOST_ROWS, NAME_LIST, Spelling, WORDS};
 use crate::subject::{Linked, Subject};
 use arrow_schema::DataType;
@@ -17,6 +18,7 @@ const BYTES: usize = 4_000_000;
 pub fn run() -> ExitCode {
     read();
     print();
+    archives();
     refuse();
     ExitCode::SUCCESS
 }
@@ -74,6 +76,53 @@ fn print() {
             "{name:<22} {:>7} {count:>6} {rust:>8.0} {port:>8.0} {:>6.1}",
             data_type.to_string().len(),
             rust / port,
+        );
+    }
+}
+
+/// Writing and reading images; the tables of count.rs say what part of printing and reading a text they take.
+fn archives() {
+    println!(
+        "\nthe same, writing the image of what was read, and reading it; 1,024 rows and 16,384 bytes are lent."
+    );
+    println!(
+        "text                     bytes   writing: Rust     port  times   reading: Rust     port  times"
+    );
+    for (name, text) in texts() {
+        let mut rows = vec![0; MOST_ROWS * WORDS];
+        let Ok(count) = Linked.read(text.as_bytes(), &mut rows) else {
+            continue;
+        };
+        let rows = &rows[..count * WORDS];
+        let table = (text.as_bytes(), NAME_LIST, rows);
+        let image = archive::image(table).expect("an image");
+        let mut out = vec![0; image.len()];
+        assert_eq!(Linked.write_archive(table, &mut out), Ok(image.len()));
+        assert_eq!(out, image);
+        let (mut read, mut packed) = (vec![0; MOST_ROWS * WORDS], vec![0; MOST_BYTES]);
+        let lent = (read.len(), packed.len());
+        let write_rust = fastest(&text, |_| {
+            black_box(archive::image(black_box(table)).is_ok());
+        });
+        let write_port = fastest(&text, |_| {
+            black_box(
+                Linked
+                    .write_archive(black_box(table), black_box(&mut out))
+                    .is_ok(),
+            );
+        });
+        let read_rust = fastest(&text, |_| {
+            black_box(archive::read(black_box(&image), lent).1.is_none());
+        });
+        let read_port = fastest(&text, |_| {
+            let (read, packed) = (black_box(&mut read), black_box(&mut packed));
+            black_box(Linked.read_archive(black_box(&image), read, packed).is_ok());
+        });
+        println!(
+            "{name:<22} {:>7} {write_rust:>15.0} {write_port:>8.0} {:>6.1} {read_rust:>15.0} {read_port:>8.0} {:>6.1}",
+            image.len(),
+            write_rust / write_port,
+            read_rust / read_port,
         );
     }
 }
@@ -180,5 +229,25 @@ pub fn texts() -> Vec<(&'static str, String)> {
             format!("Struct(\"{}\": Int8)", "\t".repeat(8_000)),
         ),
         ("refused", refused),
+    ]
+}
+
+/// Types by which is seen what a name's bytes and what depth costs: one field with a name of a letter and of 16,000, and lists
+/// in one another beside a Struct of as many rows and as many bytes.
+pub fn shapes() -> Vec<(&'static str, String)> {
+    vec![
+        ("a name of one letter", "Struct(\"n\": Int8)".into()),
+        (
+            "a name of 16,000 letters",
+            format!("Struct(\"{}\": Int8)", "n".repeat(16_000)),
+        ),
+        (
+            "64 levels of lists",
+            format!("{}Int8{}", "List(".repeat(63), ")".repeat(63)),
+        ),
+        (
+            "63 fields beside",
+            format!("Struct({})", "\"item\": Int8, ".repeat(63)),
+        ),
     ]
 }

@@ -1,6 +1,7 @@
 //! The port: the static library of the crate `arrow_types`, linked with the feature `subject` (build.rs).
 //! Without that feature only model and Rust are compared.
 
+use crate::archive;
 use crate::column_out;
 use crate::model::{Refused, Spelling};
 #[cfg(feature = "subject")]
@@ -36,6 +37,12 @@ pub trait Subject {
         rows: &mut [u32],
         text: &mut [u8],
     ) -> column_out::Answer;
+
+    /// Writes a tree's image into `out` and answers its length.
+    fn write_archive(&self, tree: Table, out: &mut [u8]) -> archive::Written;
+
+    /// Reads an image into `rows` and `text` and answers row count and packed length.
+    fn read_archive(&self, image: &[u8], rows: &mut [u32], text: &mut [u8]) -> archive::Answer;
 }
 
 #[cfg(not(feature = "subject"))]
@@ -118,6 +125,29 @@ unsafe extern "C" {
         rows_left_length: usize,
         text_left: *mut u8,
         text_left_length: usize,
+        count: *mut usize,
+        length: *mut usize,
+    ) -> u32;
+
+    fn arrow_types_to_archive(
+        text: *const u8,
+        text_length: usize,
+        names: *const u8,
+        names_length: usize,
+        rows: *const u32,
+        rows_length: usize,
+        out: *mut u8,
+        out_length: usize,
+        length: *mut usize,
+    ) -> u32;
+
+    fn arrow_types_from_archive(
+        image: *const u8,
+        image_length: usize,
+        rows: *mut u32,
+        rows_length: usize,
+        text: *mut u8,
+        text_length: usize,
         count: *mut usize,
         length: *mut usize,
     ) -> u32;
@@ -237,6 +267,43 @@ impl Subject for Linked {
                 rows_left.len(),
                 text_left.as_mut_ptr(),
                 text_left.len(),
+                &mut count,
+                &mut length,
+            )
+        };
+        let (count, length) = (answer(status, count), answer(status, length));
+        Ok((count?, length?))
+    }
+
+    fn write_archive(&self, (text, list, rows): Table, out: &mut [u8]) -> archive::Written {
+        let mut length = usize::MAX;
+        let status = unsafe {
+            arrow_types_to_archive(
+                text.as_ptr(),
+                text.len(),
+                list.as_ptr(),
+                list.len(),
+                rows.as_ptr(),
+                rows.len(),
+                out.as_mut_ptr(),
+                out.len(),
+                &mut length,
+            )
+        };
+        answer(status, length)
+    }
+
+    fn read_archive(&self, image: &[u8], rows: &mut [u32], text: &mut [u8]) -> archive::Answer {
+        let mut count = usize::MAX;
+        let mut length = usize::MAX;
+        let status = unsafe {
+            arrow_types_from_archive(
+                image.as_ptr(),
+                image.len(),
+                rows.as_mut_ptr(),
+                rows.len(),
+                text.as_mut_ptr(),
+                text.len(),
                 &mut count,
                 &mut length,
             )

@@ -1,6 +1,7 @@
 //! Tests of the harness itself: parts of the model that nothing else shows, and that a port with a
 //! fault is caught.
 
+mod archive;
 mod column_out;
 mod needs;
 
@@ -359,6 +360,8 @@ enum Fault {
     Needs(needs::Fault),
     /// One in taking a column out.
     ColumnOut(column_out::Fault),
+    /// One in the archive.
+    Archive(archive::Fault),
 }
 
 /// The model as a port, with a fault.
@@ -394,6 +397,14 @@ impl Port {
             (Fault::UsMeasuredAsMicro, _) => (spelling, Spelling::Micro),
             (Fault::MicroMeasuredAsUs, _) => (spelling, Spelling::Us),
             _ => same(spelling),
+        }
+    }
+
+    /// The fault in the archive, if it has one.
+    fn archive_fault(&self) -> archive::Fault {
+        match self.0 {
+            Fault::Archive(fault) => fault,
+            _ => archive::Fault::None,
         }
     }
 
@@ -542,6 +553,19 @@ impl Subject for Port {
             _ => column_out::Fault::None,
         };
         column_out::faulty(fault, table, field, rows, text)
+    }
+
+    fn write_archive(&self, table: Table, out: &mut [u8]) -> crate::archive::Written {
+        archive::faulty_write(self.archive_fault(), table, out)
+    }
+
+    fn read_archive(
+        &self,
+        image: &[u8],
+        rows: &mut [u32],
+        text: &mut [u8],
+    ) -> crate::archive::Answer {
+        archive::faulty_read(self.archive_fault(), image, rows, text)
     }
 }
 

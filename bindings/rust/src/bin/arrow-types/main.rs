@@ -1,5 +1,7 @@
-//! The command `arrow-types`: the line program with an exit status, a text explained to a person, and a file rewritten.
+//! The command `arrow-types`: the line program with an exit status, a text explained to a person, a file rewritten, and types put
+//! into the archive record and taken from it.
 
+mod archive;
 mod explain;
 mod failure;
 mod hints;
@@ -28,6 +30,10 @@ Reads and prints the type texts of Apache Arrow.
     arrow-types rewrite FILE           each line of a file rewritten in place, microseconds as us
     arrow-types rewrite --micro FILE   the same, microseconds as \u{b5}s: for a file that is compared
                                        with what arrow-schema prints
+    arrow-types archive                a type text on each line of standard input: their records of
+                                       the archive, one behind the other
+    arrow-types unarchive              records of the archive: a type text on a line for each
+    arrow-types unarchive --micro      the same, microseconds as \u{b5}s
     arrow-types --help, --version
 
 What explain is given is a file if there is one of that name, else a text; `explain --file FILE`
@@ -35,6 +41,9 @@ and `explain --text TEXT` say which it is.
 
 rewrite writes nothing if a line is refused or would become another type, as where a time zone
 would be lost. The new file takes the old one's place at one stroke.
+
+archive writes nothing if a line is refused; unarchive stops at the first record that is refused,
+and says which it is.
 
 The exit status is 0; 1 if a text was refused; 2 if reading or writing failed, or the command is
 not one of these.
@@ -63,7 +72,11 @@ fn run(arguments: &[&OsStr]) -> Ending {
         .map(|argument| argument.to_str().unwrap_or("?"))
         .collect();
     match words.as_slice() {
-        ["-h" | "--help"] | ["lines" | "explain" | "rewrite", "-h" | "--help"] => say(HELP),
+        ["-h" | "--help"]
+        | [
+            "lines" | "explain" | "rewrite" | "archive" | "unarchive",
+            "-h" | "--help",
+        ] => say(HELP),
         ["--version"] => say(concat!("arrow-types ", env!("CARGO_PKG_VERSION"), "\n")),
         ["lines"] => lines::run(&mut io::stdin().lock(), &mut io::stdout().lock()),
         ["explain", "--text" | "--file"] => Err(Failure::Usage),
@@ -73,8 +86,16 @@ fn run(arguments: &[&OsStr]) -> Ending {
         ["rewrite", "--micro"] => Err(Failure::Usage),
         ["rewrite", "--micro", _] => rewrite(arguments[2], Spelling::Micro),
         ["rewrite", _] => rewrite(arguments[1], Spelling::Us),
+        ["archive"] => archive::archive(&mut io::stdin().lock(), &mut io::stdout().lock()),
+        ["unarchive"] => unarchive(Spelling::Us),
+        ["unarchive", "--micro"] => unarchive(Spelling::Micro),
         _ => Err(Failure::Usage),
     }
+}
+
+fn unarchive(spelling: Spelling) -> Ending {
+    let mut stdout = io::BufWriter::new(io::stdout().lock());
+    archive::unarchive(&mut io::stdin().lock(), spelling, &mut stdout)
 }
 
 fn explain(source: Source<'_>) -> Ending {

@@ -1,0 +1,14 @@
+pub mod Holds
+pub mod Chain
+pub mod Rooms
+pub mod ImageLaws
+pub mod OneImage
+pub mod Writables
+pub mod Overwrites
+pub mod Writing
+pub mod Filling
+pub mod Packing
+pub mod Archived
+pub mod ReadBack
+pub mod MoreRoom
+pub mod ReadLaws

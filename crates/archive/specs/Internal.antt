@@ -1,0 +1,4 @@
+pub mod Chain
+pub mod Fills
+pub mod Said
+pub mod Writes

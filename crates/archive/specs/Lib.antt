@@ -1,0 +1,4 @@
+pub mod Archive
+pub mod Examples
+pub mod Laws
+pub mod Internal
