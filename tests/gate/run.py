@@ -43,6 +43,7 @@ class Gate(unittest.TestCase):
         self.stand_in("tests/gate/run.py", "")
         self.stand_in("bindings/test", 'echo "bindings ${ARROW_TYPES_LIB:-own}" >>called')
         self.stand_in("tests/lines/run.py", "echo lines")
+        self.stand_in("tests/counts/run.py", "echo counts")
         self.rt(PASSED)
 
     def write(self, name, text):
@@ -79,7 +80,7 @@ class Gate(unittest.TestCase):
         self.assertEqual(done.returncode, 0, done.stderr)
         self.assertEqual(done.stdout.splitlines()[-1], "5 passed, 0 failed")
         self.assertIn(OK, done.stdout)
-        self.assertEqual(called, [*self.BEFORE, "rt ci", "bindings own", "python3 tests/lines/run.py"])
+        self.assertEqual(called, [*self.BEFORE, "rt ci", "bindings own", "python3 tests/lines/run.py", "python3 tests/counts/run.py"])
 
     def test_source_fails(self):
         self.stand_in("tests/source/check.py", "exit 1")
@@ -136,6 +137,11 @@ class Gate(unittest.TestCase):
         done = self.assert_fails()
         self.assertEqual(done.stdout.count("5 passed, 0 failed"), 1)
 
+    def test_counts_fail(self):
+        self.stand_in("tests/counts/run.py", "exit 1")
+        done = self.assert_fails()
+        self.assertEqual(done.stdout.count("5 passed, 0 failed"), 1)
+
     def test_crates_change(self):
         for change in ["echo >>crates/a/src/lib.rt", "echo >crates/a/src/b.rt", "echo 'b: a' >>crates.txt"]:
             with self.subTest(change=change):
@@ -173,6 +179,7 @@ class Missing(unittest.TestCase):
         "tests/build": ["rt"],
         "bindings/test": ["gcc", "nm", "cargo", "rt"],
         "tests/lines/run.py": ["rt"],
+        "tests/counts/run.py": ["rt"],
         "tests/source/check.py": ["rt"],
     }
 

@@ -10,12 +10,10 @@ ghost use Rattle.answer_line.specs.Internal.Steps.{Answers};
 mod tree;
 mod write;
 
-use datatype::rows::{MAX_ROWS, MAX_TEXT, ROW_WORDS};
+pub use datatype::rows::LINE_WORDS;
+use datatype::rows::{MAX_TEXT, ROW_WORDS};
 use datatype::{Field, Tree};
 use row_table::nodes::SoundTree;
-
-// The words that 1,024 rows take.
-pub const LINE_WORDS: usize = ROW_WORDS * MAX_ROWS;
 
 // The bytes that the longest answer takes: `ok 1024 64 `, a printed text of 16,384 bytes, and a newline.
 pub const ANSWER_BYTES: usize = 11 + MAX_TEXT + 1;

@@ -42,6 +42,9 @@ pub const MAX_ROWS: usize = 1024;
 
 pub const MAX_LEVELS: usize = 64;
 
+// The words that 1,024 rows take: what is lent to read a line into.
+pub const LINE_WORDS: usize = ROW_WORDS * MAX_ROWS;
+
 // How many rows so many words hold: whole rows, and 1,024 at the most.
 #[tactic(auto, unfolding(crate::specs::Table::rows_lent))]
 pub fn rows_lent(words: usize) -> usize

@@ -213,3 +213,40 @@ next_comes input p = by-skip input p (min p.from (length input)) (line_end input
 
 pub came : (input : List ℕ) (p : Place) (n : NextLine) → n ≡ next_of input p → Comes input p n
 came input p n e = subst (λ (m : NextLine). Comes input p m) (sym e) (next_comes input p)
+
+-- where a line that comes stands
+module _ (input : List ℕ) (p : Place) where
+  pub whole_ordered : (start end : ℕ) → Whole start end ≡ next_of input p → start ≤ end
+  whole_ordered start end e = let c = came input p (Whole start end) e in c.1
+
+  pub whole_within : (start end : ℕ) → Whole start end ≡ next_of input p → end < length input
+  whole_within start end e = let c = came input p (Whole start end) e in c.2
+
+  pub whole_on : (start end : ℕ) → Whole start end ≡ next_of input p → length input - (end + 1) < length input - p.from
+  whole_on start end e = let c = came input p (Whole start end) e in let a = c.0 in let b = c.1 in let d = c.2 in omega arith
+
+  pub long_within : (start : ℕ) → Long start ≡ next_of input p → start ≤ length input
+  long_within start e = let c = came input p (Long start) e in let a = c.1 in omega arith
+
+  pub long_on : (start : ℕ) → Long start ≡ next_of input p → length input - length input < length input - p.from
+  long_on start e = let c = came input p (Long start) e in let a = c.0 in let b = c.1 in omega arith
+
+-- what is left is not the rest of a line that is skipped, unless nothing is left
+module _ (input : List ℕ) (q : Place) where
+  part-begins : (start : ℕ) → Unfinished q ≡ line_from input start → q.skip ≡ false
+  unfolding line_from
+  part-begins start e = go (ltb (line_end input start) (length input)) (ltb 16384 (length input - start)) e
+    where
+      go : (a b : Bool) → Unfinished q ≡ (if a then Whole start (line_end input start) else (if b then Long start else Unfinished (begins start))) → q.skip ≡ false
+      go true b e = absurd (cc)
+      go false true e = absurd (cc)
+      go false false e = let f : q ≡ begins start = cc in ap (λ (x : Place). x.skip) f
+
+  pub left_begins : (p : Place) → Unfinished q ≡ next_of input p → q.from < length input → q.skip ≡ false
+  unfolding next_of
+  left_begins p e h = go p.skip (ltb (line_end input (min p.from (length input))) (length input)) e
+    where
+      go : (a b : Bool) → Unfinished q ≡ (if a then (if b then line_from input (line_end input (min p.from (length input)) + 1) else Unfinished (skips (length input))) else line_from input (min p.from (length input))) → q.skip ≡ false
+      go false b e = part-begins (min p.from (length input)) e
+      go true true e = part-begins (line_end input (min p.from (length input)) + 1) e
+      go true false e = let f : q ≡ skips (length input) = cc in let g = ap (λ (x : Place). x.from) f in absurd (omega arith)

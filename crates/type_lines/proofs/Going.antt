@@ -15,7 +15,7 @@ use Rattle.input_lines.specs.Ahead.{lines_ahead, lines_at, begins, skips, next_o
 use Rattle.input_lines.specs.declared.Place.{Place}
 use Rattle.input_lines.specs.declared.NextLine.TheVariants.{Whole, Long, Unfinished as Partly}
 use Rattle.input_lines.proofs.Ends.{lines_some}
-use Rattle.input_lines.proofs.Coming.{came}
+use Rattle.input_lines.proofs.Coming.{came, whole_ordered, whole_within, whole_on, long_within, long_on}
 use Rattle.answer_line.specs.Line.{line_answer, line_words, answers, output, line_answered, line_out, answer_bytes}
 use Rattle.answer_line.proofs.Ends.{long_line}
 use Rattle.type_lines.specs.Run.{output_from, printed_at, Inside, Behind, Wrote, Goes, Halts, Ends}
@@ -259,23 +259,6 @@ module _ (line out : List ℕ) where
       }
 
 -- ---- what the functions use
-
--- where a line that comes stands
-module _ (input : List ℕ) (p : Place) where
-  pub whole_ordered : (start end : ℕ) → Whole start end ≡ next_of input p → start ≤ end
-  whole_ordered start end e = let c = came input p (Whole start end) e in c.1
-
-  pub whole_within : (start end : ℕ) → Whole start end ≡ next_of input p → end < length input
-  whole_within start end e = let c = came input p (Whole start end) e in c.2
-
-  pub whole_on : (start end : ℕ) → Whole start end ≡ next_of input p → length input - (end + 1) < length input - p.from
-  whole_on start end e = let c = came input p (Whole start end) e in let a = c.0 in let b = c.1 in let d = c.2 in omega arith
-
-  pub long_within : (start : ℕ) → Long start ≡ next_of input p → start ≤ length input
-  long_within start e = let c = came input p (Long start) e in let a = c.1 in omega arith
-
-  pub long_on : (start : ℕ) → Long start ≡ next_of input p → length input - length input < length input - p.from
-  long_on start e = let c = came input p (Long start) e in let a = c.0 in let b = c.1 in omega arith
 
 module _ (input : List ℕ) (p : Progress) (out : List ℕ) (place : Place) (wrote : ℕ) (out₁ : List ℕ) (t : Reached input p place wrote out out₁) where
   pub then_whole : (start end next : ℕ) (out₂ : List ℕ) → Whole start end ≡ next_of input place

@@ -6,7 +6,7 @@ use std::io::{self, BufRead, BufReader, BufWriter, Write};
 use std::process::ExitCode;
 
 /// Bytes of each buffer, as many as the port's.
-const BUFFER: usize = 65_536;
+pub const BUFFER: usize = 65_536;
 
 pub fn run() -> Result<ExitCode, String> {
     let input = BufReader::with_capacity(BUFFER, io::stdin().lock());
@@ -46,20 +46,25 @@ pub struct Size {
 }
 
 pub fn size(data_type: &DataType) -> Size {
+    above(children(data_type))
+}
+
+/// The types one level down, in their order.
+pub fn children(data_type: &DataType) -> Vec<&DataType> {
     match data_type {
         DataType::List(field)
         | DataType::LargeList(field)
         | DataType::ListView(field)
         | DataType::LargeListView(field)
         | DataType::FixedSizeList(field, _)
-        | DataType::Map(field, _) => above([field.data_type()]),
-        DataType::Struct(fields) => above(fields.iter().map(|field| field.data_type())),
-        DataType::Union(fields, _) => above(fields.iter().map(|(_, field)| field.data_type())),
-        DataType::Dictionary(key, value) => above([&**key, &**value]),
+        | DataType::Map(field, _) => vec![field.data_type()],
+        DataType::Struct(fields) => fields.iter().map(|field| field.data_type()).collect(),
+        DataType::Union(fields, _) => fields.iter().map(|(_, field)| field.data_type()).collect(),
+        DataType::Dictionary(key, value) => vec![key, value],
         DataType::RunEndEncoded(run_ends, values) => {
-            above([run_ends.data_type(), values.data_type()])
+            vec![run_ends.data_type(), values.data_type()]
         }
-        _ => above([]),
+        _ => vec![],
     }
 }
 

@@ -6,6 +6,7 @@ mod check;
 mod column_out;
 #[cfg(feature = "subject")]
 mod count;
+mod counts;
 mod generate;
 mod images;
 mod known;
@@ -52,6 +53,8 @@ compare show
     reads one text from standard input and shows what model and Rust say
 compare lines
     answers the lines of standard input with the Rust, as the port's line program does
+compare counts
+    counts them, as the port's monthly count does, but the refused ones all together
 compare speed
     reads texts and prints them with port and Rust, and says how long each takes (with the feature
     subject)
@@ -97,6 +100,7 @@ fn command(arguments: &[String]) -> Result<ExitCode, String> {
         }
         "show" => show(),
         "lines" => lines::run(),
+        "counts" => counts::run(),
         #[cfg(feature = "subject")]
         "service" => Ok(service::run(&settings(rest, &["seed", "texts"])?)),
         #[cfg(feature = "subject")]

@@ -270,7 +270,7 @@ fn time_unit(unit: &TimeUnit) -> u32 {
     }
 }
 
-fn kind(data_type: &DataType) -> u32 {
+pub fn kind(data_type: &DataType) -> u32 {
     match data_type {
         DataType::Null => 0,
         DataType::Boolean => 1,

@@ -2,6 +2,7 @@
 //! into the archive record and taken from it.
 
 mod archive;
+mod count;
 mod explain;
 mod failure;
 mod hints;
@@ -17,7 +18,7 @@ use arrow_types::Spelling;
 use explain::Source;
 use paint::Paint;
 use std::ffi::{OsStr, OsString};
-use std::io::{self, Write};
+use std::io::{self, BufReader, Write};
 use std::process::ExitCode;
 
 const HELP: &str = "\
@@ -25,6 +26,7 @@ Reads and prints the type texts of Apache Arrow.
 
     arrow-types lines                  a type text on each line of standard input:
                                        an answer for each, as type_lines gives it
+    arrow-types count                  exact counts of the same, as type_counts reports them
     arrow-types explain TEXT           what a type text says, or why and where it is refused
     arrow-types explain FILE           the same for each line of a file
     arrow-types rewrite FILE           each line of a file rewritten in place, microseconds as us
@@ -45,8 +47,8 @@ would be lost. The new file takes the old one's place at one stroke.
 archive writes nothing if a line is refused; unarchive stops at the first record that is refused,
 and says which it is.
 
-The exit status is 0; 1 if a text was refused; 2 if reading or writing failed, or the command is
-not one of these.
+The exit status is 0; 1 if a text was refused or lines are too many to count; 2 if reading or
+writing failed, or the command is not one of these.
 ";
 
 /// A command that did what it is for: whether every text was taken.
@@ -74,11 +76,15 @@ fn run(arguments: &[&OsStr]) -> Ending {
     match words.as_slice() {
         ["-h" | "--help"]
         | [
-            "lines" | "explain" | "rewrite" | "archive" | "unarchive",
+            "lines" | "count" | "explain" | "rewrite" | "archive" | "unarchive",
             "-h" | "--help",
         ] => say(HELP),
         ["--version"] => say(concat!("arrow-types ", env!("CARGO_PKG_VERSION"), "\n")),
         ["lines"] => lines::run(&mut io::stdin().lock(), &mut io::stdout().lock()),
+        ["count"] => count::run(
+            &mut BufReader::with_capacity(65_536, io::stdin().lock()),
+            &mut io::stdout().lock(),
+        ),
         ["explain", "--text" | "--file"] => Err(Failure::Usage),
         ["explain", "--text", _] => explain(Source::Text(arguments[2])),
         ["explain", "--file", _] => explain(Source::File(arguments[2].as_ref())),

@@ -1,0 +1,12 @@
+pub mod Refusals
+pub mod Sums
+pub mod RowKinds
+pub mod Additions
+pub mod Adding
+pub mod KindCounts
+pub mod Bounds
+pub mod OneMore
+pub mod Reports
+pub mod Sizes
+pub mod CountLaws
+pub mod Following

@@ -1,0 +1,4 @@
+pub mod Tally
+pub mod Laws
+pub mod Examples
+pub mod Internal
