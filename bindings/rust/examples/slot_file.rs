@@ -5,12 +5,13 @@
 //!
 //! It reports the zones of each column before and after and writes the new head to OUTPUT. If a text is refused, or would
 //! become another type, it says so, writes nothing and ends with the status 1. Of a text that is refused it shows where.
-//! OUTPUT, which may be INPUT, is replaced at one stroke: where writing fails it is as it was.
+//! OUTPUT, which may be INPUT, is replaced at one stroke: where writing fails, or another program has written to it since
+//! the start, it is as it was.
 
 mod replace_file;
 
 use arrow_types::{DataType, Field, RewriteError, Spelling, rewrite_with};
-use replace_file::replace_file;
+use replace_file::{Refusal, Replacement, Target};
 use std::io::{self, Write};
 use std::path::Path;
 use std::process::ExitCode;
@@ -39,6 +40,9 @@ fn main() -> ExitCode {
 
 /// Rewrites a head: how many columns it has.
 fn rewrite_file(input: &str, output: &str, report: &mut String) -> Result<usize, String> {
+    let refused = |refusal: Refusal| format!("{output}: {refusal}");
+    // Before INPUT is read, which may be the same file: what is written to it from now on is seen.
+    let target = Target::open_or_new(Path::new(output), false).map_err(refused)?;
     let head =
         std::fs::read(input).map_err(|error| format!("nothing is written: {input}: {error}"))?;
     let head = head.strip_suffix(b"\n").unwrap_or(&head);
@@ -55,8 +59,12 @@ fn rewrite_file(input: &str, output: &str, report: &mut String) -> Result<usize,
         rewritten += &printed;
         rewritten += "\n";
     }
-    replace_file(Path::new(output), rewritten.as_bytes())
-        .map_err(|error| format!("{output}: {error}"))?;
+    let mut replacement = Replacement::of(&target);
+    replacement.write(rewritten.as_bytes()).map_err(refused)?;
+    replacement.put_in_place().map_err(refused)?;
+    for left in target.remove_leftovers() {
+        *report += &format!("{}: an earlier run left it, and it stays\n", left.display());
+    }
     Ok(columns)
 }
 

@@ -3,8 +3,8 @@
 
 mod program;
 
-use program::{arrow_types, file, full, outcome, unread};
-use std::fs::File;
+use program::{arrow_types, file, full, memory, outcome, unread};
+use std::fs::{self, File};
 use std::io::{BufRead, BufReader, Read, Write};
 use std::path::Path;
 use std::process::Stdio;
@@ -46,6 +46,27 @@ fn lines_of_any_length() {
     let (status, answers, _) = lines("long", input.as_bytes());
     assert_eq!(answers, "ok 1 1 Int8\nno 1 16384\nno 1 16384\n");
     assert_eq!(status, Some(1));
+}
+
+/// More memory than the program takes, in kB, for an input of any size.
+const MEMORY: u64 = 16_384;
+
+/// Lines that are taken, lines whose answers are longer than they are, and one line.
+#[test]
+fn memory_is_bounded() {
+    for (name, line, count) in [
+        ("memory", "Timestamp(Second, Some(\"CET\"))\n", 1_000_000),
+        ("memory_of_empty_lines", "\n", 3_000_000),
+        ("memory_of_a_line", " ", 100_000_000),
+    ] {
+        let path = file(name, line.repeat(count));
+        let input = File::open(&path).unwrap();
+        let ((status, _, errors), most) = memory(arrow_types(&["lines"]).stdin(input));
+        assert_eq!(status, Some(i32::from(name != "memory")));
+        assert_eq!(errors, "");
+        assert!(most < MEMORY, "{most} kB");
+        fs::remove_file(path).unwrap();
+    }
 }
 
 /// Whoever waits for an answer before it writes the next line gets it.
@@ -141,6 +162,10 @@ fn other_commands() {
         &["explain", "a", "b"],
         &["rewrite"],
         &["rewrite", "--micro"],
+        &["rewrite", "--force"],
+        &["rewrite", "--micro", "--force"],
+        &["rewrite", "--force", "--force", "a"],
+        &["rewrite", "a", "--force"],
         &["rewrite", "a", "b"],
     ] {
         let (status, output, errors) = outcome(&mut arrow_types(arguments));

@@ -2,7 +2,9 @@
 
 mod program;
 
-use program::{Link, file, files_beside, folder, in_read_only_folder};
+use program::{
+    APPENDED, Link, append, file, files_beside, folder, in_read_only_folder, interrupted,
+};
 use std::fs;
 use std::os::unix::fs::{MetadataExt, PermissionsExt};
 use std::path::{Path, PathBuf};
@@ -142,7 +144,7 @@ fn output_that_has_no_room() {
     let (status, last) = replace("ulimit -f 1; trap '' XFSZ", &input, &output);
     assert_eq!(status, Some(1));
     assert!(
-        last.contains(": nothing is written: File too large"),
+        last.contains(": writing the new file: File too large"),
         "{last}"
     );
     assert_eq!(fs::read_to_string(&output).unwrap(), "the old head");
@@ -175,6 +177,22 @@ fn mode_and_link_stay() {
     assert_eq!(files_beside(&path), ["head"]);
 }
 
+/// OUTPUT may be INPUT. What another program writes to it while it is read is not lost.
+#[test]
+fn what_another_program_writes_meanwhile() {
+    let head = "Timestamp(Second, Some(\"Europe/Berlin\"))\n".repeat(500_000);
+    let path = file("meanwhile", &head);
+    let mut command = Command::new(example());
+    command.args([&path, &path]);
+    let (status, said, _) = interrupted(&mut command, || append(&path));
+    assert_eq!(status, Some(1));
+    let refusal = "replacing it: the file changed while it was read; nothing is written";
+    let last = said.lines().last().unwrap_or_default();
+    assert_eq!(last, format!("{}: {refusal}", path.display()));
+    assert!(fs::read_to_string(&path).unwrap().ends_with(APPENDED));
+    assert_eq!(files_beside(&path), ["head"]);
+}
+
 /// A folder is not replaced.
 #[test]
 fn no_plain_file() {
@@ -183,7 +201,7 @@ fn no_plain_file() {
     let (status, last) = replace(":", &input, &output);
     assert_eq!(status, Some(1));
     assert!(
-        last.ends_with(": nothing is written: it is no plain file"),
+        last.ends_with(": opening it: it is a folder and no plain file; nothing is written"),
         "{last}"
     );
     assert_eq!(files_beside(&output.join("head")), [""; 0]);
@@ -206,7 +224,7 @@ fn a_link_that_leads_nowhere() {
     let link = Link::to("no_file", path.with_file_name("link"));
     let (status, last) = replace(":", &path, &link.0);
     assert_eq!(status, Some(1));
-    assert!(last.contains("nothing is written: No such file"), "{last}");
+    assert!(last.contains(": opening it: No such file"), "{last}");
     assert_eq!(files_beside(&path), ["head", "link"]);
 }
 
@@ -216,7 +234,7 @@ fn a_folder_that_takes_no_file() {
     let ((status, printed, _), left) = in_read_only_folder(&example(), &["head", "head"], head);
     assert_eq!(status, Some(1));
     assert!(
-        printed.contains("\nhead: nothing is written: Permission denied"),
+        printed.contains("\nhead: writing the new file: Permission denied"),
         "{printed}"
     );
     assert_eq!(left, head);

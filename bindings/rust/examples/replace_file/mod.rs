@@ -1,116 +1,112 @@
-//! A file replaced at one stroke: whoever opens it, at any time, finds the old contents or the new ones, whole.
+//! A file replaced at one stroke: whoever opens it, at any time, finds the old contents or the new ones, whole. What
+//! another program writes to it meanwhile is not lost, and nobody gets rights that he did not have: the file is replaced,
+//! or it is refused and is as it was. bindings/README.md says what counts as changed and what is refused.
 
-use std::fmt;
-use std::fs::{self, File, Metadata, OpenOptions};
-use std::io::{self, Write};
-use std::os::unix::fs::{MetadataExt, OpenOptionsExt, fchown};
-use std::path::{Path, PathBuf};
+#![allow(dead_code, reason = "each program uses its own part")]
 
-/// How many names are tried for the temporary file.
-const NAMES: u32 = 1_000;
+mod leftovers;
+mod refusal;
+mod rights;
+pub mod system;
+mod target;
+mod temporary;
 
-/// Why a file is not replaced for good.
-#[derive(Debug)]
-pub enum ReplaceError {
-    /// The file is as it was.
-    Unchanged(io::Error),
-    /// The file is replaced, and if the machine stops now it may be the old one again.
-    NotSynced(io::Error),
+pub use refusal::{Refusal, failing};
+pub use target::Target;
+
+use std::fs;
+use std::io::Write;
+use temporary::Temporary;
+
+/// How many bytes are held before a file is made for them. So nothing stands in the folder until a short file is read and
+/// taken whole.
+const HELD: usize = 1 << 20;
+
+/// How many bytes are copied at a time.
+const CHUNK: usize = 65_536;
+
+// What a refusal may be about.
+pub const READING: &str = "reading it";
+const OPENING: &str = "opening it";
+const LOCKING: &str = "locking it";
+const WRITING: &str = "writing the new file";
+const REPLACING: &str = "replacing it";
+const SYNCING: &str = "syncing its folder";
+
+/// The new contents of a file: held, and in a temporary file beside it if they are many. If they are not put in place the
+/// temporary file is removed.
+pub struct Replacement<'a> {
+    target: &'a Target,
+    held: Vec<u8>,
+    temporary: Option<Temporary>,
 }
 
-impl fmt::Display for ReplaceError {
-    fn fmt(&self, formatter: &mut fmt::Formatter<'_>) -> fmt::Result {
-        match self {
-            ReplaceError::Unchanged(error) => write!(formatter, "nothing is written: {error}"),
-            ReplaceError::NotSynced(error) => {
-                write!(
-                    formatter,
-                    "it is written, but its folder is not synced: {error}"
-                )
-            }
+impl<'a> Replacement<'a> {
+    /// One with no contents yet.
+    pub fn of(target: &'a Target) -> Replacement<'a> {
+        Replacement {
+            target,
+            held: Vec::new(),
+            temporary: None,
         }
     }
-}
 
-/// Puts these contents in a file's place, or makes the file where there is none.
-///
-/// They are written to a temporary file beside it and synced, and that takes the file's owner, mode and name; nobody else
-/// may read it before. Where the path is a link, what it leads to is replaced. Other names of the file (hard links) keep the
-/// old contents.
-pub fn replace_file(path: &Path, contents: &[u8]) -> Result<(), ReplaceError> {
-    let folder = write_and_rename(path, contents).map_err(ReplaceError::Unchanged)?;
-    folder.sync_all().map_err(ReplaceError::NotSynced)
-}
-
-/// Writes a temporary file beside another, gives it that one's name and answers their folder. If that fails the temporary
-/// file is removed.
-fn write_and_rename(path: &Path, contents: &[u8]) -> io::Result<File> {
-    let old = existing(path)?;
-    let path = &followed(path)?;
-    let folder = File::open(folder_of(path))?;
-    let mode = if old.is_some() { 0o600 } else { 0o666 };
-    let (temporary, file) = create_temporary(folder_of(path), mode)?;
-    let written = write_synced(file, contents, old.as_ref());
-    let renamed = written.and_then(|()| fs::rename(&temporary, path));
-    if renamed.is_err() {
-        let _ = fs::remove_file(&temporary);
-    }
-    renamed.map(|()| folder)
-}
-
-/// What a link leads to, and any other path itself. A link that leads nowhere is refused.
-fn followed(path: &Path) -> io::Result<PathBuf> {
-    if path.is_symlink() {
-        fs::canonicalize(path)
-    } else {
-        Ok(path.to_owned())
-    }
-}
-
-fn folder_of(path: &Path) -> &Path {
-    match path.parent() {
-        Some(folder) if folder != Path::new("") => folder,
-        _ => Path::new("."),
-    }
-}
-
-/// What is known of the file, if there is one. Folders and devices are not replaced.
-fn existing(path: &Path) -> io::Result<Option<Metadata>> {
-    match fs::metadata(path) {
-        Ok(old) if old.is_file() => Ok(Some(old)),
-        Ok(_) => Err(io::Error::other("it is no plain file")),
-        Err(error) if error.kind() == io::ErrorKind::NotFound => Ok(None),
-        Err(error) => Err(error),
-    }
-}
-
-/// A new file in a folder, of a name that no file there has, and of this mode less the process's umask.
-fn create_temporary(folder: &Path, mode: u32) -> io::Result<(PathBuf, File)> {
-    let mut options = OpenOptions::new();
-    options.write(true).create_new(true).mode(mode);
-    for number in 0..NAMES {
-        let path = folder.join(format!(".arrow-types.{}.{number}", std::process::id()));
-        match options.open(&path) {
-            Err(error) if error.kind() == io::ErrorKind::AlreadyExists => {}
-            created => return created.map(|file| (path, file)),
+    pub fn write(&mut self, bytes: &[u8]) -> Result<(), Refusal> {
+        self.held.extend(bytes);
+        if self.held.len() < HELD {
+            return Ok(());
         }
+        self.write_held().map(|_| ())
     }
-    Err(io::Error::other("every name for a temporary file is taken"))
+
+    /// Writes the first bytes of the old file, so many as were read of it.
+    pub fn copy_start(&mut self, count: u64) -> Result<(), Refusal> {
+        let mut chunk = vec![0; CHUNK];
+        for start in (0..count).step_by(CHUNK) {
+            let length = (count - start).min(CHUNK as u64) as usize;
+            self.target.read_again(&mut chunk[..length], start)?;
+            self.write(&chunk[..length])?;
+        }
+        Ok(())
+    }
+
+    /// Puts the contents in the file's place, synced. Owner, group, mode, access list and extended attributes stay.
+    pub fn put_in_place(self) -> Result<(), Refusal> {
+        self.put_in_place_after(|| ())
+    }
+
+    /// The same, with what happens when all is written and nothing renamed yet: for tests.
+    pub fn put_in_place_after(mut self, meanwhile: impl FnOnce()) -> Result<(), Refusal> {
+        let target = self.target;
+        let temporary = self.write_held()?;
+        if let Some(old) = target.old() {
+            rights::take_over(temporary.file(), old)?;
+        }
+        temporary.file().sync_all().map_err(failing(WRITING))?;
+        meanwhile();
+        target.check_unchanged()?;
+        fs::rename(temporary.path(), target.path()).map_err(failing(REPLACING))?;
+        temporary.keep();
+        let synced = temporary.folder().sync_all();
+        synced.map_err(|error| Refusal::new(SYNCING, error).though_written())
+    }
+
+    /// Writes what is held to the temporary file, which is made now if there is none.
+    fn write_held(&mut self) -> Result<&mut Temporary, Refusal> {
+        let temporary = match self.temporary.take() {
+            Some(temporary) => temporary,
+            None => temporary_beside(self.target)?,
+        };
+        let written = temporary.file().write_all(&self.held);
+        written.map_err(failing(WRITING))?;
+        self.held.clear();
+        Ok(self.temporary.insert(temporary))
+    }
 }
 
-fn write_synced(mut file: File, contents: &[u8], old: Option<&Metadata>) -> io::Result<()> {
-    file.write_all(contents)?;
-    if let Some(old) = old {
-        take_over(&file, old)?;
-    }
-    file.sync_all()
-}
-
-/// Owner and mode of the old file.
-fn take_over(file: &File, old: &Metadata) -> io::Result<()> {
-    let new = file.metadata()?;
-    if (new.uid(), new.gid()) != (old.uid(), old.gid()) {
-        fchown(file, Some(old.uid()), Some(old.gid()))?;
-    }
-    file.set_permissions(old.permissions())
+/// A temporary file for a file that may be replaced. One that gets the rights of an old file has none for others till then.
+fn temporary_beside(target: &Target) -> Result<Temporary, Refusal> {
+    target.check_replaceable()?;
+    let mode = if target.old().is_some() { 0o600 } else { 0o666 };
+    Temporary::create(target.folder(), mode).map_err(failing(WRITING))
 }

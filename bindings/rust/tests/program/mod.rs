@@ -4,10 +4,13 @@
 
 use std::ffi::OsStr;
 use std::fs::{self, File, Permissions};
-use std::os::unix::fs::{MetadataExt, PermissionsExt, symlink};
+use std::io::Write;
+use std::os::unix::fs::{MetadataExt, PermissionsExt, chown, symlink};
 use std::os::unix::process::CommandExt;
 use std::path::{Path, PathBuf};
 use std::process::{Command, Output, Stdio};
+use std::thread::sleep;
+use std::time::Duration;
 
 /// What a program does: status, standard output and standard error.
 pub type Outcome = (Option<i32>, String, String);
@@ -30,11 +33,15 @@ pub fn in_shell(first: &str, command: &Command) -> Command {
 
 /// What a program does.
 pub fn outcome(command: &mut Command) -> Outcome {
+    ended(command.output().expect("the program runs"))
+}
+
+fn ended(output: Output) -> Outcome {
     let Output {
         status,
         stdout,
         stderr,
-    } = command.output().expect("the program runs");
+    } = output;
     let text = |bytes| String::from_utf8(bytes).expect("UTF-8");
     (status.code(), text(stdout), text(stderr))
 }
@@ -105,42 +112,141 @@ pub fn files_beside(path: &Path) -> Vec<String> {
     names
 }
 
-/// A user whom modes bind.
-const SOMEBODY: u32 = 12_345;
+/// A user whom modes bind, and a group.
+pub const SOMEBODY: u32 = 12_345;
 
-/// What a program does in a folder that nobody may write to, with a file `head` that everybody may; and what that holds
-/// then. Where the tests are root's, whom modes do not bind, it runs as another user, from where every user sees it.
-pub fn in_read_only_folder(program: &Path, arguments: &[&str], head: &str) -> (Outcome, String) {
-    let is_root = fs::metadata("/proc/self").expect("this process").uid() == 0;
-    let all = if is_root {
-        std::env::temp_dir()
-    } else {
-        folder("read_only")
-    };
-    let (crate_name, id) = (env!("CARGO_CRATE_NAME"), std::process::id());
-    let folder = all.join(format!("arrow-types-{crate_name}-{id}"));
-    make_read_only(&folder, program, head);
-    let mut command = Command::new(folder.join("program"));
-    command.args(arguments).current_dir(&folder);
-    if is_root {
-        command.uid(SOMEBODY).gid(SOMEBODY);
-    }
-    let outcome = outcome(command.stdin(Stdio::null()));
-    let left = fs::read_to_string(folder.join("head")).expect("the file");
-    fs::set_permissions(&folder, Permissions::from_mode(0o755)).expect("a mode");
-    fs::remove_dir_all(&folder).expect("a folder to remove");
-    (outcome, left)
+/// Whether the tests are root's, whom modes do not bind.
+pub fn is_root() -> bool {
+    fs::metadata("/proc/self").expect("this process").uid() == 0
 }
 
-fn make_read_only(folder: &Path, program: &Path, head: &str) {
-    fs::create_dir(folder).expect("a folder");
-    fs::write(folder.join("head"), head).expect("a file");
-    // Not by this process: what one of its threads writes while another starts a program can't be run.
-    let copied = Command::new("cp")
-        .args([program, &folder.join("program")])
-        .status();
-    assert!(copied.expect("cp").success());
-    for (name, mode) in [("head", 0o666), ("program", 0o755), ("", 0o555)] {
-        fs::set_permissions(folder.join(name), Permissions::from_mode(mode)).expect("a mode");
+/// A folder with a program that is run there by a user whom modes bind: where the tests are root's by another user, who owns
+/// the folder, from where every user sees it. It is removed when this is dropped.
+pub struct Abroad(pub PathBuf);
+
+impl Abroad {
+    pub fn with(program: &Path, name: &str) -> Abroad {
+        let (crate_name, id) = (env!("CARGO_CRATE_NAME"), std::process::id());
+        let mut folder = folder(&format!("abroad_{name}"));
+        if is_root() {
+            folder = std::env::temp_dir().join(format!("arrow-types-{crate_name}-{name}-{id}"));
+            fs::create_dir(&folder).expect("a folder");
+        }
+        let abroad = Abroad(folder);
+        // Not by this process: what one of its threads writes while another starts a program can't be run.
+        let copy = abroad.0.join("program");
+        let copied = Command::new("cp").args([program, &copy]).status();
+        assert!(copied.expect("cp").success());
+        abroad.set_mode("program", 0o755);
+        abroad.give("");
+        abroad
     }
+
+    /// A file of the user's, with these contents and this mode.
+    pub fn file(&self, name: &str, contents: &str, mode: u32) -> PathBuf {
+        fs::write(self.0.join(name), contents).expect("a file");
+        self.set_mode(name, mode);
+        self.give(name);
+        self.0.join(name)
+    }
+
+    pub fn set_mode(&self, name: &str, mode: u32) {
+        let mode = Permissions::from_mode(mode);
+        fs::set_permissions(self.0.join(name), mode).expect("a mode");
+    }
+
+    fn give(&self, name: &str) {
+        if is_root() {
+            chown(self.0.join(name), Some(SOMEBODY), Some(SOMEBODY)).expect("an owner");
+        }
+    }
+
+    /// What the program does there.
+    pub fn run(&self, arguments: &[&str]) -> Outcome {
+        let mut command = Command::new(self.0.join("program"));
+        command.args(arguments).current_dir(&self.0);
+        if is_root() {
+            command.uid(SOMEBODY).gid(SOMEBODY);
+        }
+        outcome(command.stdin(Stdio::null()))
+    }
+}
+
+impl Drop for Abroad {
+    fn drop(&mut self) {
+        let _ = fs::set_permissions(&self.0, Permissions::from_mode(0o755));
+        let _ = fs::remove_dir_all(&self.0);
+    }
+}
+
+/// What a program does in a folder that nobody may write to, with a file `head` that everybody may; and what that holds
+/// then.
+pub fn in_read_only_folder(program: &Path, arguments: &[&str], head: &str) -> (Outcome, String) {
+    let abroad = Abroad::with(program, "read_only");
+    let path = abroad.file("head", head, 0o666);
+    abroad.set_mode("", 0o555);
+    let outcome = abroad.run(arguments);
+    (outcome, fs::read_to_string(path).expect("the file"))
+}
+
+/// What another program writes.
+pub const APPENDED: &str = "Timestamp(s, \"Africa/Cairo\")\n";
+
+/// Does what another program does: writes a line behind a file's last.
+pub fn append(path: &Path) {
+    let mut file = File::options().append(true).open(path).expect("a file");
+    file.write_all(APPENDED.as_bytes()).expect("a line more");
+}
+
+/// What a program does that is stopped when it has begun to read what is long, until something else is done.
+pub fn interrupted(command: &mut Command, meanwhile: impl FnOnce()) -> Outcome {
+    command.stdout(Stdio::piped()).stderr(Stdio::piped());
+    let mut child = command.spawn().expect("the program runs");
+    while bytes_read(child.id()) < 100_000 {
+        let ended = child.try_wait().expect("a child");
+        assert_eq!(ended, None, "it ended before it was seen to read");
+        sleep(Duration::from_millis(1));
+    }
+    signal("STOP", child.id());
+    while !proc_line(child.id(), "status", "State:").contains('T') {
+        sleep(Duration::from_millis(1));
+    }
+    meanwhile();
+    signal("CONT", child.id());
+    ended(child.wait_with_output().expect("the program ends"))
+}
+
+/// How many bytes a process has read by now.
+fn bytes_read(process: u32) -> u64 {
+    proc_line(process, "io", "rchar:").parse().unwrap_or(0)
+}
+
+pub fn signal(name: &str, process: u32) {
+    let script = format!("kill -{name} {process}");
+    let sent = Command::new("sh").args(["-c", &script]).status();
+    assert!(sent.expect("sh").success());
+}
+
+/// What the kernel says of a process in one of its files, behind a word; nothing once it has ended.
+fn proc_line(process: u32, file: &str, word: &str) -> String {
+    let text = fs::read_to_string(format!("/proc/{process}/{file}")).unwrap_or_default();
+    let line = text.lines().find_map(|line| line.strip_prefix(word));
+    line.unwrap_or_default().trim().to_owned()
+}
+
+/// What a program does whose standard output nobody needs, and the most memory that it takes, in kB: VmHWM, as it is last
+/// seen.
+pub fn memory(command: &mut Command) -> (Outcome, u64) {
+    command.stdout(Stdio::null()).stderr(Stdio::piped());
+    let mut child = command.spawn().expect("the program runs");
+    let mut most = 0;
+    while child.try_wait().expect("a child").is_none() {
+        let line = proc_line(child.id(), "status", "VmHWM:");
+        let number = line.strip_suffix(" kB").map(str::parse);
+        most = number.map_or(most, |number| number.expect("a number"));
+        sleep(Duration::from_millis(2));
+    }
+    let output = child.wait_with_output().expect("the program ends");
+    assert!(most > 0, "it ended before it was seen");
+    (ended(output), most)
 }

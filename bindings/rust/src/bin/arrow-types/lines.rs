@@ -2,6 +2,7 @@
 //! before each read, so that whoever waits for one before it writes the next line gets it.
 
 use crate::failure::{Failure, written};
+use crate::progress::Progress;
 use arrow_types::{DataType, MAX_TEXT};
 use std::io::{self, Read, Write};
 
@@ -9,8 +10,13 @@ use std::io::{self, Read, Write};
 const CHUNK: usize = 65_536;
 
 /// Answers lines until the input ends: whether all were taken.
-pub fn run(input: &mut impl Read, output: &mut impl Write) -> Result<bool, Failure> {
+pub fn run(
+    input: &mut impl Read,
+    output: &mut impl Write,
+    mut progress: Progress,
+) -> Result<bool, Failure> {
     let mut chunk = vec![0; CHUNK];
+    let mut bytes = 0;
     let mut answering = Answering::default();
     loop {
         let count = read_some(input, &mut chunk).map_err(Failure::Input)?;
@@ -19,6 +25,8 @@ pub fn run(input: &mut impl Read, output: &mut impl Write) -> Result<bool, Failu
         }
         answering.take(&chunk[..count]);
         answering.write_to(output)?;
+        bytes += count as u64;
+        progress.at(bytes);
     }
     answering.finish();
     answering.write_to(output)?;

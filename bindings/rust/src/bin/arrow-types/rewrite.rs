@@ -2,69 +2,153 @@
 
 use crate::failure::Failure;
 use crate::hints::hints;
-use crate::replace_file::replace_file;
+use crate::progress::Progress;
+use crate::replace_file::{READING, Refusal, Replacement, Target, failing};
 use arrow_types::{DataType, Field, RewriteError, Spelling, rewrite_with};
-use std::io::{self, Write};
+use std::fmt;
+use std::io::{self, BufRead, BufReader, Read, Write};
 use std::path::Path;
 
+/// How much of a line is read: more than a type text has, and as much behind that as is shown where one is too long.
+const LONGEST_LINE: u64 = 65_536;
+
+/// The bytes that are asked for at a time.
+const CHUNK: usize = 65_536;
+
+/// How a file is rewritten.
+#[derive(Clone, Copy, Default)]
+pub struct Options {
+    pub spelling: Spelling,
+    /// Also one that is read-only or has hard links.
+    pub by_force: bool,
+}
+
 /// Rewrites a file: whether every text could be rewritten. If one could not, the file stays as it is.
-pub fn run(path: &Path, spelling: Spelling, output: &mut impl Write) -> Result<bool, Failure> {
-    let bytes = std::fs::read(path).map_err(|error| Failure::of_file(path, error))?;
-    let rewritten = match rewrite_lines(&bytes, spelling) {
-        Ok(rewritten) => rewritten,
-        Err(refusal) => {
+pub fn run(path: &Path, options: Options, output: &mut impl Write) -> Result<bool, Failure> {
+    let failed = |refusal| Failure::of_file(path, said(refusal));
+    let target = Target::open(path, options.by_force).map_err(failed)?;
+    let counts = match rewrite_lines(&target, options.spelling) {
+        Ok(counts) => counts,
+        Err(Stop::File(refusal)) => return Err(failed(refusal)),
+        Err(Stop::Line(refusal)) => {
             say_refusal(path, &refusal);
             return Ok(false);
         }
     };
-    if rewritten.changed > 0 {
-        replace_file(path, &rewritten.bytes).map_err(|error| Failure::of_file(path, error))?;
+    for left in target.remove_leftovers() {
+        let left = left.display();
+        say(format_args!("{left}: an earlier run left it, and it stays"));
     }
-    report(path, &rewritten, output).map_err(|error| {
+    report(path, counts, output).map_err(|error| {
         Failure::of_file(path, format!("done, but writing standard output: {error}"))
     })?;
     Ok(true)
 }
 
-/// Where standard error can't be written, the status is left.
-fn say_refusal(path: &Path, refusal: &str) {
-    let path = path.display();
-    let _ = writeln!(
-        io::stderr(),
-        "arrow-types: {path}: nothing is written: {refusal}"
-    );
+fn said(refusal: Refusal) -> String {
+    if refusal.is_forcible() {
+        format!("{refusal} without --force")
+    } else {
+        refusal.to_string()
+    }
 }
 
-fn report(path: &Path, rewritten: &Rewritten, output: &mut impl Write) -> io::Result<()> {
-    let Rewritten { lines, changed, .. } = rewritten;
+fn say_refusal(path: &Path, refusal: &str) {
+    let path = path.display();
+    say(format_args!("{path}: nothing is written: {refusal}"));
+}
+
+/// Where standard error can't be written, the status is left.
+fn say(text: fmt::Arguments<'_>) {
+    let _ = writeln!(io::stderr(), "arrow-types: {text}");
+}
+
+fn report(path: &Path, counts: Counts, output: &mut impl Write) -> io::Result<()> {
+    let Counts { lines, changed, .. } = counts;
     let path = path.display();
     writeln!(output, "{path}: {changed} of {lines} lines rewritten")?;
     output.flush()
 }
 
-/// The file's new contents, how many lines it has, and how many of them have changed.
-#[derive(Default)]
-struct Rewritten {
-    bytes: Vec<u8>,
-    lines: usize,
-    changed: usize,
+/// Why a file is not rewritten: a line that can't be, or the file.
+enum Stop {
+    Line(String),
+    File(Refusal),
 }
 
-/// Every line rewritten, or why the first that could not be is not. A last line without an end stays without.
-fn rewrite_lines(bytes: &[u8], spelling: Spelling) -> Result<Rewritten, String> {
-    let mut rewritten = Rewritten::default();
-    for line in bytes.split_inclusive(|byte| *byte == b'\n') {
-        let text = line.strip_suffix(b"\n").unwrap_or(line);
-        rewritten.lines += 1;
-        let printed = rewrite_with(text, spelling).map_err(|error| {
-            let why = refusal(text, spelling, error);
-            format!("line {}: {why}", rewritten.lines)
-        })?;
-        rewritten.changed += usize::from(printed.as_bytes() != text);
-        rewritten.bytes.extend(printed.as_bytes());
-        rewritten.bytes.extend(&line[text.len()..]);
+impl From<Refusal> for Stop {
+    fn from(refusal: Refusal) -> Stop {
+        Stop::File(refusal)
     }
-    Ok(rewritten)
+}
+
+/// How many lines were read, of how many bytes, and how many of them have changed.
+#[derive(Clone, Copy, Default)]
+struct Counts {
+    lines: u64,
+    bytes: u64,
+    changed: u64,
+}
+
+/// Rewrites every line, up to the first that can't be. A file of which no line changes is not touched.
+fn rewrite_lines(target: &Target, spelling: Spelling) -> Result<Counts, Stop> {
+    let mut progress = Progress::of(target.length());
+    let mut reader = BufReader::with_capacity(CHUNK, target);
+    let mut line = Vec::new();
+    let mut rewriting = Rewriting {
+        spelling,
+        counts: Counts::default(),
+        replacement: Replacement::of(target),
+    };
+    while next_line(&mut reader, &mut line).map_err(failing(READING))? {
+        rewriting.take(&line)?;
+        progress.at(rewriting.counts.bytes);
+    }
+    rewriting.finish()
+}
+
+/// What was read of a file, and what is to take its place: nothing, up to the first line that changes.
+struct Rewriting<'a> {
+    spelling: Spelling,
+    counts: Counts,
+    replacement: Replacement<'a>,
+}
+
+impl Rewriting<'_> {
+    fn take(&mut self, line: &[u8]) -> Result<(), Stop> {
+        let text = line.strip_suffix(b"\n").unwrap_or(line);
+        let counts = &mut self.counts;
+        counts.lines += 1;
+        let printed = rewrite_with(text, self.spelling).map_err(|error| {
+            let why = refusal(text, self.spelling, error);
+            Stop::Line(format!("line {}: {why}", counts.lines))
+        })?;
+        let changes = printed.as_bytes() != text;
+        if changes && counts.changed == 0 {
+            self.replacement.copy_start(counts.bytes)?;
+        }
+        counts.changed += u64::from(changes);
+        counts.bytes += line.len() as u64;
+        if counts.changed > 0 {
+            self.replacement.write(printed.as_bytes())?;
+            self.replacement.write(&line[text.len()..])?;
+        }
+        Ok(())
+    }
+
+    fn finish(self) -> Result<Counts, Stop> {
+        if self.counts.changed > 0 {
+            self.replacement.put_in_place()?;
+        }
+        Ok(self.counts)
+    }
+}
+
+/// Reads a line with its end, or the start of one that is too long: whether there is one. A last line may have no end.
+fn next_line(reader: &mut impl BufRead, line: &mut Vec<u8>) -> io::Result<bool> {
+    line.clear();
+    let count = reader.take(LONGEST_LINE).read_until(b'\n', line)?;
+    Ok(count > 0)
 }
 
 /// What is said of a text that can't be rewritten.
