@@ -3,6 +3,7 @@
 #![tactic(auto)]
 
 mod field;
+mod kept;
 pub mod kind;
 mod label;
 mod row;
@@ -11,6 +12,7 @@ mod tree;
 mod words;
 
 pub use field::{Field, equal_bytes, zone};
+pub use kept::KeptRows;
 pub use kind::Decimal;
 pub use label::Label;
 pub use row::Row;

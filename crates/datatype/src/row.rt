@@ -1,30 +1,42 @@
 // A row of a table, read by the names of its words.
-ghost use Rattle.std.specs.Prelude.{◌≡◌, ◌+◌, ◌*◌, ◌≤◌, ◌<◌, length, MatchOption};
+ghost use Rattle.std.specs.Prelude.{◌≡◌, ◌+◌, ◌*◌, ◌≤◌, ◌<◌, ◌^◌, length, MatchOption, ⊤};
 ghost use Rattle.datatype.specs.Label.{label_said};
 ghost use Rattle.datatype.specs.Tree.{name_of, zone_of, label_of};
 ghost use Rattle.datatype.specs.Table.{row_words, rows_at, parent_word_at, row_at, word_at};
 
 use crate::field::{Field, zone};
 use crate::rows::{
-    HOME, KIND, NAME_LENGTH, NAME_START, NUMBER, PARENT, ROLE, ROW_WORDS, ROWS, SCALE, UNION_ID,
-    ZONE_LENGTH, ZONE_START,
+    HOME, KIND, NAME_LENGTH, NAME_START, NUMBER, PARENT, ROLE, ROWS, SCALE, UNION_ID, ZONE_LENGTH,
+    ZONE_START,
 };
-use crate::{Label, Tree};
+use crate::{KeptRows, Label, Tree};
+use std::alloc::AllocError;
 
 // Row `at` of a table, which the table has.
-#[derive(Clone, Copy)]
-pub struct Row<'r> {
-    pub rows: &'r [u32],
+pub struct Row<T: KeptRows> {
+    pub rows: T,
     pub at: usize,
-    ghost there: { row_words * (at + 1) ≤ length rows.now },
+    ghost there: { row_words * (at + 1) ≤ length (T.words rows) },
 }
 
-impl<'r> Row<'r> {
+impl<T: KeptRows> Clone for Row<T> {
+    ghost is_clone = { λ x y. y ≡ x };
+
+    ghost is_infallible = { λ _. ⊤ };
+
+    fn clone(&self) -> Result<Row<T>, AllocError> {
+        Ok(*self)
+    }
+}
+
+impl<T: KeptRows> Copy for Row<T> {}
+
+impl<T: KeptRows> Row<T> {
     // Row i of a table, if the table has it.
-    pub fn of(rows: &'r [u32], i: usize) -> Option<Row<'r>>
-        ensures { MatchOption result (length rows.now < row_words * (i + 1)) (λ row. (row.rows.now ≡ rows.now) × (row.at ≡ i)) }
+    pub fn of(rows: T, i: usize) -> Option<Row<T>>
+        ensures { MatchOption result (length (T.words rows) < row_words * (i + 1)) (λ row. (row.rows ≡ rows) × (row.at ≡ i) × (i < 2 ^ 60)) }
     {
-        if rows.len() / ROW_WORDS <= i {
+        if rows.count() <= i {
             return None;
         }
         Some(Row { rows, at: i })
@@ -33,55 +45,56 @@ impl<'r> Row<'r> {
     // Word k.
     fn word(self, k: usize) -> u32
         requires { k < row_words }
-        ensures { result ≡ word_at self.entry.rows.now self.entry.at k }
+        ensures { result ≡ word_at (T.words self.rows) self.at k }
     {
-        self.rows[ROW_WORDS * self.at + k]
+        self.rows.word(self.at, k)
     }
 
     pub fn kind(self) -> u32
-        ensures { result ≡ word_at self.entry.rows.now self.entry.at 0 }
+        ensures { result ≡ word_at (T.words self.rows) self.at 0 }
     {
         self.word(KIND)
     }
 
     // How many rows the row's subtree has, itself included.
     pub fn subtree(self) -> usize
-        ensures { result ≡ rows_at self.entry.rows.now self.entry.at }
+        ensures rows { result ≡ rows_at (T.words self.rows) self.at }
+        ensures few { result < 2 ^ 32 }
     {
         self.word(ROWS) as usize
     }
 
     pub fn role(self) -> u32
-        ensures { result ≡ word_at self.entry.rows.now self.entry.at 2 }
+        ensures { result ≡ word_at (T.words self.rows) self.at 2 }
     {
         self.word(ROLE)
     }
 
     pub fn union_id(self) -> u32
-        ensures { result ≡ word_at self.entry.rows.now self.entry.at 3 }
+        ensures { result ≡ word_at (T.words self.rows) self.at 3 }
     {
         self.word(UNION_ID)
     }
 
     // A unit, a length, a precision, a mode, or sorted or not.
     pub fn number(self) -> u32
-        ensures { result ≡ word_at self.entry.rows.now self.entry.at 4 }
+        ensures { result ≡ word_at (T.words self.rows) self.at 4 }
     {
         self.word(NUMBER)
     }
 
     // A decimal's scale plus 128.
     pub fn scale(self) -> u32
-        ensures { result ≡ word_at self.entry.rows.now self.entry.at 5 }
+        ensures { result ≡ word_at (T.words self.rows) self.at 5 }
     {
         self.word(SCALE)
     }
 
     // Where the row's name stands, as its words have it.
     pub fn field(self) -> Field
-        ensures home { result.home ≡ word_at self.entry.rows.now self.entry.at 6 }
-        ensures start { result.start ≡ word_at self.entry.rows.now self.entry.at 7 }
-        ensures size { result.size ≡ word_at self.entry.rows.now self.entry.at 8 }
+        ensures home { result.home ≡ word_at (T.words self.rows) self.at 6 }
+        ensures start { result.start ≡ word_at (T.words self.rows) self.at 7 }
+        ensures size { result.size ≡ word_at (T.words self.rows) self.at 8 }
     {
         Field {
             home: self.word(HOME),
@@ -91,40 +104,41 @@ impl<'r> Row<'r> {
     }
 
     pub fn zone_start(self) -> u32
-        ensures { result ≡ word_at self.entry.rows.now self.entry.at 9 }
+        ensures { result ≡ word_at (T.words self.rows) self.at 9 }
     {
         self.word(ZONE_START)
     }
 
     pub fn zone_length(self) -> u32
-        ensures { result ≡ word_at self.entry.rows.now self.entry.at 10 }
+        ensures { result ≡ word_at (T.words self.rows) self.at 10 }
     {
         self.word(ZONE_LENGTH)
     }
 
     pub fn parent(self) -> usize
-        ensures { result ≡ parent_word_at self.entry.rows.now self.entry.at }
+        ensures { result ≡ parent_word_at (T.words self.rows) self.at }
     {
         self.word(PARENT) as usize
     }
 
     // The row's name, from whichever of a tree's text and name list is its home: empty where its words do not fit.
     pub fn name<'a>(self, tree: &Tree<'a>) -> &'a [u8]
-        ensures { result.now ≡ name_of tree.now.text.now tree.now.names.now (word_at self.entry.rows.now self.entry.at 6) (word_at self.entry.rows.now self.entry.at 7) (word_at self.entry.rows.now self.entry.at 8) }
+        ensures { result.now ≡ name_of tree.now.text.now tree.now.names.now (word_at (T.words self.rows) self.at 6) (word_at (T.words self.rows) self.at 7) (word_at (T.words self.rows) self.at 8) }
     {
         self.field().name(tree.text, tree.names)
     }
 
     // The row's zone, as a part of the text: empty where its words do not fit.
     pub fn zone(self, text: &[u8]) -> &[u8]
-        ensures { result.now ≡ zone_of text.now (word_at self.entry.rows.now self.entry.at 9) (word_at self.entry.rows.now self.entry.at 10) }
+        ensures { result.now ≡ zone_of text.now (word_at (T.words self.rows) self.at 9) (word_at (T.words self.rows) self.at 10) }
     {
         zone(text, self.zone_start(), self.zone_length())
     }
+
     /// What the row says of a tree whose row it is.
     #[tactic(auto, unfolding(crate::specs::Tree::label_of, crate::specs::Table::row_at))]
     pub fn label<'a>(self, tree: &Tree<'a>) -> Label<'a>
-        ensures { label_said result ≡ label_of tree.now.text.now tree.now.names.now (row_at self.entry.rows.now self.entry.at) }
+        ensures { label_said result ≡ label_of tree.now.text.now tree.now.names.now (row_at (T.words self.rows) self.at) }
     {
         Label {
             kind: self.kind(),

@@ -324,7 +324,7 @@ impl<'a> Parser<'a> {
         // No range has the places of the fields: each begins where the one before it ended, until a closing mark.
         loop {
             if let Some(end) = self.next_if(next, b')') {
-                if !subtrees::try_new(below, 0, used) {
+                if !subtrees::try_new(&*below, 0, used) {
                     return Err(ReadError {
                         place: mark_before(end),
                         refusal: Refusal::WrongUnionId,
@@ -379,8 +379,12 @@ impl<'a> Parser<'a> {
     {
         let open = self.expect_token(at, b'(')?;
         let entries = self.parse_field(below, 0, open, level)?;
-        if let Err(refusal) = subtrees::check_entries(below, 0) {
-            let kind = Row { rows: below, at: 0 }.kind();
+        if let Err(refusal) = subtrees::check_entries(&*below, 0) {
+            let kind = Row {
+                rows: &*below,
+                at: 0,
+            }
+            .kind();
             let place = self.last_token(open, kind, entries.next)?;
             return Err(ReadError { place, refusal });
         }
@@ -426,7 +430,10 @@ impl<'a> Parser<'a> {
         ensures { MeetsFields (named_run_ends self.now.text.now (type_at self.now.text.now level) at (rows_left rows.old)) rows.old result rows.new }
     {
         let run_ends = self.parse_field(rows, 0, at, level)?;
-        let row = Row { rows, at: 0 };
+        let row = Row {
+            rows: &*rows,
+            at: 0,
+        };
         if row.role() != NON_NULL {
             let place = self.last_token(at, row.kind(), run_ends.next)?;
             return Err(ReadError {

@@ -18,7 +18,6 @@ use Rattle.subtrees.specs.Equal.{equal_trees}
 use Rattle.subtrees.proofs.Equivalence.{equal-labels}
 use Rattle.row_table.proofs.SoundTree.{SoundTree, sound_tree, sound-labels}
 use Rattle.datatype.specs.Table.{tree_of, rows_at, word_at}
-use Rattle.datatype.specs.declared.row.Row.{Row as Place}
 use Rattle.datatype.specs.Table.{row_at}
 use Rattle.row_table.specs.declared.nodes.SoundTree.{SoundTree as Whole}
 use Rattle.row_table.specs.declared.nodes.Node.{Node}
@@ -33,7 +32,7 @@ unfolding struct_fields
 not-sound text names table e = rw e
 
 -- the root of a sound tree, and its kind
-module _ (w : Whole) (root : Node) (of : root.whole.now ≡ w) (first : root.at ≡ 0) (r : Place) (in_rows : r.rows.now ≡ root.whole.now.tree.rows.now) (at : r.at ≡ root.at) (kind : ℕ) (is : kind ≡ word_at r.rows.now r.at 0) where
+module _ (w : Whole) (root : Node) (of : root.whole.now ≡ w) (first : root.at ≡ 0) (rows : List ℕ) (i : ℕ) (in_rows : rows ≡ root.whole.now.tree.rows.now) (at : i ≡ root.at) (kind : ℕ) (is : kind ≡ word_at rows i 0) where
   root-kind : (label_in root).kind ≡ kind
   unfolding label_of row_at
   root-kind = sym (is ∙ rw (in_rows, at))

@@ -10,4 +10,4 @@ mod rules;
 mod sound;
 
 pub use levels::depth_of;
-pub use sound::is_sound;
+pub use sound::{is_sound, is_sound_table};

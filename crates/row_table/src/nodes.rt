@@ -89,7 +89,7 @@ impl<'a> Node<'a> {
     ghost use Rattle.row_table.specs.Nodes.{label_in};
 
     /// The row itself, by which its words are read.
-    pub fn row(&self) -> Row<'a>
+    pub fn row(&self) -> Row<&'a [u32]>
         ensures rows { result.rows.now ≡ self.now.whole.now.tree.rows.now }
         ensures at { result.at ≡ self.now.at }
     {

@@ -9,7 +9,7 @@ use crate::names::{is_name_list, name_fits, zone_fits};
 use crate::rules::{Standing, below, numbers_fit};
 use datatype::kind::KINDS;
 use datatype::rows::{MAX_LEVELS, MAX_ROWS, MAX_TEXT, ROW_WORDS};
-use datatype::{Row, Tree};
+use datatype::{KeptRows, Row, Tree};
 use subtrees::parents_fit;
 
 // Whether the union id is one of a row of a standing.
@@ -25,8 +25,8 @@ fn id_fits(standing: Standing, id: u32) -> bool
 
 // Whether a row, of a standing, is sound, but for what its children must be.
 #[tactic(auto, unfolding(crate::specs::Internal::Check::own_fits, subtrees::specs::Internal::Run::row_at))]
-fn row_fits(text: &str, standing: Standing, row: Row) -> bool
-    ensures { result ≡ own_fits text.now (standing_of standing) (row_at row.entry.rows.now row.entry.at) }
+fn row_fits<T: KeptRows>(text: &str, standing: Standing, row: Row<T>) -> bool
+    ensures { result ≡ own_fits text.now (standing_of standing) (row_at (T.words row.rows) row.at) }
 {
     let kind = row.kind();
     kind < KINDS
@@ -38,8 +38,8 @@ fn row_fits(text: &str, standing: Standing, row: Row) -> bool
 
 // Whether rows nest, are sound by a standing and have at most so many levels.
 #[tactic(auto, using(crate::proofs::SoundLaws::turns))]
-fn run_fits(text: &str, standing: Standing, level: usize, run: Run) -> bool
-    ensures { result ≡ run_fits text.now (standing_of standing) level (run_at run.entry.rows.now run.entry.start (run.entry.end - run.entry.start)) }
+fn run_fits<T: KeptRows>(text: &str, standing: Standing, level: usize, run: Run<T>) -> bool
+    ensures { result ≡ run_fits text.now (standing_of standing) level (run_at (T.words run.rows) run.start (run.end - run.start)) }
 {
     let Run { rows, start, end } = run;
     let mut at = start;
@@ -76,23 +76,23 @@ fn run_fits(text: &str, standing: Standing, level: usize, run: Run) -> bool
     true
 }
 
-// Whether text, name list and row words are a sound tree.
+// Whether rows, however they are kept, are a sound tree over a text and a name list.
 #[tactic(auto, using(crate::proofs::SoundLaws::sounds, tokenizer::proofs::RustUtf8::test_yes, tokenizer::proofs::RustUtf8::test_no))]
-pub fn is_sound(tree: Tree<'_>) -> bool
-    ensures { result ≡ is_sound tree.entry.text.now tree.entry.names.now tree.entry.rows.now }
+pub fn is_sound_table<T: KeptRows>(text: &[u8], names: &[u8], rows: T) -> bool
+    ensures { result ≡ is_sound text.now names.now (T.words rows) }
 {
-    let rows = tree.rows;
-    let n = rows.len() / ROW_WORDS;
+    let words = rows.word_count();
+    let n = words / ROW_WORDS;
     let Some(root) = Row::of(rows, 0) else {
         return false;
     };
-    if MAX_TEXT < tree.text.len() || !is_name_list(tree.names) || MAX_ROWS < n {
+    if MAX_TEXT < text.len() || !is_name_list(names) || MAX_ROWS < n {
         return false;
     }
-    if rows.len() != ROW_WORDS * n || root.subtree() != n {
+    if words != ROW_WORDS * n || root.subtree() != n {
         return false;
     }
-    let Ok(text) = str::from_utf8(tree.text) else {
+    let Ok(text) = str::from_utf8(text) else {
         return false;
     };
     if !parents_fit(rows) {
@@ -104,4 +104,11 @@ pub fn is_sound(tree: Tree<'_>) -> bool
         end: n,
     };
     run_fits(text, Standing::Bare, MAX_LEVELS, all)
+}
+
+// Whether text, name list and row words are a sound tree.
+pub fn is_sound(tree: Tree<'_>) -> bool
+    ensures { result ≡ is_sound tree.entry.text.now tree.entry.names.now tree.entry.rows.now }
+{
+    is_sound_table(tree.text, tree.names, tree.rows)
 }

@@ -3,16 +3,16 @@ ghost use Rattle.std.specs.Prelude.{◌≡◌, length, nat_eq};
 ghost use Rattle.subtrees.specs.MapEntries.{listed, refused_with, entries_refusal_at};
 ghost use Rattle.subtrees.specs.Internal.Beside.{behind_at, beside};
 
-use datatype::Row;
 use datatype::kind::STRUCT;
 use datatype::rows::NON_NULL;
+use datatype::{KeptRows, Row};
 use tokenizer::Refusal;
 
 // The row behind the subtree of row `at`, which stands before row `end`: none where it does not, is not in the table or
 // has no rows in its subtree.
 #[tactic(auto, unfolding(crate::specs::Internal::Beside::behind_at))]
-fn behind(rows: &[u32], at: usize, end: usize) -> Option<usize>
-    ensures { result ≡ behind_at rows.now at end }
+fn behind<T: KeptRows>(rows: T, at: usize, end: usize) -> Option<usize>
+    ensures { result ≡ behind_at (T.words rows) at end }
 {
     if end <= at {
         return None;
@@ -27,8 +27,8 @@ fn behind(rows: &[u32], at: usize, end: usize) -> Option<usize>
 // Whether two rows stand side by side from row `first` up to row `end`: what `row_table` asks of whole trees, of rows of which
 // nothing is known.
 #[tactic(auto, using(crate::proofs::SiblingLaws::beside_steps), unfolding(crate::specs::Internal::Beside::behind_at))]
-fn are_two(rows: &[u32], first: usize, end: usize) -> bool
-    ensures { result ≡ nat_eq (length (listed (beside 2 rows.now first end))) 2 }
+fn are_two<T: KeptRows>(rows: T, first: usize, end: usize) -> bool
+    ensures { result ≡ nat_eq (length (listed (beside 2 (T.words rows) first end))) 2 }
 {
     let Some(second) = behind(rows, first, end) else {
         return false;
@@ -41,8 +41,8 @@ fn are_two(rows: &[u32], first: usize, end: usize) -> bool
 
 // Refuses a row, with its subtree, that is no Map's entries.
 #[tactic(auto, using(crate::proofs::EntryLaws::entries))]
-pub fn check_entries(rows: &[u32], row: usize) -> Result<(), Refusal>
-    ensures { refused_with result ≡ entries_refusal_at rows.now row }
+pub fn check_entries<T: KeptRows>(rows: T, row: usize) -> Result<(), Refusal>
+    ensures { refused_with result ≡ entries_refusal_at (T.words rows) row }
 {
     let entries = Row::of(rows, row).ok_or(Refusal::WrongMapEntries)?;
     if entries.role() != NON_NULL {

@@ -4,15 +4,15 @@ ghost use Rattle.datatype.specs.Table.{row_words, rows_lent};
 ghost use Rattle.subtrees.specs.Parents.{parent_at, parents_set, with_parents, parents_fit};
 ghost use Rattle.subtrees.specs.Internal.Climb.{Climbs};
 
-use datatype::Row;
 use datatype::rows::{MAX_ROWS, PARENT, ROW_WORDS, rows_lent};
+use datatype::{KeptRows, Row};
 
 // The row that a row stands under, where the rows before it have their parents: the row before it, or the first row up
 // from that one whose subtree holds it.
 #[tactic(auto, using(crate::proofs::ParentClimb::climbs))]
-fn parent_of(row: Row<'_>) -> usize
-    requires { Climbs row.rows.now row.at }
-    ensures { result ≡ parent_at row.entry.rows.now row.entry.at }
+fn parent_of<T: KeptRows>(row: Row<T>) -> usize
+    requires { Climbs (T.words row.rows) row.at }
+    ensures { result ≡ parent_at (T.words row.rows) row.at }
 {
     if row.at == 0 {
         return 0;
@@ -40,7 +40,10 @@ pub fn set_first_parents(rows: &mut [u32], n: usize)
     ensures { rows.new ≡ parents_set rows.old (min n (rows_lent (length rows.old))) }
 {
     for i in 0..n.min(rows_lent(rows.len())) {
-        rows[ROW_WORDS * i + PARENT] = parent_of(Row { rows, at: i }) as u32;
+        rows[ROW_WORDS * i + PARENT] = parent_of(Row {
+            rows: &*rows,
+            at: i,
+        }) as u32;
     }
 }
 
@@ -53,13 +56,13 @@ pub fn set_parents(rows: &mut [u32])
 }
 
 // Whether each row of a table has its parent.
-pub fn parents_fit(rows: &[u32]) -> bool
-    ensures { result ≡ parents_fit rows.now }
+pub fn parents_fit<T: KeptRows>(rows: T) -> bool
+    ensures { result ≡ parents_fit (T.words rows) }
 {
     // A row is asked only where the rows before it have their parents.
-    (0..rows.len() / ROW_WORDS).all(
+    (0..rows.count()).all(
         |i|
-            requires { (row_words * (i + 1) ≤ length rows.now) × Climbs rows.now i }
+            requires { (row_words * (i + 1) ≤ length (T.words rows)) × Climbs (T.words rows) i }
         {
             let row = Row { rows, at: i };
             row.parent() == parent_of(row)

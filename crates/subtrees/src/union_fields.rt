@@ -2,15 +2,15 @@
 ghost use Rattle.std.specs.Prelude.{◌≡◌};
 ghost use Rattle.subtrees.specs.UnionFields.{type_ids_fit};
 
-use datatype::Row;
+use datatype::{KeptRows, Row};
 
 // Union ids are below this.
 const TYPE_IDS: u32 = 128;
 
 // Whether the union ids of the rows that stand side by side from row `first` up to row `end` are 0 to 127 and distinct.
 #[tactic(auto, using(crate::proofs::UnionLaws::lefts))]
-pub fn try_new(rows: &[u32], first: usize, end: usize) -> bool
-    ensures { result ≡ type_ids_fit rows.now first end }
+pub fn try_new<T: KeptRows>(rows: T, first: usize, end: usize) -> bool
+    ensures { result ≡ type_ids_fit (T.words rows) first end }
 {
     // The ids met so far, a bit each.
     let mut seen = 0u128;

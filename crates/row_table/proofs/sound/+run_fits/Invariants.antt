@@ -5,10 +5,10 @@ use Rattle.row_table.specs.Internal.Check.{standing_of, run_fits}
 use Rattle.row_table.proofs.sound.+run_fits.Given as goal
 
 abbrev pub invariant-loop-at : goal.invariant-loop-at
-invariant-loop-at l = (l.at ≤ l.run.end) × (run_fits l.text (standing_of l.standing) l.level (run_at l.run.rows.now l.run.start (l.run.end - l.run.start)) ≡ run_fits l.text (standing_of l.standing) l.level (run_at l.run.rows.now l.at (l.run.end - l.at)))
+invariant-loop-at g l = (l.at ≤ l.fn.run.end) × (run_fits l.text (standing_of l.standing) l.level (run_at (g.T.KeptRows.words l.fn.run.rows) l.fn.run.start (l.fn.run.end - l.fn.run.start)) ≡ run_fits l.text (standing_of l.standing) l.level (run_at (g.T.KeptRows.words l.fn.run.rows) l.at (l.fn.run.end - l.at)))
 
 abbrev pub decreases-loop-at : goal.decreases-loop-at
-decreases-loop-at l = l.run.end - l.at
+decreases-loop-at g l = l.fn.run.end - l.at
 
 abbrev pub decreases-run_fits : goal.decreases-run_fits
-decreases-run_fits l = l.level
+decreases-run_fits g l = l.level

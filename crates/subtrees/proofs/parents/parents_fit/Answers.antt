@@ -9,7 +9,7 @@ use Rattle.subtrees.proofs.ParentSet.{has_parent, table_fit}
 use Rattle.subtrees.proofs.parents.parents_fit.Goals as goal
 
 pub all-requires-clause-callable : goal.all-requires-clause-callable
-all-requires-clause-callable c = serves_after _ _ (λ k. parent_word_at c.args.rows.now k ≡ parent_at c.args.rows.now k) (λ k f g. search (rules, tests)) _ _ (λ k l h. search (rules, tests))
+all-requires-clause-callable g c = serves_after _ _ (λ k. parent_word_at (g.T.KeptRows.words c.args.rows) k ≡ parent_at (g.T.KeptRows.words c.args.rows) k) (λ k f h. search (rules, tests)) _ _ (λ k l h. search (rules, tests))
 
 pub returns : goal.returns
-returns c = all_from_yields_List (has_parent c.args.rows.now) _ _ c.all.result c.all.ensures.ran (YieldsList-from_range 0 _ _ refl (omega arith)) (λ x r q k. search (rules, tests)) ∙ table_fit c.args.rows.now
+returns g c = all_from_yields_List (has_parent (g.T.KeptRows.words c.args.rows)) _ _ c.all.result c.all.ensures.ran (YieldsList-from_range 0 _ _ refl (omega arith)) (λ x r q k. search (rules, tests)) ∙ table_fit (g.T.KeptRows.words c.args.rows)

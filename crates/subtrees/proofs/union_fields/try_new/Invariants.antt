@@ -5,7 +5,7 @@ use Rattle.subtrees.specs.Internal.Ids.{left_fit}
 use Rattle.subtrees.proofs.union_fields.try_new.Given as goal
 
 abbrev pub invariant-loop-at : goal.invariant-loop-at
-invariant-loop-at l = type_ids_fit l.rows l.first l.end ≡ left_fit l.rows l.seen l.at l.end
+invariant-loop-at g l = type_ids_fit (g.T.KeptRows.words l.rows) l.first l.end ≡ left_fit (g.T.KeptRows.words l.rows) l.seen l.at l.end
 
 abbrev pub decreases-loop-at : goal.decreases-loop-at
-decreases-loop-at l = l.end - l.at
+decreases-loop-at g l = l.end - l.at

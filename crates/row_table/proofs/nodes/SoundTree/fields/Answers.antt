@@ -4,9 +4,9 @@ use Rattle.row_table.proofs.nodes.SoundTree.fields.Goals as goal
 
 pub returns-then-kind-ne-STRUCT : goal.returns-then-kind-ne-STRUCT
 returns-then-kind-ne-STRUCT c =
-    no-struct _ c.root-root.result c.root-root.ensures.whole c.root-root.ensures.at c.row.result c.row.ensures.rows c.row.ensures.at _ c.kind.ensures c.if-kind-ne-STRUCT.true
+    no-struct _ c.root-root.result c.root-root.ensures.whole c.root-root.ensures.at c.row.result.rows.now c.row.result.at c.row.ensures.rows c.row.ensures.at _ c.kind.ensures c.if-kind-ne-STRUCT.true
 
 pub returns : goal.returns
 returns c =
     let kids = c.children.ensures in
-    fields-are _ c.root-root.result c.root-root.ensures.whole c.root-root.ensures.at c.row.result c.row.ensures.rows c.row.ensures.at _ c.kind.ensures c.if-kind-ne-STRUCT.false _ kids.whole kids.start kids.end
+    fields-are _ c.root-root.result c.root-root.ensures.whole c.root-root.ensures.at c.row.result.rows.now c.row.result.at c.row.ensures.rows c.row.ensures.at _ c.kind.ensures c.if-kind-ne-STRUCT.false _ kids.whole kids.start kids.end
