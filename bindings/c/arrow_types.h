@@ -36,13 +36,16 @@ extern "C" {
 #endif
 
 /* The version of the library and of this header. */
-#define ARROW_TYPES_VERSION "0.5.0"
+#define ARROW_TYPES_VERSION "0.6.0"
 #define ARROW_TYPES_VERSION_MAJOR 0
-#define ARROW_TYPES_VERSION_MINOR 5
+#define ARROW_TYPES_VERSION_MINOR 6
 #define ARROW_TYPES_VERSION_PATCH 0
 
 /* Words to a row. */
 #define ARROW_TYPES_ROW_WORDS 12
+
+/* Half words to a row that is kept in halves. */
+#define ARROW_TYPES_HALF_ROW_WORDS 13
 
 /* The most rows of a tree: ARROW_TYPES_MAX_ROWS * ARROW_TYPES_ROW_WORDS words are enough for every text. */
 #define ARROW_TYPES_MAX_ROWS 1024
@@ -68,7 +71,7 @@ extern "C" {
  * right. 17 to 19 are the printer's, in that order; depth and verdict refuse with 17 alone. The check of needs refuses with
  * 17 and 25 to 27, in that order, and taking a column out with 17, 25, 29 and 28, in that order. Writing into the archive record
  * refuses with 17 and 28, in that order, and reading from it with 30, 31 and 28, of which the first in the image counts, and then
- * with 17. No function here refuses with 20 to 24.
+ * with 17. Rows in halves are refused with 17 and then 28. No function here refuses with 20 to 24.
  */
 enum arrow_types_refusal {
     ARROW_TYPES_TEXT_TOO_LONG = 1,       /* the text is longer than 16,384 bytes */
@@ -448,6 +451,34 @@ uint32_t arrow_types_from_archive(const uint8_t *image, size_t image_length,
                                   uint32_t *rows, size_t rows_length,
                                   uint8_t *text, size_t text_length,
                                   size_t *count, size_t *length);
+
+/*
+ * Keeps a tree's rows in 16-bit words, ARROW_TYPES_HALF_ROW_WORDS to a row: its words in order, word 4 as its low half and then
+ * its high half. They are for keeping; arrow_types_from_half_rows brings them back. The text stays beside them, since they hold
+ * places in it.
+ *
+ * 0: the first ARROW_TYPES_HALF_ROW_WORDS * *count half words are the rows; what stands behind them is as it was.
+ * 17: the tree is not sound; 28: there are too few half words for it. The first of these counts; *count is 0, and nothing else
+ *    is changed.
+ */
+uint32_t arrow_types_to_half_rows(const uint8_t *text, size_t text_length,
+                                  const uint8_t *names, size_t names_length,
+                                  const uint32_t *rows, size_t rows_length,
+                                  uint16_t *halves, size_t halves_length, size_t *count);
+
+/*
+ * Brings rows in halves back, over the text and the name list that they were kept with. Halves are checked as rows are: any half
+ * words may be lent, just those that were filled.
+ *
+ * 0: the first ARROW_TYPES_ROW_WORDS * *count words of rows are a sound tree, word for word the one that was kept; what stands
+ *    behind them is as it was.
+ * 17: the half words are no whole rows, or the rows are not a sound tree over text and name list; 28: there are too few words
+ *    for them. The first of these counts; *count is 0, and nothing else is changed.
+ */
+uint32_t arrow_types_from_half_rows(const uint8_t *text, size_t text_length,
+                                    const uint8_t *names, size_t names_length,
+                                    const uint16_t *halves, size_t halves_length,
+                                    uint32_t *rows, size_t rows_length, size_t *count);
 
 /*
  * Where a field's name is; home, start and size are words 6 to 8 of its row.

@@ -1121,6 +1121,125 @@ static void golden_files(const char *folder)
     CHECK(files >= 12);
 }
 
+/* Rows in halves, and rows brought back, each among words that must stay as they were. */
+#define HALVES (ARROW_TYPES_MAX_ROWS * ARROW_TYPES_HALF_ROW_WORDS)
+
+static uint16_t halves[HALVES + 2];
+static uint32_t wide[WORDS + 2];
+static size_t kept_count[3];
+
+static void fill_halves(void)
+{
+    for (size_t i = 0; i < HALVES + 2; i++)
+        halves[i] = 9;
+}
+
+static uint32_t keep(size_t room)
+{
+    fill_halves();
+    kept_count[0] = kept_count[1] = kept_count[2] = UNWRITTEN;
+    return arrow_types_to_half_rows(TREE(&a), halves + 1, room, &kept_count[1]);
+}
+
+static uint32_t bring_back(const uint16_t *from, size_t length, size_t room)
+{
+    for (size_t i = 0; i < WORDS + 2; i++)
+        wide[i] = 7;
+    kept_count[0] = kept_count[1] = kept_count[2] = UNWRITTEN;
+    return arrow_types_from_half_rows(a.text, a.length, NAMES, from, length, wide + 1, room, &kept_count[1]);
+}
+
+/* Whether so many rows were counted and nothing else beside the count was written. */
+static int counted(size_t count)
+{
+    return kept_count[0] == UNWRITTEN && kept_count[1] == count && kept_count[2] == UNWRITTEN;
+}
+
+/* Whether all half words lent but the first are as they were. */
+static int halves_untouched(size_t from)
+{
+    for (size_t i = from; i < HALVES + 2; i++)
+        if (halves[i] != 9)
+            return 0;
+    return halves[0] == 9;
+}
+
+/* Whether the tree in a is kept in just these half words, with all room and with just enough, and comes back word for word. */
+static int kept_as(const uint16_t *expected, size_t count)
+{
+    size_t length = count * ARROW_TYPES_HALF_ROW_WORDS;
+    static uint16_t kept[HALVES];
+    for (int more = 0; more < 2; more++)
+        if (keep(more ? (size_t)HALVES : length) != 0 || !counted(count) || !halves_untouched(1 + length)
+            || memcmp(halves + 1, expected, length * sizeof *expected) != 0)
+            return 0;
+    if (keep(length - 1) != ARROW_TYPES_NO_ROOM || !counted(0) || !halves_untouched(1))
+        return 0;
+    memcpy(kept, expected, length * sizeof *expected);
+    for (int more = 0; more < 2; more++)
+        if (bring_back(kept, length, more ? (size_t)WORDS : a.words) != 0 || !counted(count) || wide[0] != 7
+            || memcmp(wide + 1, a.rows, a.words * sizeof *wide) != 0 || !all(wide + 1 + a.words, WORDS + 1 - a.words, 7))
+            return 0;
+    return bring_back(kept, length, a.words - 1) == ARROW_TYPES_NO_ROOM && counted(0) && all(wide, WORDS + 2, 7);
+}
+
+/* Whether half words are brought back with a number, and nothing is written, however much is lent. */
+static int not_back(const uint16_t *from, size_t length)
+{
+    return bring_back(from, length, 0) == ARROW_TYPES_NOT_SOUND && counted(0) && all(wide, WORDS + 2, 7)
+        && bring_back(from, length, WORDS) == ARROW_TYPES_NOT_SOUND && counted(0) && all(wide, WORDS + 2, 7);
+}
+
+static void keeping_halves(void)
+{
+    static const uint16_t int8[] = {2, 1, 0, 0, 0, 0, 0, 0, 0, 0, 0, 0, 0};
+    static const uint16_t low[] = {21, 1, 0, 0, 65535, 0, 0, 0, 0, 0, 0, 0, 0};
+    static const uint16_t high[] = {21, 1, 0, 0, 0, 1, 0, 0, 0, 0, 0, 0, 0};
+    static const uint16_t greatest[] = {21, 1, 0, 0, 65535, 32767, 0, 0, 0, 0, 0, 0, 0};
+    static const uint16_t columns[] = {32, 3, 0, 0, 0, 0, 0, 0, 0, 0, 0, 0, 0, 13, 1, 2, 0, 0, 0, 0, 1, 8, 4, 38, 3, 0,
+                                       36, 1, 1, 0, 12, 0, 131, 1, 46, 3, 0, 0, 0};
+    static const uint16_t list[] = {27, 2, 0, 0, 0, 0, 0, 0, 0, 0, 0, 0, 0, 2, 1, 1, 0, 0, 0, 0, 2, 0, 4, 0, 0, 0};
+    static const uint16_t dense[] = {33, 2, 0, 0, 1, 0, 0, 0, 0, 0, 0, 0, 0, 2, 1, 1, 127, 0, 0, 0, 1, 20, 1, 0, 0, 0};
+    CHECK(read_text(&a, "Int8") == 0 && kept_as(int8, 1));
+    CHECK(read_text(&a, "FixedSizeBinary(65535)") == 0 && kept_as(low, 1));
+    CHECK(read_text(&a, "FixedSizeBinary(65536)") == 0 && kept_as(high, 1));
+    CHECK(read_text(&a, "FixedSizeBinary(2147483647)") == 0 && kept_as(greatest, 1));
+    CHECK(read_text(&a, "Struct(\"slot\": non-null Timestamp(s, \"CET\"), \"kwh\": Decimal64(12, 3))") == 0 && kept_as(columns, 3));
+    CHECK(read_text(&a, "List(Int8)") == 0 && kept_as(list, 2));
+    CHECK(read_text(&a, "Union(Dense, 127: (\"x\": Int8))") == 0 && kept_as(dense, 2));
+}
+
+/* 17 before 28, both ways; and half words that are no tree. */
+static void refusing_halves(void)
+{
+    CHECK(read_text(&a, "Int8") == 0);
+    a.rows[ARROW_TYPES_WORD_ROLE] = 1;
+    CHECK(keep(0) == ARROW_TYPES_NOT_SOUND && counted(0) && halves_untouched(1));
+
+    CHECK(read_text(&a, "Int8") == 0);
+    uint16_t int8[ARROW_TYPES_HALF_ROW_WORDS + 1] = {2, 1};
+    CHECK(bring_back(int8, ARROW_TYPES_HALF_ROW_WORDS, ARROW_TYPES_ROW_WORDS) == 0 && counted(1));
+    CHECK(not_back(int8, 0) && not_back(int8, ARROW_TYPES_HALF_ROW_WORDS - 1) && not_back(int8, ARROW_TYPES_HALF_ROW_WORDS + 1));
+    static const struct {
+        size_t at;
+        uint16_t half;
+    } faults[] = {{0, 41}, {1, 65535}, {2, 1}, {4, 1}, {5, 1}, {6, 1}, {12, 1}};
+    for (size_t i = 0; i < sizeof faults / sizeof *faults; i++) {
+        uint16_t before = int8[faults[i].at];
+        int8[faults[i].at] = faults[i].half;
+        CHECK(not_back(int8, ARROW_TYPES_HALF_ROW_WORDS));
+        int8[faults[i].at] = before;
+    }
+    static const uint16_t too_great[] = {21, 1, 0, 0, 65535, 32768, 0, 0, 0, 0, 0, 0, 0};
+    CHECK(not_back(too_great, ARROW_TYPES_HALF_ROW_WORDS));
+
+    /* Over another text the same rows are another tree, or none. */
+    static const uint16_t field[] = {32, 2, 0, 0, 0, 0, 0, 0, 0, 0, 0, 0, 0, 2, 1, 1, 0, 0, 0, 0, 1, 8, 1, 0, 0, 0};
+    CHECK(read_text(&a, "Struct(\"b\": Int8)") == 0 && kept_as(field, 2));
+    CHECK(read_text(&a, "Struct") != 0);
+    CHECK(not_back(field, sizeof field / sizeof *field));
+}
+
 /* Every number has a sentence of its own, and no other number has one. */
 static void sentences(void)
 {
@@ -1194,6 +1313,8 @@ int main(int count, char **arguments)
     archiving();
     not_archiving();
     golden_files(arguments[1]);
+    keeping_halves();
+    refusing_halves();
     sentences();
     step_sentences();
     version();

@@ -14,6 +14,7 @@
 #define LEVELS 64
 #define COUNT(array) (sizeof(array) / sizeof *(array))
 #define WORDS (ARROW_TYPES_MAX_ROWS * ARROW_TYPES_ROW_WORDS)
+#define HALVES (ARROW_TYPES_MAX_ROWS * ARROW_TYPES_HALF_ROW_WORDS)
 #define NAMES (const uint8_t *)ARROW_TYPES_NAMES, (size_t)ARROW_TYPES_NAMES_LENGTH
 #define TREE text, length, NAMES, rows, words
 
@@ -24,6 +25,7 @@ static uint32_t rows[WORDS];
 static size_t words;
 static uint8_t out[ARROW_TYPES_MAX_TEXT];
 static uint32_t back[WORDS];
+static uint16_t halves[HALVES];
 static uint32_t status;
 
 /* What is written besides. */
@@ -105,6 +107,17 @@ static void from_archive(void)
     status = arrow_types_from_archive(image, image_length, back, WORDS, out, sizeof out, &count, &size);
 }
 
+static void to_half_rows(void)
+{
+    status = arrow_types_to_half_rows(TREE, halves, HALVES, &count);
+}
+
+/* The half words that the call before left. */
+static void from_half_rows(void)
+{
+    status = arrow_types_from_half_rows(text, length, NAMES, halves, count * ARROW_TYPES_HALF_ROW_WORDS, back, WORDS, &size);
+}
+
 static void set_parents(void)
 {
     arrow_types_set_parents(rows, words);
@@ -127,6 +140,8 @@ static struct call {
     {"arrow_types_verdict", verdict, 0, ""},
     {"arrow_types_needs", needs, 0, ""},
     {"arrow_types_take_column_out", take_column_out, 0, ""},
+    {"arrow_types_to_half_rows", to_half_rows, 0, ""},
+    {"arrow_types_from_half_rows", from_half_rows, 0, ""},
     {"arrow_types_set_parents", set_parents, 0, ""},
     {"arrow_types_to_archive", to_archive, 0, ""},
     {"arrow_types_from_archive", from_archive, 0, ""},

@@ -172,6 +172,30 @@ unsafe extern "C" {
         length: *mut usize,
     ) -> u32;
 
+    fn arrow_types_to_half_rows(
+        text: *const u8,
+        text_length: usize,
+        names: *const u8,
+        names_length: usize,
+        rows: *const u32,
+        rows_length: usize,
+        halves: *mut u16,
+        halves_length: usize,
+        count: *mut usize,
+    ) -> u32;
+
+    fn arrow_types_from_half_rows(
+        text: *const u8,
+        text_length: usize,
+        names: *const u8,
+        names_length: usize,
+        halves: *const u16,
+        halves_length: usize,
+        rows: *mut u32,
+        rows_length: usize,
+        count: *mut usize,
+    ) -> u32;
+
     fn arrow_types_set_parents(rows: *mut u32, rows_length: usize);
 
     fn arrow_types_name(
@@ -499,6 +523,46 @@ pub fn from_archive(
         )
     };
     answer(status, (count, length))
+}
+
+/// Keeps a tree's rows in halves: how many rows.
+pub fn to_half_rows(tree: Tree, halves: &mut [u16]) -> Result<usize, Error> {
+    let mut count = 0;
+    // SAFETY: as in `is_sound`; `halves`, borrowed mutably, and the local `count` are written, and are no part of what is read.
+    let status = unsafe {
+        arrow_types_to_half_rows(
+            tree.text.as_ptr(),
+            tree.text.len(),
+            NAME_LIST.as_ptr(),
+            NAME_LIST.len(),
+            tree.rows.as_ptr(),
+            tree.rows.len(),
+            halves.as_mut_ptr(),
+            halves.len(),
+            &mut count,
+        )
+    };
+    answer(status, count)
+}
+
+/// Brings rows in halves back, over the text that they point into: how many rows.
+pub fn from_half_rows(text: &[u8], halves: &[u16], rows: &mut [u32]) -> Result<usize, Error> {
+    let mut count = 0;
+    // SAFETY: as in `is_sound`; `rows`, borrowed mutably, and the local `count` are written, and are no part of what is read.
+    let status = unsafe {
+        arrow_types_from_half_rows(
+            text.as_ptr(),
+            text.len(),
+            NAME_LIST.as_ptr(),
+            NAME_LIST.len(),
+            halves.as_ptr(),
+            halves.len(),
+            rows.as_mut_ptr(),
+            rows.len(),
+            &mut count,
+        )
+    };
+    answer(status, count)
 }
 
 /// Sets the parents of rows.

@@ -38,6 +38,7 @@
 //! by hand; [`DataType::lossy`] shows a type in a log in any case. [`DataType::first_unmet`] says whether a type has the
 //! columns that a caller needs, and [`DataType::without_field`] takes a column out, with every name and zone of it.
 //! [`DataType::to_archive`] and [`DataType::from_archive`] write a type into the bytes of an archive record and read it from them.
+//! [`DataType::to_half_rows`] keeps a type in half the memory.
 //!
 //! A text is read into rows that each thread keeps, 49,152 bytes, of which it is lent as many as its length asks for
 //! ([`rows_to_lend`]), and the rows filled are copied out of them; so a [`DataType`] has two allocations, its text and
@@ -59,6 +60,7 @@ mod error;
 #[allow(unsafe_code)]
 mod ffi;
 mod field;
+mod half_rows;
 mod kind;
 mod lossy;
 mod need;
@@ -78,6 +80,7 @@ pub use data_type::{DataType, Verdict};
 pub use error::Error;
 pub use ffi::{read, rows_to_lend};
 pub use field::Field;
+pub use half_rows::{HALF_ROW_WORDS, HalfRows};
 pub use kind::{IntervalUnit, Kind, TimeUnit, UnionMode};
 pub use lossy::Lossy;
 pub use need::Need;

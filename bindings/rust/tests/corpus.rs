@@ -10,8 +10,8 @@
 use std::panic::{AssertUnwindSafe, catch_unwind};
 
 use arrow_types::{
-    DataType, Error, Field, MAX_ROWS, MAX_TEXT, ROW_WORDS, ReadError, RewriteError, Spelling,
-    Verdict, read, rewrite_with, rows_to_lend,
+    DataType, Error, Field, HALF_ROW_WORDS, HalfRows, MAX_ROWS, MAX_TEXT, ROW_WORDS, ReadError,
+    RewriteError, Spelling, Verdict, read, rewrite_with, rows_to_lend,
 };
 
 const NAME_LIST: &[u8] = b"itemrun_endsvalues";
@@ -512,4 +512,72 @@ fn images() {
     assert_eq!(counts[..2], [971, 127]);
     let refused = [17, 28, 30, 31].map(|number| counts[number]);
     assert_eq!(refused, [337, 4, 380, 96]);
+}
+
+/// Half words and what they are brought back as where so many words are lent: rows, or the number of a refusal.
+struct Halves {
+    text: Vec<u8>,
+    list: Vec<u8>,
+    words: usize,
+    status: u32,
+    halves: Vec<u16>,
+    rows: Vec<u32>,
+}
+
+impl Halves {
+    fn of(sample: &mut Sample) -> Halves {
+        let (text, list, words) = (sample.bytes(), sample.bytes(), sample.number());
+        let (status, count) = (sample.number() as u32, sample.number());
+        let halves = sample.number();
+        Halves {
+            text,
+            list,
+            words,
+            status,
+            halves: (0..halves).map(|_| sample.number() as u16).collect(),
+            rows: sample.words(count * ROW_WORDS),
+        }
+    }
+
+    /// What is counted: 0 for rows that come back, the number of a refusal, 1 for half words with another name list, 2 for rows
+    /// that have no room in what the case lends, where they have it here.
+    fn check(&self) -> usize {
+        if self.list != NAME_LIST {
+            assert_eq!(self.status, 17);
+            return 1;
+        }
+        let back = HalfRows::from_parts(self.text.clone(), self.halves.clone());
+        match back.map_err(Error::number) {
+            Ok(back) => {
+                let read = back.to_data_type();
+                assert_eq!(read.to_half_rows().into_parts(), back.clone().into_parts());
+                assert_eq!(back.halves(), self.halves);
+                assert_eq!(back.row_count(), self.halves.len() / HALF_ROW_WORDS);
+                if self.status == 28 {
+                    assert!(self.words < read.rows().len());
+                    return 2;
+                }
+                assert_eq!((self.status, read.rows()), (0, &*self.rows));
+                assert_eq!(read.text().as_bytes(), self.text);
+                0
+            }
+            Err(number) => {
+                assert_eq!(number, self.status);
+                number as usize
+            }
+        }
+    }
+}
+
+#[test]
+fn halves() {
+    let mut sample = Sample::open("halves");
+    let mut counts = [0; 18];
+    for _ in 1..sample.number() {
+        counts[Halves::of(&mut sample).check()] += 1;
+    }
+    let wrong = Halves::of(&mut sample);
+    fails(|| wrong.check());
+    sample.end();
+    assert_eq!((&counts[..3], counts[17]), (&[624, 23, 420][..], 569));
 }

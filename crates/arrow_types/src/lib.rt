@@ -17,6 +17,7 @@ ghost use Rattle.datatype_display.specs.Print.{default_spelling, print_answer, p
 ghost use Rattle.display_length.specs.declared.words.Spelling.TheVariants.{Micro};
 
 mod archived;
+mod halved;
 mod needed;
 mod rewritten;
 mod taken;
@@ -24,6 +25,7 @@ mod taken;
 pub use archived::{arrow_types_from_archive, arrow_types_to_archive};
 use datatype::{Field, Tree};
 use display_length::Spelling;
+pub use halved::{arrow_types_from_half_rows, arrow_types_to_half_rows};
 pub use needed::arrow_types_needs;
 pub use rewritten::{arrow_types_rewrite, arrow_types_rewrite_micro};
 pub use taken::arrow_types_take_column_out;

@@ -14,6 +14,7 @@ ghost use Rattle.needs.specs.Needs.{needs_of};
 ghost use Rattle.packed.specs.Packed.{rows_answered, bytes_answered};
 ghost use Rattle.column_out.specs.ColumnOut.{column_out_answer, column_out_rows, column_out_bytes};
 ghost use Rattle.archive.specs.Archive.{archive_answer, archive_bytes, unarchive_answer, unarchive_rows, unarchive_text};
+ghost use Rattle.half_rows.specs.HalfRows.{half_rows_answer, half_rows_words, wide_rows_answer, wide_rows_words};
 ghost use Rattle.datatype_parse.specs.Parse.{parse_answer, parse_rows};
 ghost use Rattle.datatype_parse.specs.RowsToLend.{rows_to_lend};
 ghost use Rattle.datatype_display.specs.Print.{default_spelling, print_answer, print_bytes};
@@ -293,4 +294,36 @@ pub extern "C" fn arrow_types_from_archive(
     ensures bytes { text.new ≡ unarchive_text image.now rows.old text.old }
 {
     arrow_types::arrow_types_from_archive(image, rows, text, count, length)
+}
+
+// Keeps a sound tree's rows in halves.
+#[unsafe(no_mangle)]
+pub extern "C" fn arrow_types_to_half_rows(
+    text: &[u8],
+    names: &[u8],
+    rows: &[u32],
+    halves: &mut [u16],
+    count: &mut usize,
+) -> u32
+    ensures status { result ≡ status_of (half_rows_answer text.now names.now rows.now halves.old) }
+    ensures count { count.new ≡ value_of (half_rows_answer text.now names.now rows.now halves.old) }
+    ensures contents { halves.new ≡ half_rows_words text.now names.now rows.now halves.old }
+{
+    arrow_types::arrow_types_to_half_rows(text, names, rows, halves, count)
+}
+
+// Brings rows in halves back.
+#[unsafe(no_mangle)]
+pub extern "C" fn arrow_types_from_half_rows(
+    text: &[u8],
+    names: &[u8],
+    halves: &[u16],
+    rows: &mut [u32],
+    count: &mut usize,
+) -> u32
+    ensures status { result ≡ status_of (wide_rows_answer text.now names.now halves.now rows.old) }
+    ensures count { count.new ≡ value_of (wide_rows_answer text.now names.now halves.now rows.old) }
+    ensures contents { rows.new ≡ wide_rows_words text.now names.now halves.now rows.old }
+{
+    arrow_types::arrow_types_from_half_rows(text, names, halves, rows, count)
 }

@@ -7,6 +7,7 @@ use lib.ListN.{length, get_or, take, drop, set, drop_of_length-le}
 use lib.Seq.{drop-cons, take-suc-set, take_all}
 use borrow.Author.Tests.{lt-ltb, le-ltb}
 use Rattle.replay.specs.Sample.{shift, number_from, number_at, numbers_at, after_numbers}
+use Rattle.replay.specs.HalfCase.{half_of, halves_at}
 
 -- ---- a number
 
@@ -58,7 +59,23 @@ module _ (sample : List ℕ) (n i next : ℕ) where
     unfolding numbers_at
     numbers-all h l = let e : n - i ≡ 0 = omega arith in rw (e, take_all i out l) (append-nil out)
 
+    -- the same of half words
+    pub halves-more : i < n → i < length out
+        → take i out ++ halves_at sample (n - i) next ≡ take (i + 1) (set out i (half_of (number_at sample next).value)) ++ halves_at sample (n - (i + 1)) (number_at sample next).next
+    unfolding halves_at
+    halves-more h l =
+        let v : ℕ = half_of (number_at sample next).value in
+        let e : n - i ≡ suc (n - (i + 1)) = omega arith in
+        let f : i + 1 ≡ suc i = omega arith in
+        rw (e, ap (λ (k : ℕ). take k (set out i v)) f, take-suc-set out i v l) (sym (append_assoc (take i out) (v ∷ []) _))
+
+    pub halves-all : n ≤ i → length out ≤ i → take i out ++ halves_at sample (n - i) next ≡ out
+    unfolding halves_at
+    halves-all h l = let e : n - i ≡ 0 = omega arith in rw (e, take_all i out l) (append-nil out)
+
 -- what the loops that read numbers use
 pub ruleset number_steps = (number-end, number-stop, number-go)
 
 pub ruleset numbers_steps = (after-more, after-all, numbers-more, numbers-all)
+
+pub ruleset halves_steps = (after-more, after-all, halves-more, halves-all)

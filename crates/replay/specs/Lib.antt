@@ -1,3 +1,4 @@
+pub mod HalfCase
 pub mod ImageCase
 pub mod PrintCase
 pub mod ReadCase

@@ -48,9 +48,12 @@ counted t false next = record { all = one_more t.all; alike = t.alike; first = o
 
 -- ---- all cases
 
--- The most words and the most bytes that a case is lent.
+-- The most words, half words and bytes that a case is lent.
 abbrev pub most_words : ℕ
 most_words = 13000
+
+abbrev pub most_halves : ℕ
+most_halves = 13500
 
 abbrev pub most_bytes : ℕ
 most_bytes = 20000

@@ -5,6 +5,7 @@
 
 ghost use Rattle.std.specs.Prelude.{◌≡◌, ◌≤◌, length, take};
 
+use halves::Halves;
 use images::Images;
 use prints::{AsMicro, AsUs, Prints};
 use samples::{Sample, replay};
@@ -15,6 +16,7 @@ use tables::Tables;
 use texts::{RowsToLend, Stored, Texts};
 
 mod counts;
+mod halves;
 mod images;
 mod prints;
 mod samples;
@@ -22,8 +24,10 @@ mod stored;
 mod tables;
 mod texts;
 
-// The most words and the most bytes that a case is lent. No heap: buffers of so many are there for all cases.
+// The most words, half words and bytes that a case is lent. No heap: buffers of so many are there for all cases.
 const MOST_WORDS: usize = 13000;
+
+const MOST_HALVES: usize = 13500;
 
 const MOST_BYTES: usize = 20000;
 
@@ -84,6 +88,19 @@ struct ImageCase {
     read: ReadCase,
     bytes: u32,
     text: Number,
+}
+
+// A stored case of rows in halves, but for the half words and the rows' words: the text, the name list, the words lent, the status,
+// the row count, how many half words, and the place of the half words.
+#[derive(Clone, Copy)]
+struct HalfCase {
+    text: Number,
+    names: Number,
+    lent: u32,
+    status: u32,
+    value: u32,
+    count: u32,
+    next: usize,
 }
 
 // A stored table, but for its words: the text, the name list, how many words, and the place of the words.
@@ -175,5 +192,7 @@ fn main(rt: HostRuntime) -> io::Result<()> {
     let plain = " prints with plain us, ";
     replay_and_print(&rt, plain, &mut Prints::new(AsUs), &sample[..j])?;
     let i = load(&rt, "images", &mut sample);
-    replay_and_print(&rt, " images, ", &mut Images::new(), &sample[..i])
+    replay_and_print(&rt, " images, ", &mut Images::new(), &sample[..i])?;
+    let h = load(&rt, "halves", &mut sample);
+    replay_and_print(&rt, " rows in halves, ", &mut Halves::new(), &sample[..h])
 }

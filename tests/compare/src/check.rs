@@ -1,9 +1,10 @@
 //! The comparisons. Every text goes to the model, to the Rust where it has a say, and to the port
-//! if it is there; every tree goes to their printers, to the check of needed columns and into the archive record, and has columns
-//! taken out.
+//! if it is there; every tree goes to their printers, to the check of needed columns, into the archive record and into halves,
+//! and has columns taken out.
 
 mod archive;
 mod column_out;
+mod half_rows;
 mod needs;
 
 use crate::generate::trees::{self, Letters, Tree};
@@ -50,6 +51,8 @@ pub struct Check<'s> {
     pub taken: column_out::Tally,
     /// Images of the archive record, written and read.
     pub archive: archive::Tally,
+    /// Trees kept in halves, and brought back.
+    pub half_rows: half_rows::Tally,
     pub counts: Counts,
 }
 
@@ -68,6 +71,7 @@ impl<'s> Check<'s> {
             needs: needs::Tally::new(seed),
             taken: column_out::Tally::new(seed),
             archive: archive::Tally::new(seed),
+            half_rows: half_rows::Tally::new(seed),
             counts: [0; 20],
         }
     }
@@ -198,6 +202,7 @@ impl<'s> Check<'s> {
         self.needs(tree, Some(data_type));
         self.columns_out(tree, Some(data_type));
         self.archives(tree, Some(data_type));
+        self.halves(tree, Some(data_type), "");
     }
 
     /// A tree that is sound by the way it was made.
@@ -272,9 +277,11 @@ impl<'s> Check<'s> {
         self.needs(tree, None);
         self.columns_out(tree, None);
         self.archives(tree, None);
+        self.halves(tree, None, clause);
     }
 
-    /// Two sound trees: equal by the model exactly if the Rust's types are equal, and if their images are. Answers whether.
+    /// Two sound trees: equal by the model exactly if the Rust's types are equal, and if their images are; kept in the same halves
+    /// exactly if their words are the same. Answers whether they are equal.
     pub fn pair(&mut self, a: &Tree, b: &Tree) -> bool {
         let types = [a, b].map(|tree| oracle::data_type(&tree.text, &tree.list, &tree.words));
         let rows = [a, b].map(|tree| model::from_words(&tree.words));
@@ -289,6 +296,11 @@ impl<'s> Check<'s> {
                 a,
                 &format!("equal: {equal}, in the archive not, to {:?}", b.words),
             );
+        }
+        let halves =
+            [a, b].map(|tree| crate::half_rows::halved((&tree.text, &tree.list, &tree.words)));
+        if (a.words == b.words) != (halves[0] == halves[1]) {
+            self.differ_tree(a, &format!("kept alike with {:?}, or not", b.words));
         }
         equal
     }

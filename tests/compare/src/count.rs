@@ -1,10 +1,12 @@
-//! How many instructions port and Rust take to read and print the texts of speed.rs, and to write and read their images. Valgrind's
+//! How many instructions port and Rust take to read and print the texts of speed.rs, and to write and read their images; and the
+//! port to tell whether they are sound, to keep them in halves and to bring them back. Valgrind's
 //! callgrind counts those of this program, which repeats one of them N times and 2 N times; the
 //! difference is what N repetitions take. Unlike times they are the same in every run, but for one or two.
 
 use crate::archive;
+use crate::half_rows::HALF_WORDS;
 use crate::model::{MOST_BYTES, MOST_ROWS, NAME_LIST, Spelling, WORDS};
-use crate::speed::{shapes, texts};
+use crate::speed::{shapes, tables, texts};
 use crate::subject::{Linked, Subject};
 use arrow_schema::DataType;
 use std::hint::black_box;
@@ -22,6 +24,7 @@ pub fn run() -> Result<ExitCode, String> {
     archiving(&printed)?;
     unarchiving()?;
     growing()?;
+    halving()?;
     Ok(ExitCode::SUCCESS)
 }
 
@@ -134,6 +137,38 @@ fn growing() -> Result<(), String> {
     Ok(())
 }
 
+/// Keeping each tree in halves and bringing it back, beside asking whether it is sound.
+fn halving() -> Result<(), String> {
+    println!(
+        "\nthe same, asking whether what was read is sound, keeping it in halves and bringing it back; the part is that of the first."
+    );
+    println!("text                       rows      sound       kept   part       back   part");
+    let first = texts().len() + shapes().len();
+    let mut taken = Vec::new();
+    let all = texts().into_iter().enumerate();
+    for (number, (name, text)) in all.chain((first..).zip(tables())) {
+        let mut rows = vec![0; MOST_ROWS * WORDS];
+        let Ok(count) = Linked.read(text.as_bytes(), &mut rows) else {
+            continue;
+        };
+        let [sound, kept, back] =
+            ["sound", "keep", "back"].map(|act| counted(act, number, "port", text.len()));
+        let (sound, kept, back) = (sound?, kept?, back?);
+        println!(
+            "{name:<24} {count:>6} {sound:>10.0} {kept:>10.0} {:>6.2} {back:>10.0} {:>6.2}",
+            kept / sound,
+            back / sound,
+        );
+        taken.push((kept, back));
+    }
+    let [.., few, most] = taken[..] else {
+        return Err("two tables".into());
+    };
+    let (kept, back) = (most.0 / few.0 / 16.0, most.1 / few.1 / 16.0);
+    println!("1,024 rows, of 16 times what 64 rows take: {kept:.2} and {back:.2}");
+    Ok(())
+}
+
 /// The image of a text's tree, by the port.
 fn image(text: &str) -> Vec<u8> {
     let mut rows = vec![0; MOST_ROWS * WORDS];
@@ -172,7 +207,8 @@ fn collected(act: &str, text: usize, side: &str, times: usize) -> Result<u64, St
     }
 }
 
-/// Does one of these with a text again and again: `repeat read|print|again|archive|unarchive TEXT rust|port|fewer TIMES`.
+/// Does one of these with a text again and again:
+/// `repeat read|print|again|archive|unarchive|sound|keep|back TEXT rust|port|fewer TIMES`.
 pub fn repeat(arguments: &[String]) -> Result<ExitCode, String> {
     let [act, text, side, times] = arguments else {
         return Err("repeat takes four words".into());
@@ -182,6 +218,7 @@ pub fn repeat(arguments: &[String]) -> Result<ExitCode, String> {
     let (_, text) = texts()
         .into_iter()
         .chain(shapes())
+        .chain(tables())
         .nth(text)
         .ok_or("no such text")?;
     let side = SIDES
@@ -194,6 +231,7 @@ pub fn repeat(arguments: &[String]) -> Result<ExitCode, String> {
         "again" => read(&printed(&text), side, times),
         "archive" => write_archive(&text, side, times),
         "unarchive" => read_archive(&text, side, times),
+        "sound" | "keep" | "back" => halve(act, &text, times),
         _ => return Err(format!("{act} is nothing that is counted")),
     }
     Ok(ExitCode::SUCCESS)
@@ -279,6 +317,29 @@ fn read_archive(text: &str, side: usize, times: usize) {
             _ => {
                 let (rows, out) = (black_box(&mut rows), black_box(&mut out));
                 black_box(Linked.read_archive(image, rows, out).is_ok())
+            }
+        };
+    }
+}
+
+/// Asks whether a text's tree is sound, keeps it in halves or brings it back; by the port.
+fn halve(act: &str, text: &str, times: usize) {
+    let mut rows = vec![0; MOST_ROWS * WORDS];
+    let count = Linked.read(text.as_bytes(), &mut rows).expect("read");
+    let table = (text.as_bytes(), NAME_LIST, &rows[..count * WORDS]);
+    let (mut halves, mut back) = (vec![0; count * HALF_WORDS], vec![0; count * WORDS]);
+    assert_eq!(Linked.to_half_rows(table, &mut halves), Ok(count));
+    for _ in 0..times {
+        match act {
+            "sound" => black_box(usize::from(Linked.is_sound(black_box(table)))),
+            "keep" => {
+                let kept = Linked.to_half_rows(black_box(table), black_box(&mut halves));
+                black_box(kept.expect("kept"))
+            }
+            _ => {
+                let stored = (text.as_bytes(), NAME_LIST, black_box(&*halves));
+                let brought = Linked.from_half_rows(stored, black_box(&mut back));
+                black_box(brought.expect("brought back"))
             }
         };
     }

@@ -4,6 +4,7 @@ pub mod archive;
 pub mod bytes;
 pub mod column_out;
 pub mod damage;
+pub mod half_rows;
 pub mod limits;
 pub mod needs;
 pub mod places;

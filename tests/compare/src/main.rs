@@ -8,6 +8,8 @@ mod column_out;
 mod count;
 mod counts;
 mod generate;
+mod half_rows;
+mod halves;
 mod images;
 mod known;
 mod lines;
@@ -33,7 +35,7 @@ use std::io::Read;
 use std::process::ExitCode;
 
 const USAGE: &str = "\
-compare run [seed=N] [sequences=N] [texts=N] [trees=N] [columns=N] [images=N]
+compare run [seed=N] [sequences=N] [texts=N] [trees=N] [columns=N] [images=N] [halves=N]
     compares generated texts and trees; exit status 1 if any difference is found
 compare texts FILE [seed=N]
     writes texts with their answers, for a replay without Rust
@@ -45,6 +47,8 @@ compare prints_us FILE [seed=N]
     writes trees that have microseconds with what they print in the default spelling, for the same
 compare images FILE [seed=N]
     writes images of the archive, damaged ones too, with what they are read into, for the same
+compare halves FILE [seed=N]
+    writes rows in halves, damaged ones too, with what they are brought back as, for the same
 compare golden FOLDER
     writes the images of some types, which are to stay as they are
 compare service [seed=N] [texts=N]
@@ -81,13 +85,21 @@ fn command(arguments: &[String]) -> Result<ExitCode, String> {
     match name.as_str() {
         "run" => run(&settings(
             rest,
-            &["seed", "sequences", "texts", "trees", "columns", "images"],
+            &[
+                "seed",
+                "sequences",
+                "texts",
+                "trees",
+                "columns",
+                "images",
+                "halves",
+            ],
         )?),
         "golden" => match rest {
             [folder] => images::golden(folder),
             _ => Err("not one folder".into()),
         },
-        "texts" | "tables" | "prints" | "prints_us" | "images" => {
+        "texts" | "tables" | "prints" | "prints_us" | "images" | "halves" => {
             let (file, rest) = rest.split_first().ok_or("no file")?;
             let seed = settings(rest, &["seed"])?.get("seed").copied().unwrap_or(1);
             match name.as_str() {
@@ -95,6 +107,7 @@ fn command(arguments: &[String]) -> Result<ExitCode, String> {
                 "prints" => prints::prints(file, seed),
                 "prints_us" => prints::prints_us(file, seed),
                 "images" => images::images(file, seed),
+                "halves" => halves::halves(file, seed),
                 _ => sample::tables(file, seed),
             }
         }
@@ -213,6 +226,7 @@ fn run(settings: &BTreeMap<String, u64>) -> Result<ExitCode, String> {
     let tree_count = setting("trees", 400_000) as usize;
     let column_count = setting("columns", 200_000) as usize;
     let image_count = setting("images", 100_000) as usize;
+    let half_count = setting("halves", 100_000) as usize;
     let subject = subject::linked();
     let mut report = Report {
         check: Check::new(subject.as_deref(), seed),
@@ -366,14 +380,16 @@ fn run(settings: &BTreeMap<String, u64>) -> Result<ExitCode, String> {
     report.check.columns(column_count);
     report.check.long_names(column_count / 50);
     report.check.archive(image_count);
+    report.check.half_rows(half_count);
     let (needs, taken) = (&report.check.needs, &report.check.taken);
-    let archive = &report.check.archive;
+    let (archive, half_rows) = (&report.check.archive, &report.check.half_rows);
     needs.print();
     taken.print();
     archive.print();
+    half_rows.print();
     let differences = report.check.differences();
     println!("\ndifferences: {differences}");
-    let full = needs.is_full() && taken.is_full() && archive.is_full();
+    let full = needs.is_full() && taken.is_full() && archive.is_full() && half_rows.is_full();
     Ok(if differences == 0 && full {
         ExitCode::SUCCESS
     } else {

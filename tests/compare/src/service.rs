@@ -1,9 +1,10 @@
 //! The crate that services use, in bindings/rust, beside the Rust: reading, every field's view, the classes of types,
 //! printing as `µs`, rewriting and equality; beside the model number and place of a refused text, printing in the default spelling,
-//! and the image of the archive record, written and read back.
+//! the image of the archive record, written and read back, and the rows in halves, kept and brought back.
 
 use crate::archive;
 use crate::generate::{Random, Visit, damage, limits, places, texts};
+use crate::half_rows;
 use crate::model::{self, Limits, MOST_BYTES, MOST_ROWS, NAME_LIST};
 use crate::oracle::{self, Answer, ErrorKind, Row};
 use arrow_types::{DataType, Error, Field, MAX_TEXT, ReadError, Spelling, rewrite_with};
@@ -82,6 +83,7 @@ fn trees(read: &DataType, rust: &arrow_schema::DataType, rows: &[Row]) -> Result
         return Err(format!("{read:?} nested, numeric, temporal: {classes:?}"));
     }
     archived(read)?;
+    halved(read)?;
     let plain = printed_by_default(read)?;
     let printed = match (read.print_with(Spelling::Micro), rust.to_string()) {
         (Ok(printed), other) if printed == other => printed,
@@ -137,6 +139,18 @@ fn archived(read: &DataType) -> Result<(), String> {
     Err(format!(
         "{read:?} archived as {image:?} and read back as {back:?}"
     ))
+}
+
+/// Whether it is kept in the model's halves, and comes back with the same text and rows.
+fn halved(read: &DataType) -> Result<(), String> {
+    let model = half_rows::halved((read.text().as_bytes(), NAME_LIST, read.rows()));
+    let kept = read.to_half_rows();
+    let back = kept.to_data_type();
+    let same = (back.text(), back.rows()) == (read.text(), read.rows());
+    if model.as_deref() == Ok(kept.halves()) && same {
+        return Ok(());
+    }
+    Err(format!("{read:?} kept as {kept:?} and back as {back:?}"))
 }
 
 /// Whether all characters of a row's name and zone are up to U+017F.

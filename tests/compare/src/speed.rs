@@ -1,7 +1,9 @@
 //! How fast the port reads beside the Rust's `from_str` and prints beside its `to_string`: the same
-//! texts, in one process, in turn; and writes and reads the image of each beside the plain Rust of `archive`.
+//! texts, in one process, in turn; writes and reads the image of each beside the plain Rust of `archive`; and keeps each in halves
+//! and brings it back beside asking whether it is sound.
 
 use crate::archive;
+use crate::half_rows::HALF_WORDS;
 use crate::model::{MOST_BYTES, MOST_ROWS, NAME_LIST, Spelling, WORDS};
 use crate::subject::{Linked, Subject};
 use arrow_schema::DataType;
@@ -19,6 +21,7 @@ pub fn run() -> ExitCode {
     read();
     print();
     archives();
+    halves();
     refuse();
     ExitCode::SUCCESS
 }
@@ -123,6 +126,48 @@ fn archives() {
             image.len(),
             write_rust / write_port,
             read_rust / read_port,
+        );
+    }
+}
+
+/// Keeping a tree in halves and bringing it back, beside asking whether it is sound; of the port alone.
+fn halves() {
+    println!(
+        "\nthe same, asking whether what was read is sound, keeping it in halves and bringing it back, with just the room for it."
+    );
+    println!("text                      rows    sound     kept  times     back  times");
+    for (name, text) in texts().into_iter().chain(tables()) {
+        let mut rows = vec![0; MOST_ROWS * WORDS];
+        let Ok(count) = Linked.read(text.as_bytes(), &mut rows) else {
+            continue;
+        };
+        let rows = &rows[..count * WORDS];
+        let table = (text.as_bytes(), NAME_LIST, rows);
+        let (mut halves, mut back) = (vec![0; count * HALF_WORDS], vec![0; count * WORDS]);
+        assert_eq!(Linked.to_half_rows(table, &mut halves), Ok(count));
+        let sound = fastest(&text, |_| {
+            black_box(Linked.is_sound(black_box(table)));
+        });
+        let kept = fastest(&text, |_| {
+            black_box(
+                Linked
+                    .to_half_rows(black_box(table), black_box(&mut halves))
+                    .is_ok(),
+            );
+        });
+        let stored = (text.as_bytes(), NAME_LIST, &*halves);
+        let brought = fastest(&text, |_| {
+            black_box(
+                Linked
+                    .from_half_rows(black_box(stored), black_box(&mut back))
+                    .is_ok(),
+            );
+        });
+        assert_eq!(back, rows);
+        println!(
+            "{name:<22} {count:>7} {sound:>8.0} {kept:>8.0} {:>6.2} {brought:>8.0} {:>6.2}",
+            kept / sound,
+            brought / sound,
         );
     }
 }
@@ -250,4 +295,12 @@ pub fn shapes() -> Vec<(&'static str, String)> {
             format!("Struct({})", "\"item\": Int8, ".repeat(63)),
         ),
     ]
+}
+
+/// Types of few rows and of as many as may be, over texts of one length.
+pub fn tables() -> Vec<(&'static str, String)> {
+    let fields = |rows: usize| format!("Struct({})", "\"a\": Int8, ".repeat(rows - 1));
+    let most = fields(MOST_ROWS);
+    let few = format!("{:<1$}", fields(64), most.len());
+    vec![("64 rows", few), ("1,024 rows", most)]
 }

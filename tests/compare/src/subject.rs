@@ -3,6 +3,7 @@
 
 use crate::archive;
 use crate::column_out;
+use crate::half_rows;
 use crate::model::{Refused, Spelling};
 #[cfg(feature = "subject")]
 use crate::needs::Need;
@@ -43,6 +44,12 @@ pub trait Subject {
 
     /// Reads an image into `rows` and `text` and answers row count and packed length.
     fn read_archive(&self, image: &[u8], rows: &mut [u32], text: &mut [u8]) -> archive::Answer;
+
+    /// Keeps a tree's rows in `halves` and answers the row count.
+    fn to_half_rows(&self, tree: Table, halves: &mut [u16]) -> half_rows::Answer;
+
+    /// Brings rows in halves back into `rows` and answers the row count.
+    fn from_half_rows(&self, kept: half_rows::Kept, rows: &mut [u32]) -> half_rows::Answer;
 }
 
 #[cfg(not(feature = "subject"))]
@@ -151,6 +158,39 @@ unsafe extern "C" {
         count: *mut usize,
         length: *mut usize,
     ) -> u32;
+
+    fn arrow_types_to_half_rows(
+        text: *const u8,
+        text_length: usize,
+        names: *const u8,
+        names_length: usize,
+        rows: *const u32,
+        rows_length: usize,
+        halves: *mut u16,
+        halves_length: usize,
+        count: *mut usize,
+    ) -> u32;
+
+    fn arrow_types_from_half_rows(
+        text: *const u8,
+        text_length: usize,
+        names: *const u8,
+        names_length: usize,
+        halves: *const u16,
+        halves_length: usize,
+        rows: *mut u32,
+        rows_length: usize,
+        count: *mut usize,
+    ) -> u32;
+
+    fn arrow_types_is_sound(
+        text: *const u8,
+        text_length: usize,
+        names: *const u8,
+        names_length: usize,
+        rows: *const u32,
+        rows_length: usize,
+    ) -> u32;
 }
 
 #[cfg(feature = "subject")]
@@ -158,6 +198,21 @@ impl Linked {
     /// How many rows to lend for a text of so many bytes.
     pub fn rows_to_lend(&self, bytes: usize) -> usize {
         unsafe { arrow_types_rows_to_lend(bytes) }
+    }
+
+    /// Whether rows are a sound tree.
+    pub fn is_sound(&self, (text, list, rows): Table) -> bool {
+        let answer = unsafe {
+            arrow_types_is_sound(
+                text.as_ptr(),
+                text.len(),
+                list.as_ptr(),
+                list.len(),
+                rows.as_ptr(),
+                rows.len(),
+            )
+        };
+        answer == 1
     }
 }
 
@@ -310,6 +365,46 @@ impl Subject for Linked {
         };
         let (count, length) = (answer(status, count), answer(status, length));
         Ok((count?, length?))
+    }
+
+    fn to_half_rows(&self, (text, list, rows): Table, halves: &mut [u16]) -> half_rows::Answer {
+        let mut count = usize::MAX;
+        let status = unsafe {
+            arrow_types_to_half_rows(
+                text.as_ptr(),
+                text.len(),
+                list.as_ptr(),
+                list.len(),
+                rows.as_ptr(),
+                rows.len(),
+                halves.as_mut_ptr(),
+                halves.len(),
+                &mut count,
+            )
+        };
+        answer(status, count)
+    }
+
+    fn from_half_rows(
+        &self,
+        (text, list, halves): half_rows::Kept,
+        rows: &mut [u32],
+    ) -> half_rows::Answer {
+        let mut count = usize::MAX;
+        let status = unsafe {
+            arrow_types_from_half_rows(
+                text.as_ptr(),
+                text.len(),
+                list.as_ptr(),
+                list.len(),
+                halves.as_ptr(),
+                halves.len(),
+                rows.as_mut_ptr(),
+                rows.len(),
+                &mut count,
+            )
+        };
+        answer(status, count)
     }
 }
 

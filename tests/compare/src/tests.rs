@@ -3,6 +3,7 @@
 
 mod archive;
 mod column_out;
+mod half_rows;
 mod needs;
 
 use crate::check::{self, Check};
@@ -362,6 +363,8 @@ enum Fault {
     ColumnOut(column_out::Fault),
     /// One in the archive.
     Archive(archive::Fault),
+    /// One in rows in halves.
+    HalfRows(half_rows::Fault),
 }
 
 /// The model as a port, with a fault.
@@ -405,6 +408,14 @@ impl Port {
         match self.0 {
             Fault::Archive(fault) => fault,
             _ => archive::Fault::None,
+        }
+    }
+
+    /// The fault in rows in halves, if it has one.
+    fn half_fault(&self) -> half_rows::Fault {
+        match self.0 {
+            Fault::HalfRows(fault) => fault,
+            _ => half_rows::Fault::None,
         }
     }
 
@@ -566,6 +577,18 @@ impl Subject for Port {
         text: &mut [u8],
     ) -> crate::archive::Answer {
         archive::faulty_read(self.archive_fault(), image, rows, text)
+    }
+
+    fn to_half_rows(&self, table: Table, halves: &mut [u16]) -> crate::half_rows::Answer {
+        half_rows::faulty_keep(self.half_fault(), table, halves)
+    }
+
+    fn from_half_rows(
+        &self,
+        kept: crate::half_rows::Kept,
+        rows: &mut [u32],
+    ) -> crate::half_rows::Answer {
+        half_rows::faulty_back(self.half_fault(), kept, rows)
     }
 }
 

@@ -1,0 +1,4 @@
+pub mod HalfLaws
+pub mod SmallWords
+pub mod Keeping
+pub mod BackLaws

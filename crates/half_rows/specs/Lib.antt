@@ -1,0 +1,4 @@
+pub mod Internal
+pub mod HalfRows
+pub mod Laws
+pub mod Examples
