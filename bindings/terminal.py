@@ -1,6 +1,6 @@
 #!/usr/bin/env python3
 """Tests of `arrow-types` at a terminal, as bindings/test has built it: there `explain` has colours, and what takes long says
-how far it has got; nowhere else.
+how far it has got; nowhere else. And `count` ends where a terminal tells its end.
 
     python3 bindings/terminal.py
 """
@@ -158,6 +158,18 @@ class HowFar(Terminal):
             time.sleep(0.6)
             child.stdin.write(self.LINE * 40_000)
             self.assertEqual(child.communicate()[1], b"")
+
+
+class Ending(Terminal):
+    """A terminal tells its end once: what is asked for more waits."""
+
+    def test_count(self):
+        near, far = self.terminal()
+        child = subprocess.Popen([PROGRAM, "count"], stdin=far, stdout=subprocess.PIPE)
+        os.close(far)
+        self.addCleanup(child.kill)
+        os.write(near, b"Int8\n\x04")
+        self.assertEqual(child.communicate(timeout=60)[0], b"lines 1\nok 1\nkind 2 1\ndeep 1\n")
 
 
 if __name__ == "__main__":

@@ -7,8 +7,8 @@
  * buffers to write to, and read the same texts and rows.
  *
  * A call takes at most 64 KiB of stack, ARROW_TYPES_MAX_STACK: reading a text of 64 levels, by itself or in a rewrite, takes
- * the most, and anything else less than half of that. bindings/c/stack.c measures it. Rows for every text are 48 KiB more:
- * keep them off a small stack.
+ * the most, reading an image less than two thirds of what that takes, and anything else less than half. bindings/c/stack.c
+ * measures it. Rows for every text are 48 KiB more: keep them off a small stack.
  *
  * A service that rewrites a text calls arrow_types_rewrite, which reads back what it prints: no name and no zone is lost.
  *

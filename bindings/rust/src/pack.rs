@@ -15,7 +15,7 @@ fn places(row: &[u32]) -> impl Iterator<Item = usize> + use<> {
 /// places to where they stand in it.
 ///
 /// A name of the name list stays there, with home 2, and takes no bytes of the text. The core packs otherwise
-/// (`packed::Packer`, by which `DataType::without_field` answers): there each name has home 1 and stands in the text. Both
+/// (`packing::Packer`, by which `DataType::without_field` answers): there each name has home 1 and stands in the text. Both
 /// say the same, so the types are equal; their rows and texts are not.
 pub fn pack(from: &str, rows: &mut [u32], text: &mut String) {
     for row in rows.chunks_exact_mut(ROW_WORDS) {

@@ -7,7 +7,7 @@ use Rattle.tokenizer.specs.Text.{bytes}
 use Rattle.parser.proofs.FirstType.{too_long}
 use Rattle.parser.specs.Answer.{refusal_in}
 use Rattle.datatype_parse.specs.Parse.{parse}
-use Rattle.output.specs.Digits.{digits, digits_with}
+use Rattle.writer.specs.Digits.{digits, digits_with}
 use Rattle.answer_line.specs.Line.{line_answer}
 
 pub long_line : (line : List ℕ) → 16384 < length line → line_answer line ≡ bytes "no 1 16384\n"

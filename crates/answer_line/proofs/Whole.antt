@@ -22,7 +22,7 @@ use Rattle.datatype_parse.proofs.Placed.{answer-place}
 use Rattle.parser.specs.Answer.{refusal_in}
 use Rattle.parser.specs.declared.error.ReadError.{ReadError}
 use Rattle.datatype_parse.specs.Parse.{parse, row_count, filled, parse_answer, parse_rows}
-use Rattle.output.specs.Digits.{digits}
+use Rattle.writer.specs.Digits.{digits}
 use Rattle.datatype_display.specs.Print.{default_spelling, print}
 use Rattle.answer_line.specs.Line.{ok_line, read_line, line_words, line_answer, line_answered, line_rows, line_out, answer_bytes}
 use Rattle.answer_line.specs.Internal.Steps.{Answers, ok_head, tree_line, table_line}

@@ -6,17 +6,17 @@ use Prim.Native.Nat.{ℕ, suc, ◌+◌, ◌≤◌, ◌<◌}
 use native.Mathlib.Omega.{arith}
 use lib.ListN.{length, set, take, drop, length-append, length-drop}
 use lib.Seq.{sets, sets-eq, set_split, take-append-add, drop-append-add, drop-drop}
-use Rattle.output.specs.Digits.{digits}
-use Rattle.output.proofs.DigitLaws.{digits_at_most, digits_few}
+use Rattle.writer.specs.Digits.{digits}
+use Rattle.writer.proofs.DigitLaws.{digits_at_most, digits_few}
 use Rattle.tokenizer.specs.Answer.{number_of}
 use Rattle.tokenizer.specs.declared.refusal.Refusal as R
 use Rattle.tokenizer.proofs.Answered.{number_low}
 use Rattle.parser.specs.declared.error.ReadError.{ReadError}
 use Rattle.parser.specs.Answer.{refusal_in}
 use Rattle.answer_line.specs.Line.{no_line, answer_bytes}
-use Rattle.output.specs.declared.Writer.{Writer}
-use Rattle.output.specs.Written.{last_place, written}
-use Rattle.output.proofs.Written.{written_then, written_place, written_sets, written_first}
+use Rattle.writer.specs.declared.Writer.{Writer}
+use Rattle.writer.specs.Written.{last_place, written}
+use Rattle.writer.proofs.Written.{written_then, written_place, written_sets, written_first}
 use Rattle.answer_line.specs.Internal.Steps.{Answers, ok_head, HeadLength, Framed}
 
 -- ---- how many digits the numbers have

@@ -6,7 +6,7 @@ use Rattle.datatype.specs.Limits.{max_text, max_rows}
 use Rattle.datatype.specs.Tree.{Forest, Row, count, depth, name_list}
 use Rattle.datatype.specs.Table.{row_words, table_of}
 use Rattle.datatype_parse.specs.Parse.{parse, parse_rows}
-use Rattle.output.specs.Digits.{digits}
+use Rattle.writer.specs.Digits.{digits}
 use Rattle.datatype_display.specs.Print.{default_spelling, print}
 use Rattle.input_lines.specs.Lines.{lines_of}
 

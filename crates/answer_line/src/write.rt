@@ -2,16 +2,16 @@
 // heap.
 ghost use Rattle.std.specs.Prelude.{◌≡◌, ◌≤◌, None};
 ghost use Rattle.tokenizer.specs.Answer.{number_of};
-ghost use Rattle.output.specs.Written.{written};
+ghost use Rattle.writer.specs.Written.{written};
 ghost use Rattle.answer_line.specs.Line.{no_line};
 ghost use Rattle.parser.specs.Answer.{refusal_in};
 ghost use Rattle.answer_line.specs.Internal.Steps.{Answers, Framed, HeadLength, ok_head};
 ghost use Rattle.datatype.specs.Limits.{max_text, max_rows, max_levels};
 
 use crate::ANSWER_BYTES;
-use output::Writer;
 use parser::ReadError;
 use tokenizer::{Numbered, Refusal};
+use writer::Writer;
 
 // The line of a refusal: `no`, its number and, of the reader's, its place.
 #[tactic(auto, using(crate::proofs::Writing::line_parts))]
@@ -28,7 +28,7 @@ fn put_no_line(writer: &mut Writer<'_>, refusal: Refusal, place: Option<u32>)
 }
 
 // A refusal of the printer: its number.
-#[tactic(auto, using(output::proofs::Written::written_name))]
+#[tactic(auto, using(writer::proofs::Written::written_name))]
 pub(crate) fn put_no(out: &mut [u8; ANSWER_BYTES], refusal: Refusal) -> usize
     ensures { Answers (no_line (record { number = number_of refusal; place = None })) out.old result out.new }
 {
@@ -38,7 +38,7 @@ pub(crate) fn put_no(out: &mut [u8; ANSWER_BYTES], refusal: Refusal) -> usize
 }
 
 // A refusal of the reader: its number and its place.
-#[tactic(auto, using(output::proofs::Written::written_name))]
+#[tactic(auto, using(writer::proofs::Written::written_name))]
 pub(crate) fn put_no_at(out: &mut [u8; ANSWER_BYTES], error: ReadError) -> usize
     requires { error.place ≤ max_text }
     ensures { Answers (no_line (refusal_in error)) out.old result out.new }
@@ -82,7 +82,7 @@ impl Head {
         writer.at
     }
 
-    #[tactic(auto, using(output::proofs::Written::written_name))]
+    #[tactic(auto, using(writer::proofs::Written::written_name))]
     // Writes it before a printed text of so many bytes that stands in its place, and a newline behind that.
     pub(crate) fn frame(&self, out: &mut [u8; ANSWER_BYTES], size: usize) -> usize
         requires { size ≤ max_text }

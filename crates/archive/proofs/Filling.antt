@@ -19,8 +19,8 @@ use Rattle.std.specs.declared.result.Result.TheVariants.{Ok, Err}
 use Rattle.tokenizer.specs.Answer.{Refusal, Out, refused, done, refuse, ◌>>=◌}
 use Rattle.tokenizer.specs.Text.{is_empty}
 use Rattle.datatype.specs.Tree.{Forest, ∅, node, depth, Label}
-use Rattle.packed.specs.declared.packer.Packer.{Packer}
-use Rattle.packed.specs.Packer.{put_row, set_subtree, put_trees}
+use Rattle.packing.specs.declared.packer.Packer.{Packer}
+use Rattle.packing.specs.Packer.{put_row, set_subtree, put_trees}
 use Rattle.archive.specs.declared.NotRead.{NotRead}
 use Rattle.archive.specs.declared.NotRead.TheVariants.{WrongLength}
 use Rattle.archive.specs.declared.fill.Filled.{Filled}

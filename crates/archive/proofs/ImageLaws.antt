@@ -21,7 +21,7 @@ use Rattle.tokenizer.specs.Answer.{Out, done, refuse, ◌>>=◌}
 use Rattle.archive.specs.Internal.Writes.{Small, Writables}
 use Rattle.archive.proofs.Holds.{bind_assoc, bind_each}
 use Rattle.datatype.specs.Tree.{Forest, ∅, node, count, Label}
-use Rattle.packed.specs.Packed.{row_text, sum_of_lengths}
+use Rattle.packing.specs.Packed.{row_text, sum_of_lengths}
 use Rattle.archive.specs.Archive.{record_bytes, with_length, record_of, image_of, Room, Taken, Head, Read, Strings, number_at, part_at, room_left, string_at, strings_at, whole_record, kind_at, label_from, record_at, records_at}
 
 -- ---- lengths

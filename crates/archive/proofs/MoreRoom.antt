@@ -12,7 +12,7 @@ use Rattle.tokenizer.specs.Answer.{Out, refused, done, refuse, ◌>>=◌}
 use Rattle.datatype.specs.Tree.{Forest, ∅, node, Label, name_list}
 use Rattle.datatype.specs.Table.{rows_lent, table_of}
 use Rattle.row_table.specs.Sound.{is_sound}
-use Rattle.packed.specs.Packed.{packed_text, packed}
+use Rattle.packing.specs.Packed.{packed_text, packed}
 use Rattle.archive.specs.Archive.{Room, Head, Read, Strings, room_left, string_at, strings_at, whole_record, kind_at, record_at, records_at, tree_at, unarchived}
 use Rattle.archive.proofs.Holds.{Holds, holds_test, holds_done}
 

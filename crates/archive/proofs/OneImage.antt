@@ -15,7 +15,7 @@ use Rattle.std.specs.Int.{w16, w32, to_le_bytes, from_le_bytes}
 use Rattle.std.proofs.lemmas.Nat.{le_bytes_2, le_bytes_4}
 use Rattle.tokenizer.specs.Answer.{refuse}
 use Rattle.datatype.specs.Tree.{Label}
-use Rattle.packed.specs.Packed.{row_text}
+use Rattle.packing.specs.Packed.{row_text}
 use Rattle.archive.specs.Archive.{record_bytes, with_length, record_of, image_of, Room, Taken, Head, Read, Strings, part_at, room_left, string_at, strings_at, whole_record, kind_at, label_from, record_at, records_at}
 use Rattle.archive.proofs.Holds.{Holds, holds_then, holds_any, holds_test, holds_if, holds_both}
 use Rattle.archive.proofs.Chain.{Apart, apart, below-short, behind-short}

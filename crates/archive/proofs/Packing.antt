@@ -23,13 +23,13 @@ use Rattle.row_table.specs.Sound.{is_sound}
 use Rattle.row_table.proofs.SoundTree.{sound_tree}
 use Rattle.row_table.proofs.Parented.{depth_parented}
 use Rattle.datatype.proofs.Table.{view_table}
-use Rattle.packed.specs.declared.Packed.{Packed}
-use Rattle.packed.specs.declared.packer.Packer.{Packer}
-use Rattle.packed.specs.Packed.{packed_text, packed_from, packed, packed_size, sum_of_lengths, size_fits, packed_rows, packed_bytes, size_by}
-use Rattle.packed.specs.Packer.{with_words, with_bytes, written, put_trees, set_parents, trees_written}
-use Rattle.packed.proofs.PackedLaws.{packed-length, depth-packed}
-use Rattle.packed.proofs.LentLaws.{count-lent, packed-rows-first, packed-bytes-first}
-use Rattle.packed.proofs.PackerRuns.{trees-put, first_fits, first_size, first_rows, first_text}
+use Rattle.packing.specs.declared.Packed.{Packed}
+use Rattle.packing.specs.declared.packer.Packer.{Packer}
+use Rattle.packing.specs.Packed.{packed_text, packed_from, packed, packed_size, sum_of_lengths, size_fits, packed_rows, packed_bytes, size_by}
+use Rattle.packing.specs.Packer.{with_words, with_bytes, written, put_trees, set_parents, trees_written}
+use Rattle.packing.proofs.PackedLaws.{packed-length, depth-packed}
+use Rattle.packing.proofs.LentLaws.{count-lent, packed-rows-first, packed-bytes-first}
+use Rattle.packing.proofs.PackerRuns.{trees-put, first_fits, first_size, first_rows, first_text}
 use Rattle.archive.specs.declared.NotRead.{NotRead}
 use Rattle.archive.specs.declared.NotRead.TheVariants.{NotSound}
 use Rattle.archive.specs.Archive.{Room, tree_at, unarchived, rows_by, text_by, unarchive_answer, unarchive_rows, unarchive_text, not_read_number}

@@ -18,12 +18,12 @@ use Rattle.tokenizer.proofs.Basics.{is_true}
 use Rattle.datatype.specs.Tree.{Forest, ∅, node, count, Label, name_list, label_of, labels}
 use Rattle.datatype.specs.Table.{table_of, tree_of, rows_lent}
 use Rattle.datatype.proofs.Table.{table_view}
-use Rattle.subtrees.specs.Equal.{equal_trees}
-use Rattle.subtrees.proofs.Equivalence.{equal-labels, labels-equal}
+use Rattle.unchecked_rows.specs.Equal.{equal_trees}
+use Rattle.unchecked_rows.proofs.Equivalence.{equal-labels, labels-equal}
 use Rattle.row_table.specs.Sound.{is_sound}
 use Rattle.row_table.proofs.SoundTree.{SoundTree, sound_tree, sound-labels}
-use Rattle.packed.specs.Packed.{packed_text, packed, packed_size, sum_of_lengths, size_fits, row_text}
-use Rattle.packed.proofs.PackedLaws.{packed-length, SoundLabels, sound-says, packed-sound}
+use Rattle.packing.specs.Packed.{packed_text, packed, packed_size, sum_of_lengths, size_fits, row_text}
+use Rattle.packing.proofs.PackedLaws.{packed-length, SoundLabels, sound-says, packed-sound}
 use Rattle.archive.specs.Archive.{record_of, image_of, Room, Head, Read, record_at, records_at, tree_at, unarchived}
 use Rattle.archive.specs.Internal.Writes.{Writables}
 use Rattle.archive.proofs.Holds.{bind_assoc, bind_each}

@@ -15,10 +15,10 @@ use Rattle.tokenizer.specs.Answer.{Out, refused, done, refuse, ◌>>=◌}
 use Rattle.datatype.specs.Tree.{Forest, ∅, node, Label, name_list}
 use Rattle.datatype.specs.Table.{table_of, tree_of, rows_lent}
 use Rattle.row_table.specs.Sound.{is_sound}
-use Rattle.packed.specs.declared.Packed.{Packed}
-use Rattle.packed.specs.Packed.{packed_text, packed, packed_size, size_fits}
-use Rattle.packed.proofs.PackedLaws.{packed-tree}
-use Rattle.packed.proofs.LentLaws.{packed-rows-first, packed-bytes-first}
+use Rattle.packing.specs.declared.Packed.{Packed}
+use Rattle.packing.specs.Packed.{packed_text, packed, packed_size, size_fits}
+use Rattle.packing.proofs.PackedLaws.{packed-tree}
+use Rattle.packing.proofs.LentLaws.{packed-rows-first, packed-bytes-first}
 use Rattle.archive.specs.declared.NotRead.{NotRead}
 use Rattle.archive.specs.Archive.{record_of, image_of, Room, Read, record_at, records_at, tree_at, unarchived}
 use Rattle.archive.specs.Laws.{IsRead, ReadsWithMore}

@@ -7,7 +7,7 @@ use native.Mathlib.Omega.{arith}
 use lib.ListN.{length, drop, length-append}
 use Rattle.tokenizer.specs.Text.{is_empty}
 use Rattle.datatype.specs.Tree.{Forest, count, Label}
-use Rattle.packed.specs.Packed.{row_text, sum_of_lengths}
+use Rattle.packing.specs.Packed.{row_text, sum_of_lengths}
 use Rattle.archive.specs.Archive.{Room, Taken, Head, Read, Strings, room_left, string_at, strings_at, whole_record, kind_at, record_at, records_at, tree_at}
 use Rattle.archive.proofs.Holds.{Holds, holds_then, holds_any, holds_test, holds_if}
 

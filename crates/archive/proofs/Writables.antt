@@ -17,8 +17,8 @@ use Rattle.datatype.specs.Tree.{Forest, ∅, node, count, Row, Label, part, name
 use Rattle.datatype.specs.Table.{tree_of}
 use Rattle.row_table.specs.Sound.{is_sound, Standing, bare, field, union_field, role_fits, id_fits, rules_of, rows_fit}
 use Rattle.row_table.proofs.SoundTree.{RowFits, rules_at, rows_fit_lem, SoundTree, sound_tree, sound-labels}
-use Rattle.subtrees.proofs.RowList.{count_map}
-use Rattle.packed.specs.Packed.{sum_of_lengths}
+use Rattle.unchecked_rows.proofs.RowList.{count_map}
+use Rattle.packing.specs.Packed.{sum_of_lengths}
 use Rattle.archive.specs.Archive.{record_of, image_of}
 use Rattle.archive.specs.Internal.Writes.{Small, Writables, most_bytes}
 use Rattle.archive.proofs.ImageLaws.{record-length, image-length}

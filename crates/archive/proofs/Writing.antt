@@ -9,11 +9,11 @@ use lib.Dec.{T}
 use Rattle.std.specs.Int.{w32, to_le_bytes}
 use Rattle.datatype.specs.Tree.{Forest, node, depth, Label, label_of, labels}
 use Rattle.datatype.specs.Table.{row_words, rows_at, row_at, tree_of}
-use Rattle.subtrees.specs.Rows.{forest_at}
+use Rattle.unchecked_rows.specs.Rows.{forest_at}
 use Rattle.row_table.specs.Sound.{is_sound}
-use Rattle.output.specs.declared.Writer.{Writer}
-use Rattle.output.specs.Written.{last_place, written}
-use Rattle.output.proofs.Written.{counted_all, written_then, written_none, written_place, written_sets}
+use Rattle.writer.specs.declared.Writer.{Writer}
+use Rattle.writer.specs.Written.{last_place, written}
+use Rattle.writer.proofs.Written.{counted_all, written_then, written_none, written_place, written_sets}
 use Rattle.row_table.specs.declared.nodes.Node.{Node}
 use Rattle.row_table.specs.declared.nodes.Nodes.{Nodes}
 use Rattle.row_table.specs.Nodes.{label_in, children_in, labels_in, IsFirst}

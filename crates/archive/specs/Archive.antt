@@ -11,12 +11,12 @@ use Rattle.datatype.specs.Kind.{kinds}
 use Rattle.datatype.specs.Tree.{Forest, ∅, node, Label, name_list}
 use Rattle.datatype.specs.Table.{table_of, tree_of, rows_lent}
 use Rattle.row_table.specs.Sound.{is_sound}
-use Rattle.packed.specs.declared.Packed.{Packed}
+use Rattle.packing.specs.declared.Packed.{Packed}
 use Rattle.archive.specs.declared.write.NotWritten.{NotWritten}
 use Rattle.archive.specs.declared.write.NotWritten.TheVariants as W
 use Rattle.archive.specs.declared.NotRead.{NotRead}
 use Rattle.archive.specs.declared.NotRead.TheVariants as R
-use Rattle.packed.specs.Packed.{row_text, packed_text, packed, packed_rows, packed_bytes, size_by}
+use Rattle.packing.specs.Packed.{row_text, packed_text, packed, packed_rows, packed_bytes, size_by}
 
 -- ---- the image of a tree
 

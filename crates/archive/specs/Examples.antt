@@ -5,8 +5,8 @@ use Rattle.tokenizer.specs.Answer.{Out, done, refuse}
 use Rattle.tokenizer.specs.Utf8.{utf8_step, utf8_state, is_utf8}
 use Rattle.datatype.specs.Tree.{∅, node, Label, name_list}
 use Rattle.row_table.specs.Internal.Computed.{computed}
-use Rattle.packed.specs.Packed.{packed_text, packed_row, packed_from, packed, packed_rows, packed_bytes}
-use Rattle.packed.specs.declared.Packed.{Packed}
+use Rattle.packing.specs.Packed.{packed_text, packed_row, packed_from, packed, packed_rows, packed_bytes}
+use Rattle.packing.specs.declared.Packed.{Packed}
 use Rattle.archive.specs.Archive.{record_of, image_of, archived, archive_answer, archive_bytes, string_at, strings_at, whole_record, record_at, records_at, tree_at, unarchived, unarchive_answer, unarchive_rows, unarchive_text}
 
 abbrev zeros : ℕ → List ℕ

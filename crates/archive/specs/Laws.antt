@@ -4,9 +4,9 @@ use Rattle.std.specs.Prelude.{◌≡◌, List, ℕ, ◌+◌, ◌*◌, ◌≤◌,
 use Rattle.tokenizer.specs.Answer.{done, refuse}
 use Rattle.datatype.specs.Tree.{Forest, count, Label, name_list}
 use Rattle.datatype.specs.Table.{tree_of}
-use Rattle.subtrees.specs.Equal.{equal_trees}
+use Rattle.unchecked_rows.specs.Equal.{equal_trees}
 use Rattle.row_table.specs.Sound.{is_sound}
-use Rattle.packed.specs.Packed.{packed_size, size_fits, sum_of_lengths}
+use Rattle.packing.specs.Packed.{packed_size, size_fits, sum_of_lengths}
 use Rattle.archive.specs.Archive.{record_bytes, image_of, unarchived}
 
 -- An image has 17 bytes for each row, and the bytes of names and zones.

@@ -10,7 +10,7 @@ use crate::NotRead;
 use crate::record::{Room, record};
 use crate::scan::scan;
 use datatype::rows::{MAX_LEVELS, MAX_TEXT, rows_lent};
-use packed::{Packed, Packer};
+use packing::{Packed, Packer};
 
 // The room that is left behind some records, and whether they have more levels than they may: then
 // they are judged, and not all of them are packed.

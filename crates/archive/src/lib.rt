@@ -21,7 +21,7 @@ pub use crate::write::NotWritten;
 use crate::write::put_image;
 use datatype::rows::ROW_WORDS;
 use datatype::{Field, Tree};
-use packed::Packed;
+use packing::Packed;
 use row_table::is_sound;
 use row_table::nodes::SoundTree;
 use thiserror::Error;

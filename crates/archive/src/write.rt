@@ -7,16 +7,16 @@ ghost use Rattle.datatype.specs.Tree.{depth};
 ghost use Rattle.datatype.specs.Table.{tree_of};
 ghost use Rattle.row_table.specs.Nodes.{labels_in};
 ghost use Rattle.row_table.specs.Internal.Nodes.{rows_in};
-ghost use Rattle.output.specs.Written.{written};
+ghost use Rattle.writer.specs.Written.{written};
 ghost use Rattle.archive.specs.Archive.{with_length, image_of, not_written_number};
 ghost use Rattle.archive.specs.Internal.Writes.{Small, Writables, most_bytes, own_bytes, patched};
 
 use datatype::Label;
 use datatype::rows::{MAX_LEVELS, ROW_WORDS};
-use output::{Writer, put_bytes};
 use row_table::nodes::{Nodes, SoundTree};
 use thiserror::Error;
 use tokenizer::Numbered;
+use writer::{Writer, put_bytes};
 
 /// Why an image was not written.
 #[derive(Clone, Copy, Debug, Drop, PartialEq, Eq, Error)]

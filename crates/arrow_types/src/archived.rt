@@ -1,7 +1,7 @@
 // Types in the archive record, for services: the answers as numbers.
 ghost use Rattle.std.specs.Prelude.{◌≡◌};
 ghost use Rattle.arrow_types.specs.Status.{status_of, value_of};
-ghost use Rattle.packed.specs.Packed.{rows_answered, bytes_answered};
+ghost use Rattle.packing.specs.Packed.{rows_answered, bytes_answered};
 ghost use Rattle.archive.specs.Archive.{archive_answer, archive_bytes, unarchive_answer, unarchive_rows, unarchive_text};
 
 use archive::{read_archive, write_archive};
@@ -32,7 +32,7 @@ pub fn arrow_types_to_archive<'a>(
 }
 
 // Reads an image into lent rows, over a lent text.
-#[tactic(auto, unfolding(crate::specs::Status::status_of, packed::specs::Packed::rows_answered, packed::specs::Packed::bytes_answered))]
+#[tactic(auto, unfolding(crate::specs::Status::status_of, packing::specs::Packed::rows_answered, packing::specs::Packed::bytes_answered))]
 pub fn arrow_types_from_archive(
     image: &[u8],
     rows: &mut [u32],

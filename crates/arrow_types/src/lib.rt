@@ -7,9 +7,9 @@ ghost use Rattle.std.specs.Prelude.{◌≡◌, length};
 ghost use Rattle.tokenizer.specs.Answer.{number_of, answer_of};
 ghost use Rattle.arrow_types.specs.Status.{status_of, value_of, place_of, flag, yes_of, row_of, if_named};
 ghost use Rattle.datatype.specs.Tree.{name_of, zone_of};
-ghost use Rattle.subtrees.specs.Parents.{with_parents};
+ghost use Rattle.unchecked_rows.specs.Parents.{with_parents};
 ghost use Rattle.row_table.specs.Sound.{is_sound, depth_of};
-ghost use Rattle.subtrees.specs.Equal.{equal_trees};
+ghost use Rattle.unchecked_rows.specs.Equal.{equal_trees};
 ghost use Rattle.layout.specs.Layout.{verdict_of};
 ghost use Rattle.datatype_parse.specs.Parse.{parse_answer, parse_rows};
 ghost use Rattle.datatype_parse.specs.RowsToLend.{rows_to_lend};
@@ -117,7 +117,7 @@ pub fn arrow_types_print_micro<'a>(
 pub fn arrow_types_set_parents(rows: &mut [u32])
     ensures { rows.new ≡ with_parents rows.old }
 {
-    subtrees::set_parents(rows);
+    unchecked_rows::set_parents(rows);
 }
 
 // Where the bytes that were found stand, by home and start: the three numbers, each 0 where none were found.
@@ -211,7 +211,7 @@ pub fn arrow_types_equal<'a, 'b>(
         names: names2,
         rows: rows2,
     };
-    u32::from(subtrees::equal_trees(one, other))
+    u32::from(unchecked_rows::equal_trees(one, other))
 }
 
 // The layout verdict of a tree: whether it is yes, 1 or 0, and the first row that breaks a rule, where it is not.

@@ -1,7 +1,7 @@
 // Taking a column out, for services: the answer as numbers.
 ghost use Rattle.std.specs.Prelude.{◌≡◌};
 ghost use Rattle.arrow_types.specs.Status.{status_of};
-ghost use Rattle.packed.specs.Packed.{rows_answered, bytes_answered};
+ghost use Rattle.packing.specs.Packed.{rows_answered, bytes_answered};
 ghost use Rattle.column_out.specs.ColumnOut.{column_out_answer, column_out_rows, column_out_bytes};
 
 use column_out::take_column_out;
@@ -9,7 +9,7 @@ use datatype::Tree;
 use tokenizer::Numbered;
 
 // Takes a field, counted from 0, out of a tree whose root is a Struct: what stays stands in lent rows, over a lent text.
-#[tactic(auto, unfolding(crate::specs::Status::status_of, packed::specs::Packed::rows_answered, packed::specs::Packed::bytes_answered))]
+#[tactic(auto, unfolding(crate::specs::Status::status_of, packing::specs::Packed::rows_answered, packing::specs::Packed::bytes_answered))]
 pub fn arrow_types_take_column_out<'a>(
     text: &'a [u8],
     names: &'a [u8],

@@ -6,12 +6,12 @@
 ghost use Rattle.std.specs.Prelude.{◌≡◌, length};
 ghost use Rattle.arrow_types.specs.Status.{status_of, value_of, place_of, flag, yes_of, row_of, unmet_of, if_named};
 ghost use Rattle.datatype.specs.Tree.{name_of, zone_of};
-ghost use Rattle.subtrees.specs.Parents.{with_parents};
+ghost use Rattle.unchecked_rows.specs.Parents.{with_parents};
 ghost use Rattle.row_table.specs.Sound.{is_sound, depth_of};
-ghost use Rattle.subtrees.specs.Equal.{equal_trees};
+ghost use Rattle.unchecked_rows.specs.Equal.{equal_trees};
 ghost use Rattle.layout.specs.Layout.{verdict_of};
 ghost use Rattle.needs.specs.Needs.{needs_of};
-ghost use Rattle.packed.specs.Packed.{rows_answered, bytes_answered};
+ghost use Rattle.packing.specs.Packed.{rows_answered, bytes_answered};
 ghost use Rattle.column_out.specs.ColumnOut.{column_out_answer, column_out_rows, column_out_bytes};
 ghost use Rattle.archive.specs.Archive.{archive_answer, archive_bytes, unarchive_answer, unarchive_rows, unarchive_text};
 ghost use Rattle.half_rows.specs.HalfRows.{half_rows_answer, half_rows_words, wide_rows_answer, wide_rows_words};

@@ -21,10 +21,10 @@ use Rattle.datatype.specs.Table.{row_words, table_of, tree_of, rows_lent}
 use Rattle.row_table.specs.Fields.{struct_fields}
 use Rattle.row_table.specs.Sound.{Rules, Standing, bare, arity_fits, role_fits, id_fits, name_fits, rules_of, zone_fits, shape_fits, rows_fit, is_sound}
 use Rattle.row_table.proofs.SoundTree.{RowFits, rules_at, rows_fit_lem, fits_rows, SoundTree, sound_tree, sound-labels}
-use Rattle.packed.specs.Packed.{packed_text, packed, packed_size, size_fits, size_by, sum_of_lengths}
-use Rattle.packed.specs.declared.Packed.{Packed}
-use Rattle.packed.proofs.PackedLaws.{packed-length, packed-tree, SoundLabels, sound-says, packed-sound}
-use Rattle.packed.proofs.LentLaws.{packed-rows-first, packed-bytes-first}
+use Rattle.packing.specs.Packed.{packed_text, packed, packed_size, size_fits, size_by, sum_of_lengths}
+use Rattle.packing.specs.declared.Packed.{Packed}
+use Rattle.packing.proofs.PackedLaws.{packed-length, packed-tree, SoundLabels, sound-says, packed-sound}
+use Rattle.packing.proofs.LentLaws.{packed-rows-first, packed-bytes-first}
 use Rattle.column_out.specs.ColumnOut.{without, trees, tree_left, column_out, rows_by, bytes_by, column_out_answer, column_out_rows, column_out_bytes, empty_struct}
 
 -- ---- a run without one of its trees

@@ -13,15 +13,15 @@ use lib.ListN.{length, length-append}
 use borrow.Author.Tests.{lt-ltb, le-ltb}
 use Rattle.datatype.specs.Tree.{Forest, node, count, roots, Label, labels}
 use Rattle.datatype.specs.Table.{rows_at}
-use Rattle.subtrees.specs.Rows.{forest_at}
-use Rattle.subtrees.specs.Internal.Run.{Nests}
-use Rattle.subtrees.proofs.Runs.{Turn, turn, forest_none, count_forest}
-use Rattle.subtrees.proofs.RowList.{count_labels}
+use Rattle.unchecked_rows.specs.Rows.{forest_at}
+use Rattle.unchecked_rows.specs.Internal.Run.{Nests}
+use Rattle.unchecked_rows.proofs.Runs.{Turn, turn, forest_none, count_forest}
+use Rattle.unchecked_rows.proofs.RowList.{count_labels}
 use Rattle.row_table.proofs.Walks.{labels-turn}
-use Rattle.packed.specs.Packed.{row_text, packed_text}
-use Rattle.packed.specs.Packer.{row_written, trees_written, trees_fit}
-use Rattle.packed.specs.declared.packer.Packer.{Packer}
-use Rattle.packed.proofs.PackerRuns.{fits_next, node-written}
+use Rattle.packing.specs.Packed.{row_text, packed_text}
+use Rattle.packing.specs.Packer.{row_written, trees_written, trees_fit}
+use Rattle.packing.specs.declared.packer.Packer.{Packer}
+use Rattle.packing.proofs.PackerRuns.{fits_next, node-written}
 use Rattle.column_out.specs.ColumnOut.{without}
 use Rattle.column_out.specs.Internal.Stretch.{nth_row, label_at, stretch_length, put_stretch}
 use Rattle.column_out.proofs.Stretches.{run, put_split, length_split, RunPacks, run_packs, kids-count, node_long, node_put}

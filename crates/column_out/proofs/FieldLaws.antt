@@ -11,8 +11,8 @@ use Rattle.datatype.specs.Table.{rows_at}
 use Rattle.row_table.specs.declared.nodes.Node.{Node}
 use Rattle.row_table.specs.declared.nodes.Nodes.{Nodes}
 use Rattle.row_table.specs.Nodes.{IsFirst}
-use Rattle.packed.specs.Packer.{put_row}
-use Rattle.packed.specs.declared.packer.Packer.{Packer}
+use Rattle.packing.specs.Packer.{put_row}
+use Rattle.packing.specs.declared.packer.Packer.{Packer}
 use Rattle.column_out.specs.Internal.Stretch.{nth_row, label_at, put_stretch}
 
 pub none-there : (table : List ℕ) (at end n : ℕ) → at ≡ end → nth_row table at end n ≡ None

@@ -9,7 +9,7 @@ use lib.ListN.{length, length-append}
 use Rattle.datatype.specs.Tree.{name_of, zone_of, label_of}
 use Rattle.datatype.specs.Table.{word_at, row_at}
 use Rattle.datatype.proofs.Parts.{name_short, zone_short}
-use Rattle.packed.specs.Packed.{row_text}
+use Rattle.packing.specs.Packed.{row_text}
 use Rattle.column_out.specs.Internal.Stretch.{label_at, stretch_length}
 
 module _ (text names table : List ℕ) (i : ℕ) where

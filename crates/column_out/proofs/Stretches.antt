@@ -11,15 +11,15 @@ use native.Mathlib.Omega.{arith}
 use lib.ListN.{length, length-append}
 use Rattle.datatype.specs.Tree.{Forest, node, count, Label, labels}
 use Rattle.datatype.specs.Table.{rows_at}
-use Rattle.subtrees.specs.Rows.{forest_at}
-use Rattle.subtrees.specs.Internal.Run.{Nests}
-use Rattle.subtrees.proofs.Runs.{Turn, turn, forest_none, count_forest}
-use Rattle.subtrees.proofs.RowList.{count_labels}
+use Rattle.unchecked_rows.specs.Rows.{forest_at}
+use Rattle.unchecked_rows.specs.Internal.Run.{Nests}
+use Rattle.unchecked_rows.proofs.Runs.{Turn, turn, forest_none, count_forest}
+use Rattle.unchecked_rows.proofs.RowList.{count_labels}
 use Rattle.row_table.proofs.Walks.{labels-turn}
-use Rattle.packed.specs.Packed.{row_text, packed_text}
-use Rattle.packed.specs.Packer.{put_row, row_written, trees_written, trees_fit}
-use Rattle.packed.specs.declared.packer.Packer.{Packer}
-use Rattle.packed.proofs.PackerRuns.{fits_row, fits_kids, fits_next, node-written, none-written}
+use Rattle.packing.specs.Packed.{row_text, packed_text}
+use Rattle.packing.specs.Packer.{put_row, row_written, trees_written, trees_fit}
+use Rattle.packing.specs.declared.packer.Packer.{Packer}
+use Rattle.packing.proofs.PackerRuns.{fits_row, fits_kids, fits_next, node-written, none-written}
 use Rattle.column_out.specs.Internal.Stretch.{label_at, stretch_length, put_stretch}
 
 module _ (text names table : List ℕ) where

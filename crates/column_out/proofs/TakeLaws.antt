@@ -14,8 +14,8 @@ use Rattle.tokenizer.specs.Answer.{done, refuse}
 use Rattle.datatype.specs.Tree.{Forest, ∅, node, count, roots, Label, name_list, labels}
 use Rattle.datatype.specs.Table.{row_words, tree_of, rows_at}
 use Rattle.datatype.specs.declared.tree.Tree.{Tree}
-use Rattle.subtrees.specs.Internal.Run.{Nests}
-use Rattle.subtrees.proofs.Runs.{forest_none}
+use Rattle.unchecked_rows.specs.Internal.Run.{Nests}
+use Rattle.unchecked_rows.proofs.Runs.{forest_none}
 use Rattle.row_table.specs.Sound.{is_sound}
 use Rattle.row_table.specs.Fields.{struct_fields, AreFields}
 use Rattle.row_table.specs.declared.nodes.SoundTree.{SoundTree as Whole}
@@ -25,10 +25,10 @@ use Rattle.row_table.proofs.FieldLaws.{not-sound}
 use Rattle.row_table.proofs.SoundTree.{SoundTree, sound_tree}
 use Rattle.row_table.proofs.NodeLaws.{few_rows as words_most, all_labels, all_turn, root_all}
 use Rattle.row_table.proofs.Walks.{labels-turn}
-use Rattle.packed.specs.Packed.{row_text, packed_text}
-use Rattle.packed.specs.Packer.{put_row, row_written, trees_written, trees_fit}
-use Rattle.packed.specs.declared.packer.Packer.{Packer}
-use Rattle.packed.proofs.PackerRuns.{fits_row, fits_kids, node-written, none-written}
+use Rattle.packing.specs.Packed.{row_text, packed_text}
+use Rattle.packing.specs.Packer.{put_row, row_written, trees_written, trees_fit}
+use Rattle.packing.specs.declared.packer.Packer.{Packer}
+use Rattle.packing.proofs.PackerRuns.{fits_row, fits_kids, node-written, none-written}
 use Rattle.column_out.specs.ColumnOut.{without, tree_left}
 use Rattle.column_out.specs.declared.fields.Kept.{Kept}
 use Rattle.column_out.specs.Internal.Stretch.{label_at, nth_row, stretch_length, put_stretch}

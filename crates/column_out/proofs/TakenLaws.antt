@@ -12,11 +12,11 @@ use Rattle.std.specs.declared.result.Result.{Result}
 use Rattle.tokenizer.specs.Answer.{done, refuse, answer_of}
 use Rattle.tokenizer.proofs.Answered.{handed_on}
 use Rattle.datatype.specs.Tree.{Label}
-use Rattle.packed.specs.Packed.{packed_size, packed_rows, packed_bytes, size_fits}
-use Rattle.packed.specs.Packer.{with_words, with_bytes, written, put_row, set_parents, trees_written}
-use Rattle.packed.specs.declared.Packed.{Packed}
-use Rattle.packed.specs.declared.packer.Packer.{Packer}
-use Rattle.packed.proofs.PackerRuns.{first_fits, first_rows, first_text, first_size}
+use Rattle.packing.specs.Packed.{packed_size, packed_rows, packed_bytes, size_fits}
+use Rattle.packing.specs.Packer.{with_words, with_bytes, written, put_row, set_parents, trees_written}
+use Rattle.packing.specs.declared.Packed.{Packed}
+use Rattle.packing.specs.declared.packer.Packer.{Packer}
+use Rattle.packing.proofs.PackerRuns.{first_fits, first_rows, first_text, first_size}
 use Rattle.column_out.specs.declared.NotTaken.{NotTaken}
 use Rattle.column_out.specs.declared.fields.Kept.{Kept}
 use Rattle.column_out.specs.ColumnOut.{tree_left, column_out, column_out_answer, column_out_rows, column_out_bytes, number_of}

@@ -6,8 +6,8 @@ use Rattle.datatype.specs.Kind.{struct_kind}
 use Rattle.datatype.specs.Tree.{Forest, ∅, node, roots, Label}
 use Rattle.datatype.specs.Table.{tree_of}
 use Rattle.row_table.specs.Sound.{struct_fields}
-use Rattle.packed.specs.Packed.{size_fits, packed_rows, packed_bytes, packed_size, size_by}
-use Rattle.packed.specs.declared.Packed.{Packed}
+use Rattle.packing.specs.Packed.{size_fits, packed_rows, packed_bytes, packed_size, size_by}
+use Rattle.packing.specs.declared.Packed.{Packed}
 use Rattle.column_out.specs.declared.NotTaken.{NotTaken}
 use Rattle.column_out.specs.declared.NotTaken.TheVariants.{NotSound, NotStruct, NoSuchField, NoRoom}
 

@@ -6,9 +6,9 @@ use Rattle.tokenizer.specs.Utf8.{utf8_step, utf8_state, is_utf8}
 use Rattle.datatype.specs.Tree.{name_list}
 use Rattle.datatype.specs.Table.{table_of}
 use Rattle.row_table.specs.Internal.Computed.{computed}
-use Rattle.packed.specs.Packed.{packed_text, packed_row, packed_from, packed, size_fits, packed_rows, packed_bytes}
-use Rattle.packed.specs.declared.Packed.{Packed}
-use Rattle.packed.specs.Examples.{example}
+use Rattle.packing.specs.Packed.{packed_text, packed_row, packed_from, packed, size_fits, packed_rows, packed_bytes}
+use Rattle.packing.specs.declared.Packed.{Packed}
+use Rattle.packing.specs.Examples.{example}
 use Rattle.column_out.specs.ColumnOut.{tree_left, column_out, column_out_answer, column_out_rows, column_out_bytes}
 
 abbrev table : List ℕ

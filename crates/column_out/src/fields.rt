@@ -10,7 +10,7 @@ ghost use Rattle.column_out.specs.Internal.Steps.{Stays};
 use crate::NotTaken;
 use datatype::rows::ROW_WORDS;
 use datatype::{Row, Tree};
-use packed::Packed;
+use packing::Packed;
 use row_table::nodes::{Node, Nodes, SoundTree};
 
 // The rows from first to end go; what stays comes to so many rows and bytes.

@@ -15,7 +15,7 @@ use crate::fields::what_stays;
 use crate::pack::put_rows;
 use datatype::rows::ROW_WORDS;
 use datatype::{Row, Tree};
-use packed::{Packed, Packer};
+use packing::{Packed, Packer};
 use thiserror::Error;
 use tokenizer::Numbered;
 

@@ -5,7 +5,7 @@ ghost use Rattle.column_out.specs.Internal.Stretch.{put_stretch};
 
 use datatype::rows::{ROW_WORDS, ROWS};
 use datatype::{Row, Tree};
-use packed::Packer;
+use packing::Packer;
 
 // Packs the rows from row `from` to row `end`, each over as many rows as before.
 #[tactic(auto, using(crate::proofs::FieldLaws::putting))]

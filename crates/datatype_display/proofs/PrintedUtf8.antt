@@ -26,7 +26,7 @@ use Rattle.datatype.specs.Table.{tree_of}
 use Rattle.row_table.specs.Sound.{Standing, bare, field, union_field, name_fits, zone_fits, rows_fit, is_sound}
 use Rattle.datatype.proofs.Tests.{below_at}
 use Rattle.row_table.proofs.SoundTree.{RowFits, rules_at, rows_fit_lem, sound_tree, sound-labels}
-use Rattle.output.specs.Digits.{digits_with, digits}
+use Rattle.writer.specs.Digits.{digits_with, digits}
 use Rattle.display_length.specs.declared.words.Spelling.{Spelling}
 use Rattle.display_length.specs.declared.words.Spelling.TheVariants.{Us, Micro}
 use Rattle.display_length.specs.Display.{Shown, kind_word, microsecond_text, unit_text, interval_text, mode_text, sorted_text, scale_text, unicode_text, is_lead, escape, escape_pair, escape_next, escaped_from, escaped, quoted, nullity_text, field_text, list_name_text, list_field_text, struct_text, union_text, zone_text, default_names, run_end_text, shape_text, type_text, shown, display}

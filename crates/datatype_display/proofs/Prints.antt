@@ -19,8 +19,8 @@ use Rattle.display_length.proofs.PrintedLaws.{Prints as Measured, prints, refuse
 use Rattle.datatype_display.specs.Print.{print, print_answer, print_bytes}
 use Rattle.datatype_display.specs.Internal.Steps.{writer_of, Fits, Wrote, text_in}
 use Rattle.datatype_display.specs.declared.write.Printer.{Printer}
-use Rattle.output.specs.declared.Writer.{Writer}
-use Rattle.output.proofs.Written.{written_sets}
+use Rattle.writer.specs.declared.Writer.{Writer}
+use Rattle.writer.proofs.Written.{written_sets}
 use Rattle.std.specs.Result.{IsErrAnd}
 use Rattle.std.specs.declared.result.Result.{Result}
 use Rattle.tokenizer.specs.declared.refusal.Refusal as R

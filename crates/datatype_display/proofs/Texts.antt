@@ -15,8 +15,8 @@ use Rattle.datatype.specs.Kind.{Shape, leaf, timestamp, time, interval, fixed, l
 use Rattle.datatype.proofs.KindShapes.{shape_by, word_leaf}
 use Rattle.datatype.specs.Tree.{depth, Label, name_of, zone_of, label_of}
 use Rattle.datatype.specs.Table.{rows_at, word_at}
-use Rattle.subtrees.specs.Internal.Run.{row_at}
-use Rattle.output.specs.Digits.{digits}
+use Rattle.unchecked_rows.specs.Internal.Run.{row_at}
+use Rattle.writer.specs.Digits.{digits}
 use Rattle.row_table.specs.declared.nodes.Node.{Node}
 use Rattle.row_table.specs.declared.nodes.Nodes.{Nodes}
 use Rattle.row_table.specs.Nodes.{IsFirst}
@@ -27,7 +27,7 @@ use Rattle.display_length.specs.Display.{kind_word, unit_text, interval_text, mo
 use Rattle.display_length.specs.Internal.Nodes.{label_in, levels_below}
 use Rattle.datatype_display.specs.declared.write.Printer.{Printer}
 use Rattle.datatype_display.specs.Internal.Steps.{Wrote, is_alone, comma, nullability, name_text, nullable_text, union_field_text, fields_in, text_in, shown_in, all_shown, shape_in}
-use Rattle.output.proofs.Written.{written_then, written_none}
+use Rattle.writer.proofs.Written.{written_then, written_none}
 use Rattle.datatype_display.proofs.Writes.{Left, left_as, left_step}
 use Rattle.display_length.proofs.TreeLaws.{child-levels, printed_kind}
 use Rattle.datatype_display.proofs.Children.{shown-none, shown-first, below-tree, below-start, below-levels, below-shown}

@@ -13,9 +13,9 @@ use lib.ListN.{length, take, drop, length-append}
 use lib.Seq.{sets, sets-eq, length-sets, take_all}
 use borrow.Rule.Slice.PartMut.{put_mid}
 use Rattle.std.proofs.lemmas.Slice.{put_mid-paste}
-use Rattle.output.specs.declared.Writer.{Writer}
-use Rattle.output.specs.Written.{counted, written}
-use Rattle.output.proofs.Written.{counted_all, written_then, written_none, written_size, written_place}
+use Rattle.writer.specs.declared.Writer.{Writer}
+use Rattle.writer.specs.Written.{counted, written}
+use Rattle.writer.proofs.Written.{counted_all, written_then, written_none, written_size, written_place}
 use Rattle.datatype_display.specs.declared.write.Printer.{Printer}
 use Rattle.datatype_display.specs.Internal.Steps.{writer_of, Fits, Wrote}
 

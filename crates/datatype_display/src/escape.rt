@@ -127,7 +127,7 @@ impl<'a> Printer<'a> {
     }
 
     // Writes what is written at a byte between the marks: at C2 nothing.
-    #[tactic(auto, using(output::proofs::Written::written_none), unfolding(display_length::specs::Display::escape))]
+    #[tactic(auto, using(writer::proofs::Written::written_none), unfolding(display_length::specs::Display::escape))]
     fn put_escape(&mut self, c: u8)
         requires { Fits self.old (escape c) }
         ensures { Wrote self.old (escape c) self.new }

@@ -1,7 +1,7 @@
 // What stands behind the word of a type that has no types below it, and the parts of fields.
 ghost use Rattle.std.specs.Prelude.{◌≡◌, ◌++◌, true};
 ghost use Rattle.tokenizer.specs.Text.{bytes};
-ghost use Rattle.output.specs.Digits.{digits};
+ghost use Rattle.writer.specs.Digits.{digits};
 ghost use Rattle.display_length.specs.Display.{scale_text, zone_text, list_name_text};
 ghost use Rattle.display_length.specs.Internal.Nodes.{label_in};
 ghost use Rattle.datatype_display.specs.Internal.Steps.{Fits, Wrote, is_alone, nullability, name_text, comma, text_in};

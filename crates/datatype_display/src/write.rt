@@ -1,11 +1,11 @@
-// Writing at a place that is known to have room: nothing asks for it. With stores that ask, as `output::Writer` has them,
+// Writing at a place that is known to have room: nothing asks for it. With stores that ask, as `writer::Writer` has them,
 // printing takes 2 to 9 in 100 more instructions.
 ghost use Rattle.std.specs.Prelude.{[], ◌∷◌};
-ghost use Rattle.output.specs.Digits.{digits};
+ghost use Rattle.writer.specs.Digits.{digits};
 ghost use Rattle.datatype_display.specs.Internal.Steps.{Fits, Wrote};
 
 use itoa::write_digits;
-use output::digits_length;
+use writer::digits_length;
 
 // The output, and the place in it behind what was written.
 #[derive(Drop)]
@@ -35,7 +35,7 @@ impl<'a> Printer<'a> {
     }
 
     // Writes a number in decimal digits.
-    #[tactic(auto, using(output::proofs::DigitLaws::digits_decimal))]
+    #[tactic(auto, using(writer::proofs::DigitLaws::digits_decimal))]
     pub(crate) fn put_number(&mut self, n: u32)
         requires { Fits self.old (digits n) }
         ensures { Wrote self.old (digits n) self.new }

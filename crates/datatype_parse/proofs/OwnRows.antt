@@ -13,7 +13,7 @@ use Rattle.tokenizer.specs.Token.{value_of, double_quoted, colon, comma, lparen,
 use Rattle.datatype.specs.Kind.{Shape, leaf, timestamp, time, interval, fixed, list, fixed_list, struct, union, dictionary, decimal, mapping, run_end_encoded, shape_of, ids_fit, entries_refusal}
 use Rattle.datatype.specs.Tree.{Forest, Row, count}
 use Rattle.datatype.specs.Table.{row_words, rows_lent}
-use Rattle.subtrees.proofs.ParentTree.{count_parented}
+use Rattle.unchecked_rows.proofs.ParentTree.{count_parented}
 use Rattle.parser.specs.Parse.{refuse_last, last_token, Name, Tree, single, Fields, Item, end, last, more, rows_in, id_of, need, signed_byte_at, length_at, list_name_at, close_at, after_role, item, run_ends, values, fields_from, items_by, stands, role_at, field_at, default_field, list_field, struct_item, union_field, union_item, named_run_ends, default_run_ends, run_end_fields, entries_at, fixed_list_field, list_at, fixed_size_list_at, struct_at, union_at, dictionary_at, map_at, run_end_encoded_at, shape_at, type_with, type_at, first_type}
 use Rattle.parser.proofs.Holds.{Holds, holds_last, holds_bind, holds_if}
 use Rattle.datatype_parse.specs.Parse.{text_over, parse, row_count, parse_answer, filled, parse_rows}

@@ -24,8 +24,8 @@ use Rattle.datatype_parse.proofs.SoundRows.{ids_allow, Asked, ids, Fits, Typed, 
 use Rattle.datatype_parse.proofs.SoundLeaves.{Whole, closed, leaf-sound, timestamp-sound, time-sound, interval-sound, fixed-sound, decimal-sound}
 use Rattle.datatype_parse.proofs.SoundFields.{Run, RunEnds, Entries, items-sound, list-field-sound, fixed-field-sound, struct-item-sound, union-item-sound, run-ends-sound, entries-sound}
 use Rattle.datatype_parse.proofs.MoreRows.{filled_rows}
-use Rattle.subtrees.specs.Parents.{parented}
-use Rattle.subtrees.proofs.ParentTree.{count_parented}
+use Rattle.unchecked_rows.specs.Parents.{parented}
+use Rattle.unchecked_rows.proofs.ParentTree.{count_parented}
 use Rattle.row_table.proofs.Parented.{parented-tree}
 
 module _ (text : List ℕ) (good : T (is_utf8 text)) where

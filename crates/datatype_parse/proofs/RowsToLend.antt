@@ -10,9 +10,9 @@ use Rattle.tokenizer.specs.Utf8.{is_utf8}
 use Rattle.datatype.specs.Tree.{Forest, Row, count}
 use Rattle.datatype.specs.Table.{row_words, rows_lent}
 use Rattle.row_table.specs.Sound.{bare}
-use Rattle.subtrees.specs.Parents.{parented}
-use Rattle.subtrees.proofs.ParentSet.{lent_small}
-use Rattle.subtrees.proofs.ParentTree.{count_parented}
+use Rattle.unchecked_rows.specs.Parents.{parented}
+use Rattle.unchecked_rows.proofs.ParentSet.{lent_small}
+use Rattle.unchecked_rows.proofs.ParentTree.{count_parented}
 use Rattle.parser.specs.Parse.{Tree, rows_in, single, type_at, first_type}
 use Rattle.parser.proofs.Holds.{Holds, holds_then, holds_if}
 use Rattle.datatype_parse.specs.Parse.{text_over, parse, parse_answer}

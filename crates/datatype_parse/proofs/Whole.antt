@@ -25,9 +25,9 @@ use Rattle.tokenizer.proofs.Tokens.{token_end}
 use Rattle.datatype.specs.Tree.{Forest, ∅, node, count, Row}
 use Rattle.datatype.specs.Table.{table_of, rows_lent}
 use Rattle.datatype.proofs.Table.{length_table}
-use Rattle.subtrees.specs.Parents.{parented, parents_set}
-use Rattle.subtrees.proofs.ParentSet.{lent_small}
-use Rattle.subtrees.proofs.ParentTree.{count_parented, first-parents-lent}
+use Rattle.unchecked_rows.specs.Parents.{parented, parents_set}
+use Rattle.unchecked_rows.proofs.ParentSet.{lent_small}
+use Rattle.unchecked_rows.proofs.ParentTree.{count_parented, first-parents-lent}
 use Rattle.parser.proofs.Holds.{Holds}
 use Rattle.datatype_parse.proofs.ReadSound.{Begun, first_read}
 use Rattle.parser.specs.Parse.{Tree, single, rows_in, place_at, stands, first_type, read_of, rows_of}

@@ -4,7 +4,7 @@ use Rattle.tokenizer.specs.Answer.{Out, refused, done, refuse_at, ◌>>=◌}
 use Rattle.tokenizer.specs.Token.{token_at, value_of, no_token}
 use Rattle.datatype.specs.Tree.{Forest, count, Row}
 use Rattle.datatype.specs.Table.{table_of, rows_lent}
-use Rattle.subtrees.specs.Parents.{parented}
+use Rattle.unchecked_rows.specs.Parents.{parented}
 use Rattle.parser.specs.Parse.{single, place_at, stands, first_type}
 
 -- The text ends here, but for spaces.

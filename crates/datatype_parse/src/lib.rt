@@ -27,7 +27,7 @@ pub fn parse_data_type(text: &[u8], rows: &mut [u32]) -> Result<usize, ReadError
 {
     let read = parser::parse_first_type(text, rows)?;
     if text_over(text, read.next) {
-        subtrees::set_first_parents(rows, read.used);
+        unchecked_rows::set_first_parents(rows, read.used);
         return Ok(read.used);
     }
     rows.fill(0);

@@ -21,7 +21,7 @@ use Rattle.datatype.specs.Kind.{run_end_encoded, shape_of}
 use Rattle.datatype.specs.Tree.{Forest, ∅, node, roots, Row, Label, part, name_of, zone_of, label_of, labels}
 use Rattle.datatype.specs.Table.{row_words, tree_of, word_at}
 use Rattle.row_table.specs.Sound.{is_sound}
-use Rattle.subtrees.specs.Internal.Run.{row_at, forest_at}
+use Rattle.unchecked_rows.specs.Internal.Run.{row_at, forest_at}
 use Rattle.datatype.proofs.Tests.{iff_eq}
 use Rattle.row_table.proofs.SoundTree.{sound_tree}
 use Rattle.display_length.specs.PrintedLength.{quotes_names, is_latin, names_latin, quoted_latin}

@@ -2,7 +2,7 @@
 use mathlib.Core.Path.{◌≡◌, subst}
 use Prim.Native.Nat.{◌+◌, ◌-◌, ◌≤◌}
 use Rattle.datatype.specs.Table.{rows_at}
-use Rattle.subtrees.specs.Internal.Run.{Nests}
+use Rattle.unchecked_rows.specs.Internal.Run.{Nests}
 use Rattle.row_table.specs.declared.nodes.SoundTree.{SoundTree as Whole}
 use Rattle.row_table.specs.declared.nodes.Node.{Node}
 

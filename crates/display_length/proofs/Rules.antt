@@ -2,7 +2,7 @@
 use Rattle.std.proofs.lemmas.Bool.Decides.{nat_tests}
 use Rattle.tokenizer.proofs.Basics.{of_true, is_true}
 use Rattle.datatype.proofs.KindShapes.{shape_by}
-use Rattle.output.proofs.DigitLaws.{digits_few}
+use Rattle.writer.proofs.DigitLaws.{digits_few}
 use Rattle.display_length.proofs.LatinLaws.{latin_greatest, clean_heaviest, greatest-go, greatest-end, heaviest-go, heaviest-end, row_latin_is, pair_none, pair_one, pair_two, tree-clean, tree-latin}
 use Rattle.display_length.proofs.CleanLaws.{clean_name, clean_zone}
 use Rattle.row_table.proofs.NodeLaws.{kind_said, role_said, id_said, number_said, scale_said, name_said, zone_said, all_labels, all_nest, all_levels}

@@ -10,7 +10,7 @@ use Rattle.datatype.proofs.KindShapes.{word_leaf}
 use Rattle.datatype.specs.Tree.{∅, node, roots, depth, labels}
 use Rattle.datatype.specs.Table.{tree_of, rows_at, word_at}
 use Rattle.row_table.specs.Sound.{bare}
-use Rattle.subtrees.proofs.Runs.{forest_none}
+use Rattle.unchecked_rows.proofs.Runs.{forest_none}
 use Rattle.row_table.proofs.SoundTree.{SoundTree, sound-labels}
 use Rattle.row_table.specs.declared.nodes.SoundTree.{SoundTree as Whole}
 use Rattle.row_table.specs.declared.nodes.Node.{Node}

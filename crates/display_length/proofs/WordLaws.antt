@@ -13,8 +13,8 @@ use borrow.Author.Tests.{lt-ltb, le-ltb}
 use Rattle.tokenizer.specs.Words.{words}
 use Rattle.datatype.specs.Kind.{kinds}
 use Rattle.datatype.proofs.Tests.{all_below, below_at}
-use Rattle.output.specs.Digits.{digits}
-use Rattle.output.proofs.DigitLaws.{digits_few}
+use Rattle.writer.specs.Digits.{digits}
+use Rattle.writer.proofs.DigitLaws.{digits_few}
 use Rattle.display_length.specs.declared.words.Spelling.{Spelling}
 use Rattle.display_length.specs.declared.words.Spelling.TheVariants.{Us, Micro}
 use Rattle.display_length.specs.Display.{kind_word, kind_text, microsecond_text, unit_text, interval_text, mode_text, sorted_text, scale_text}

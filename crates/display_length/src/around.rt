@@ -7,7 +7,7 @@ ghost use Rattle.display_length.specs.Internal.Nodes.{label_in};
 use crate::printed::PrintedNode;
 use datatype::kind;
 use datatype::rows::NON_NULL;
-use output::digits_length;
+use writer::digits_length;
 
 // A comma and a space before each child but the first.
 fn comma_length(first: bool) -> usize

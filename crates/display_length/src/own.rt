@@ -7,7 +7,7 @@ ghost use Rattle.display_length.specs.Internal.Nodes.{label_in};
 use crate::printed::PrintedNode;
 use crate::words::{interval_word, mode_word, scale_length, sorted_word, unit_word, word_length};
 use datatype::kind;
-use output::digits_length;
+use writer::digits_length;
 
 impl PrintedNode<'_> {
     // What stands behind a kind's word: the marks that every type of the kind has, and what its numbers and its zone say.

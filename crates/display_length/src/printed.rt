@@ -2,7 +2,7 @@
 ghost use Rattle.std.specs.Prelude.{◌≡◌, ◌+◌, ◌-◌, ◌≤◌, T, true};
 ghost use Rattle.tokenizer.specs.Text.{all};
 ghost use Rattle.datatype.specs.Table.{rows_at};
-ghost use Rattle.subtrees.specs.Internal.Run.{Nests};
+ghost use Rattle.unchecked_rows.specs.Internal.Run.{Nests};
 ghost use Rattle.display_length.specs.Internal.Steps.{is_clean};
 
 use crate::strings::Part;

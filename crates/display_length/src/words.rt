@@ -5,7 +5,7 @@ ghost use Rattle.display_length.specs.Display.{kind_text, microsecond_text, unit
 ghost use Rattle.display_length.specs.Internal.Steps.{word_length};
 
 use datatype::kind;
-use output::digits_length;
+use writer::digits_length;
 
 // A kind's word. What is no kind has none: no bytes, as its definition has it, and no `Option`, since no caller asks.
 #[tactic(auto, using(crate::proofs::WordLaws::none_text), unfolding(crate::specs::Display::kind_text, crate::specs::Display::kind_word, tokenizer::specs::Words::words))]
@@ -133,7 +133,7 @@ pub fn sorted_word(sorted: u32) -> &'static [u8]
 }
 
 // How long a decimal's scale is, of which the word is 128 more.
-#[tactic(auto, using(output::proofs::DigitLaws::digits_few), unfolding(crate::specs::Display::scale_text))]
+#[tactic(auto, using(writer::proofs::DigitLaws::digits_few), unfolding(crate::specs::Display::scale_text))]
 pub(crate) fn scale_length(scale: u32) -> usize
     ensures { result ≡ length (scale_text scale) }
 {

@@ -14,7 +14,7 @@ use Rattle.datatype.specs.Kind.{Shape, leaf, timestamp, time, interval, fixed, l
 use Rattle.datatype.specs.Tree.{Forest, ∅, node, count, Row, label_of, labels}
 use Rattle.datatype.specs.Table.{row_words, words_of, table_of, word_at}
 use Rattle.datatype.proofs.Table.{length_table, table_view}
-use Rattle.subtrees.specs.Parents.{parents_right}
+use Rattle.unchecked_rows.specs.Parents.{parents_right}
 use Rattle.row_table.specs.Sound.{Standing, bare, field, union_field, role_fits, id_fits, rules_of, rows_fit, name_placed, zone_placed, placed, is_sound}
 use Rattle.row_table.proofs.SoundTree.{rows_fit_lem, sound_tree, sound-count}
 use Rattle.half_rows.specs.HalfRows.{half}

@@ -17,13 +17,13 @@ use Rattle.datatype.specs.Kind.{shape_of}
 use Rattle.datatype.specs.Tree.{Forest, ∅, node, count, roots, Row, label_of, labels}
 use Rattle.datatype.specs.Table.{row_words, words_of}
 use Rattle.row_table.specs.Sound.{Standing, bare, arity_fits, rules_of, rows_fit, is_sound}
-use Rattle.subtrees.specs.Equal.{first_rows, whole_rows}
+use Rattle.unchecked_rows.specs.Equal.{first_rows, whole_rows}
 use Rattle.layout.specs.Layout.{Asked, anything, key, run_end, kind_allowed, asked_of_first, first, broken_row, verdict_of}
 use Rattle.layout.specs.Internal.Scan.{scan}
 use Rattle.datatype.proofs.Table.{table_view}
 use Rattle.datatype.proofs.KindShapes.{shape_by}
 use Rattle.row_table.proofs.SoundTree.{rows_fit_lem, SoundTree, sound_tree, sound-labels}
-use Rattle.subtrees.proofs.RowList.{rows_of, whole_rows_lem, count_labels}
+use Rattle.unchecked_rows.proofs.RowList.{rows_of, whole_rows_lem, count_labels}
 
 -- ---- what a row is asked
 

@@ -5,7 +5,7 @@
 ghost use Rattle.std.specs.Prelude.{◌≡◌};
 ghost use Rattle.tokenizer.specs.Answer.{number_of, answer_of};
 ghost use Rattle.datatype.specs.Kind.{shape_of};
-ghost use Rattle.subtrees.specs.Equal.{whole_rows};
+ghost use Rattle.unchecked_rows.specs.Equal.{whole_rows};
 ghost use Rattle.layout.specs.Layout.{anything, kind_allowed, asked_of_first, verdict_of};
 ghost use Rattle.layout.specs.Internal.Scan.{asked_of, scan};
 

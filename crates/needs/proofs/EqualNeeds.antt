@@ -4,7 +4,7 @@ use mathlib.Core.Bool.{Bool}
 use mathlib.Core.List.{List}
 use Prim.Native.Nat.{ℕ}
 use lib.Dec.{T}
-use Rattle.subtrees.specs.Equal.{equal_trees}
+use Rattle.unchecked_rows.specs.Equal.{equal_trees}
 use Rattle.row_table.specs.Sound.{is_sound}
 use Rattle.row_table.proofs.FieldLaws.{equal-fields}
 use Rattle.needs.specs.declared.Need.{Need}

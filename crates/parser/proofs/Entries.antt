@@ -5,12 +5,12 @@ use Prim.Native.Nat.{ℕ, ◌-◌}
 use native.Mathlib.Omega.{arith}
 use Rattle.datatype.specs.Kind.{entries_refusal, ids_fit}
 use Rattle.datatype.specs.Tree.{Forest, ∅, node, count, roots, Row}
-use Rattle.subtrees.specs.Internal.Run.{entries_of}
-use Rattle.subtrees.specs.UnionFields.{type_ids_fit}
-use Rattle.subtrees.specs.MapEntries.{entries_refusal_at}
-use Rattle.subtrees.proofs.UnionLaws.{type_ids_fit_lem}
-use Rattle.subtrees.proofs.EntryLaws.{entries_nest}
-use Rattle.subtrees.proofs.Runs.{Is, nests_is, forest_is}
+use Rattle.unchecked_rows.specs.Internal.Run.{entries_of}
+use Rattle.unchecked_rows.specs.UnionFields.{type_ids_fit}
+use Rattle.unchecked_rows.specs.MapEntries.{entries_refusal_at}
+use Rattle.unchecked_rows.proofs.UnionLaws.{type_ids_fit_lem}
+use Rattle.unchecked_rows.proofs.EntryLaws.{entries_nest}
+use Rattle.unchecked_rows.proofs.Runs.{Is, nests_is, forest_is}
 use Rattle.tokenizer.specs.Answer.{Out}
 use Rattle.parser.specs.Parse.{Tree}
 use Rattle.parser.specs.Internal.Steps.{Stored}

@@ -8,7 +8,7 @@ use Rattle.tokenizer.specs.Answer.{Refusal, Out, refused, done, number_of, ◌>>
 use Rattle.tokenizer.specs.declared.refusal.Refusal as R
 use Rattle.tokenizer.specs.Token.{Standing, value_of, lparen, rparen, comma, map_sorted, x_word}
 use Rattle.parser.specs.Answer.{refusal_in}
-use Rattle.subtrees.specs.MapEntries.{entries_refusal_at}
+use Rattle.unchecked_rows.specs.MapEntries.{entries_refusal_at}
 use lib.ListN.{length, get_or}
 use Rattle.datatype.specs.Tree.{∅, node}
 use Rattle.datatype.specs.Table.{row_words}

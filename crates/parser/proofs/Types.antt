@@ -25,7 +25,7 @@ use Rattle.parser.specs.declared.ReadValue.{ReadValue}
 use Rattle.parser.proofs.Stores.{rows_from, with_rows, in_front, alone}
 use Rattle.parser.proofs.Matched.{Read, error_at, behind, GotTree, got_look, got_next, got_word, lost_look, lost_next}
 use Rattle.parser.proofs.Readers.{meets-handed, meets-put, meets-further}
-use Rattle.subtrees.specs.UnionFields.{type_ids_fit}
+use Rattle.unchecked_rows.specs.UnionFields.{type_ids_fit}
 use Rattle.parser.proofs.Entries.{ids-read}
 use Rattle.parser.proofs.FieldLaws.{struct-end, struct-field-1, struct_more, struct-last, union-end, union-open, union-lost, union_more}
 use Rattle.parser.proofs.Loops.{Loop, all_read, all_stored, all_counted, loop-start, loop-lost, loop-end, loop-last, loop-more}

@@ -324,7 +324,7 @@ impl<'a> Parser<'a> {
         // No range has the places of the fields: each begins where the one before it ended, until a closing mark.
         loop {
             if let Some(end) = self.next_if(next, b')') {
-                if !subtrees::try_new(&*below, 0, used) {
+                if !unchecked_rows::try_new(&*below, 0, used) {
                     return Err(ReadError {
                         place: mark_before(end),
                         refusal: Refusal::WrongUnionId,
@@ -379,7 +379,7 @@ impl<'a> Parser<'a> {
     {
         let open = self.expect_token(at, b'(')?;
         let entries = self.parse_field(below, 0, open, level)?;
-        if let Err(refusal) = subtrees::check_entries(&*below, 0) {
+        if let Err(refusal) = unchecked_rows::check_entries(&*below, 0) {
             let kind = Row {
                 rows: &*below,
                 at: 0,

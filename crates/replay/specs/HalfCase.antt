@@ -10,7 +10,7 @@ use Rattle.replay.specs.Sample.{number_at, numbers_at, after_numbers, after_part
 use Rattle.replay.specs.PrintCase.{bytes_of}
 use Rattle.replay.specs.ReadCase.{unread}
 use Rattle.replay.specs.declared.HalfCase.{HalfCase}
-use Rattle.replay.specs.declared.Tally.{Tally}
+use Rattle.replay.specs.declared.Agreement.{Agreement}
 
 -- What stands before the half words.
 unfoldable pub half_case_at : List ℕ → ℕ → HalfCase
@@ -63,20 +63,20 @@ halves_alike sample case halves left lent =
     let again = if nat_eq case.status 0 then gives_halves text names rows halves else true in
     gives_rows text names halves lent case.status case.value left && again
 
--- The tally with one case more, of so many half words, which is lent so many words and is to leave so many.
-unfoldable pub one_half_case : List ℕ → Tally → HalfCase → ℕ → ℕ → ℕ → Tally
+-- The agreement with one case more, of so many half words, which is lent so many words and is to leave so many.
+unfoldable pub one_half_case : List ℕ → Agreement → HalfCase → ℕ → ℕ → ℕ → Agreement
 one_half_case sample t case count words left =
     let at = after_numbers sample count case.next in
     let alike = halves_alike sample case (halves_at sample count case.next) (rows_left sample case.value at left) words in
     counted t alike (after_rows sample case.value at left)
 
--- The tally with the case that stands behind it, of no more half words and lent no more words than so many.
-unfoldable pub half_one : List ℕ → ℕ → ℕ → Tally → Tally
+-- The agreement with the case that stands behind it, of no more half words and lent no more words than so many.
+unfoldable pub half_one : List ℕ → ℕ → ℕ → Agreement → Agreement
 half_one sample halves words t =
     let case = half_case_at sample t.next in
     let lent = min case.lent words in
     one_half_case sample t case (min case.count halves) lent lent
 
--- The tally of a whole sample.
-unfoldable pub half_all : List ℕ → ℕ → ℕ → Tally
+-- The agreement of a whole sample.
+unfoldable pub half_all : List ℕ → ℕ → ℕ → Agreement
 half_all sample halves words = replayed (half_one sample halves words) sample

@@ -7,12 +7,12 @@ use Rattle.datatype.specs.Tree.{part, name_list}
 use Rattle.datatype.specs.Table.{row_words}
 use Rattle.archive.specs.Archive.{archive_answer, archive_bytes, unarchive_answer, unarchive_rows, unarchive_text}
 use Rattle.arrow_types.specs.Status.{status_of, value_of}
-use Rattle.packed.specs.Packed.{rows_answered as rows_of, bytes_answered as length_of}
+use Rattle.packing.specs.Packed.{rows_answered as rows_of, bytes_answered as length_of}
 use Rattle.replay.specs.Sample.{number_at, after_part, counted, replayed}
 use Rattle.replay.specs.PrintCase.{bytes_of}
 use Rattle.replay.specs.ReadCase.{unread, rest_of, left_words, after_case}
 use Rattle.replay.specs.declared.ImageCase.{ImageCase}
-use Rattle.replay.specs.declared.Tally.{Tally}
+use Rattle.replay.specs.declared.Agreement.{Agreement}
 
 -- What stands before the rows' words. What is said of rows is said as in a case of the reader, whose text is the image.
 unfoldable pub image_case_at : List ℕ → ℕ → ImageCase
@@ -60,19 +60,19 @@ image_alike sample case left words bytes out =
     let again = if nat_eq case.read.status 0 then writes_image text rows image out else true in
     gives_image image words bytes case.read.status case.read.value left text && again
 
--- The tally with one case more, which is lent so many words and is to leave so many, is lent so many bytes, and so many to be
+-- The agreement with one case more, which is lent so many words and is to leave so many, is lent so many bytes, and so many to be
 -- written again.
-unfoldable pub one_image : List ℕ → Tally → ImageCase → ℕ → ℕ → ℕ → ℕ → Tally
+unfoldable pub one_image : List ℕ → Agreement → ImageCase → ℕ → ℕ → ℕ → ℕ → Agreement
 one_image sample t case words left bytes out =
     counted t (image_alike sample case (left_words sample case.read left) words bytes out) (after_case sample case.read left)
 
--- The tally with the case that stands behind it, lent no more than so many words and bytes.
-unfoldable pub image_one : List ℕ → ℕ → ℕ → Tally → Tally
+-- The agreement with the case that stands behind it, lent no more than so many words and bytes.
+unfoldable pub image_one : List ℕ → ℕ → ℕ → Agreement → Agreement
 image_one sample words most t =
     let case = image_case_at sample t.next in
     let lent = min case.read.lent words in
     one_image sample t case lent lent (min case.bytes most) (min case.read.size most)
 
--- The tally of a whole sample.
-unfoldable pub image_all : List ℕ → ℕ → ℕ → Tally
+-- The agreement of a whole sample.
+unfoldable pub image_all : List ℕ → ℕ → ℕ → Agreement
 image_all sample words most = replayed (image_one sample words most) sample

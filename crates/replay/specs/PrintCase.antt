@@ -11,7 +11,7 @@ use Rattle.arrow_types.specs.Status.{status_of, value_of}
 use Rattle.replay.specs.Sample.{number_at, numbers_at, after_numbers, after_part, counted, replayed}
 use Rattle.replay.specs.declared.Number.{Number}
 use Rattle.replay.specs.declared.PrintCase.{PrintCase}
-use Rattle.replay.specs.declared.Tally.{Tally}
+use Rattle.replay.specs.declared.Agreement.{Agreement}
 
 abbrev pub unprinted : ℕ
 unprinted = 7
@@ -46,17 +46,17 @@ gives_print spelling text names words lent case printed =
     is_answer (print_answer spelling text names words before) case.status case.printed.value
     && leaves_bytes (print_bytes spelling text names words before) case.printed.value printed
 
--- The tally with one case more, of so many words, which is lent so many bytes.
-unfoldable pub one_print : Spelling → List ℕ → Tally → PrintCase → ℕ → ℕ → Tally
+-- The agreement with one case more, of so many words, which is lent so many bytes.
+unfoldable pub one_print : Spelling → List ℕ → Agreement → PrintCase → ℕ → ℕ → Agreement
 one_print spelling sample t case count lent =
     counted t (gives_print spelling (bytes_of sample case.text) (bytes_of sample case.names) (numbers_at sample count case.next) lent case (bytes_of sample case.printed)) (after_numbers sample count case.next)
 
--- The tally with the case that stands behind it, with no more than so many words, and lent no more than so many bytes.
-unfoldable pub print_one : Spelling → List ℕ → ℕ → ℕ → Tally → Tally
+-- The agreement with the case that stands behind it, with no more than so many words, and lent no more than so many bytes.
+unfoldable pub print_one : Spelling → List ℕ → ℕ → ℕ → Agreement → Agreement
 print_one spelling sample words most t =
     let case = print_case_at sample t.next in
     one_print spelling sample t case (min case.count words) (min case.lent most)
 
--- The tally of a whole sample.
-unfoldable pub print_all : Spelling → List ℕ → ℕ → ℕ → Tally
+-- The agreement of a whole sample.
+unfoldable pub print_all : Spelling → List ℕ → ℕ → ℕ → Agreement
 print_all spelling sample words most = replayed (print_one spelling sample words most) sample

@@ -10,7 +10,7 @@ use Rattle.datatype_parse.specs.RowsToLend.{rows_to_lend}
 use Rattle.arrow_types.specs.Status.{status_of, value_of, place_of}
 use Rattle.replay.specs.Sample.{number_at, numbers_at, after_numbers, after_part, counted, replayed}
 use Rattle.replay.specs.declared.ReadCase.{ReadCase}
-use Rattle.replay.specs.declared.Tally.{Tally}
+use Rattle.replay.specs.declared.Agreement.{Agreement}
 
 abbrev pub unread : ℕ
 unread = 7
@@ -48,18 +48,18 @@ gives text lent status value place left =
     let answer = parse_answer text (replicate lent unread) in
     nat_eq (status_of answer) status && nat_eq (value_of answer) value && nat_eq (place_of answer) place && same (parse_rows text (replicate lent unread)) left
 
--- The tally with one case more, which is lent so many words and is to leave so many.
-unfoldable pub one_case : List ℕ → Tally → ReadCase → ℕ → ℕ → Tally
+-- The agreement with one case more, which is lent so many words and is to leave so many.
+unfoldable pub one_case : List ℕ → Agreement → ReadCase → ℕ → ℕ → Agreement
 one_case sample t case lent left =
     counted t (gives (part sample case.at case.size) lent case.status case.value case.place (left_words sample case left)) (after_case sample case left)
 
--- The tally with the case that stands behind it, which is lent as many words as `words` says, and no more than so many.
-unfoldable pub read_one : List ℕ → (ReadCase → ℕ) → ℕ → Tally → Tally
+-- The agreement with the case that stands behind it, which is lent as many words as `words` says, and no more than so many.
+unfoldable pub read_one : List ℕ → (ReadCase → ℕ) → ℕ → Agreement → Agreement
 read_one sample words most t =
     let case = read_case_at sample t.next in
     let lent = min (words case) most in
     one_case sample t case lent lent
 
--- The tally of a whole sample, read for the first time or again.
-unfoldable pub read_all : List ℕ → Bool → ℕ → Tally
+-- The agreement of a whole sample, read for the first time or again.
+unfoldable pub read_all : List ℕ → Bool → ℕ → Agreement
 read_all sample again most = replayed (read_one sample (words_lent again) most) sample

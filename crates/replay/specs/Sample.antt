@@ -3,7 +3,7 @@
 use Rattle.std.specs.Prelude.{None, Some, Bool, true, false, List, [], ◌∷◌, ℕ, zero, suc, ◌+◌, ◌*◌, ◌-◌, min, length, drop, nat_lt, if◌then◌else◌}
 use Rattle.std.specs.Option.{option_or}
 use Rattle.replay.specs.declared.Number.{Number}
-use Rattle.replay.specs.declared.Tally.{Tally}
+use Rattle.replay.specs.declared.Agreement.{Agreement}
 
 -- A number with one more digit behind it, and never more than 32 bits hold.
 abbrev pub shift : ℕ → ℕ → ℕ
@@ -37,12 +37,12 @@ after_part sample at size = min (at + size + 1) (length sample)
 abbrev pub one_more : ℕ → ℕ
 one_more n = min (n + 1) 4294967295
 
--- A tally of no case yet, at a place.
-abbrev pub start_at : ℕ → Tally
+-- A agreement of no case yet, at a place.
+abbrev pub start_at : ℕ → Agreement
 start_at next = record { all = 0; alike = 0; first = None; next = next }
 
--- A tally with one case more; the first that is not alike is kept by its number, from 1.
-unfoldable pub counted : Tally → Bool → ℕ → Tally
+-- A agreement with one case more; the first that is not alike is kept by its number, from 1.
+unfoldable pub counted : Agreement → Bool → ℕ → Agreement
 counted t true next = record { all = one_more t.all; alike = one_more t.alike; first = t.first; next = next }
 counted t false next = record { all = one_more t.all; alike = t.alike; first = option_or t.first (Some (one_more t.all)); next = next }
 
@@ -58,11 +58,11 @@ most_halves = 13500
 abbrev pub most_bytes : ℕ
 most_bytes = 20000
 
--- A tally with so many cases more, each by one step.
-unfoldable pub times : (Tally → Tally) → ℕ → Tally → Tally
+-- A agreement with so many cases more, each by one step.
+unfoldable pub times : (Agreement → Agreement) → ℕ → Agreement → Agreement
 times one zero t = t
 times one (suc n) t = times one n (one t)
 
--- The tally of a whole sample: how many cases, and then the cases.
-unfoldable pub replayed : (Tally → Tally) → List ℕ → Tally
+-- The agreement of a whole sample: how many cases, and then the cases.
+unfoldable pub replayed : (Agreement → Agreement) → List ℕ → Agreement
 replayed one sample = times one (number_at sample 0).value (start_at (number_at sample 0).next)

@@ -9,14 +9,14 @@ use Rattle.tokenizer.specs.Answer.{Out, refused, done}
 use Rattle.datatype.specs.Tree.{label_of}
 use Rattle.datatype.specs.Table.{row_words, row_of}
 use Rattle.row_table.specs.Sound.{is_sound, depth_of}
-use Rattle.subtrees.specs.Equal.{equal_trees}
+use Rattle.unchecked_rows.specs.Equal.{equal_trees}
 use Rattle.layout.specs.Layout.{verdict_of}
 use Rattle.arrow_types.specs.Status.{status_of, value_of, flag}
 use Rattle.replay.specs.Sample.{number_at, numbers_at, after_numbers, after_part, counted, times, replayed}
 use Rattle.replay.specs.PrintCase.{bytes_of}
 use Rattle.replay.specs.declared.Table.{Table}
 use Rattle.replay.specs.declared.TableCase.{TableCase}
-use Rattle.replay.specs.declared.Tally.{Tally}
+use Rattle.replay.specs.declared.Agreement.{Agreement}
 
 -- What stands before the words of a table.
 unfoldable pub table_at : List ℕ → ℕ → Table
@@ -86,34 +86,34 @@ change_alike sample table words other others case =
 
 -- ---- all of them
 
--- The tally with the case that stands behind it.
-unfoldable pub one_change : List ℕ → Table → List ℕ → Table → List ℕ → Tally → Tally
+-- The agreement with the case that stands behind it.
+unfoldable pub one_change : List ℕ → Table → List ℕ → Table → List ℕ → Agreement → Agreement
 one_change sample table words other others t =
     let case = table_case_at sample t.next in
     counted t (change_alike sample table (set words case.place case.value) other others case) case.next
 
--- The tally with so many cases.
-abbrev pub changes : List ℕ → Table → List ℕ → Table → List ℕ → ℕ → Tally → Tally
+-- The agreement with so many cases.
+abbrev pub changes : List ℕ → Table → List ℕ → Table → List ℕ → ℕ → Agreement → Agreement
 changes sample table words other others = times (one_change sample table words other others)
 
--- The tally with the cases of two tables, the second of so many words.
-unfoldable pub group_cases : List ℕ → Table → List ℕ → Table → ℕ → Tally → Tally
+-- The agreement with the cases of two tables, the second of so many words.
+unfoldable pub group_cases : List ℕ → Table → List ℕ → Table → ℕ → Agreement → Agreement
 group_cases sample table words other count t =
     let cases = number_at sample (after_numbers sample count other.next) in
     changes sample table words other (numbers_at sample count other.next) cases.value (record { all = t.all; alike = t.alike; first = t.first; next = cases.next })
 
--- The tally with the group of a table of so many words; the second has no more than so many.
-unfoldable pub group_of : List ℕ → Table → ℕ → ℕ → Tally → Tally
+-- The agreement with the group of a table of so many words; the second has no more than so many.
+unfoldable pub group_of : List ℕ → Table → ℕ → ℕ → Agreement → Agreement
 group_of sample table count most t =
     let other = table_at sample (after_numbers sample count table.next) in
     group_cases sample table (numbers_at sample count table.next) other (min other.count most) t
 
--- The tally with the group that stands behind it.
-unfoldable pub one_group : List ℕ → ℕ → ℕ → Tally → Tally
+-- The agreement with the group that stands behind it.
+unfoldable pub one_group : List ℕ → ℕ → ℕ → Agreement → Agreement
 one_group sample most others t =
     let table = table_at sample t.next in
     group_of sample table (min table.count most) others t
 
--- The tally of a whole sample.
-unfoldable pub table_all : List ℕ → ℕ → ℕ → Tally
+-- The agreement of a whole sample.
+unfoldable pub table_all : List ℕ → ℕ → ℕ → Agreement
 table_all sample most others = replayed (one_group sample most others) sample

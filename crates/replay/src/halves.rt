@@ -7,7 +7,7 @@ ghost use Rattle.replay.specs.HalfCase.{half_case_at, half_of, halves_at, rows_l
 use crate::counts::counted;
 use crate::samples::Sample;
 use crate::stored::{after_part, bytes_of, number_at, words_at};
-use crate::{HalfCase, MOST_HALVES, MOST_WORDS, Tally, UNTOUCHED};
+use crate::{Agreement, HalfCase, MOST_HALVES, MOST_WORDS, UNTOUCHED};
 use datatype::rows::ROW_WORDS;
 
 // The most that a half word holds.
@@ -131,17 +131,17 @@ fn alike(
     case.status != 0 || gives_halves(text, names, &left[..n], halves, out)
 }
 
-// The tally with one case more.
+// The agreement with one case more.
 #[tactic(auto, unfolding(crate::specs::HalfCase::one_half_case))]
 fn one_case(
     sample: &[u8],
-    t: Tally,
+    t: Agreement,
     case: HalfCase,
     halves: &mut [u16],
     out: &mut [u16],
     rows: &mut [u32],
     left: &mut [u32],
-) -> Tally
+) -> Agreement
     requires { length out.old ≡ length halves.old }
     ensures { result ≡ one_half_case sample.now t case (length halves.old) (length rows.old) (length left.old) }
 {
@@ -151,16 +151,16 @@ fn one_case(
     counted(t, alike, next)
 }
 
-// The tally with the case that stands behind it.
+// The agreement with the case that stands behind it.
 #[tactic(auto, unfolding(crate::specs::HalfCase::half_one))]
 fn half_one(
     sample: &[u8],
-    t: Tally,
+    t: Agreement,
     halves: &mut [u16],
     out: &mut [u16],
     rows: &mut [u32],
     left: &mut [u32],
-) -> Tally
+) -> Agreement
     ensures { result ≡ half_one sample.now (min (length halves.old) (length out.old)) (min (length rows.old) (length left.old)) t }
 {
     let case = case_at(sample, t.next);
@@ -203,7 +203,7 @@ impl Halves {
 impl Sample for Halves {
     ghost one_of = { λ sample. half_one sample most_halves most_words };
 
-    fn one(&mut self, sample: &[u8], t: Tally) -> Tally {
+    fn one(&mut self, sample: &[u8], t: Agreement) -> Agreement {
         half_one(
             sample,
             t,

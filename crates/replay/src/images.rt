@@ -8,7 +8,7 @@ use crate::prints::all_are;
 use crate::samples::Sample;
 use crate::stored::{after_part, bytes_of, number_at, part_at, rest_at};
 use crate::texts::left_words;
-use crate::{ImageCase, MOST_BYTES, MOST_WORDS, ReadCase, Tally, UNTOUCHED};
+use crate::{Agreement, ImageCase, MOST_BYTES, MOST_WORDS, ReadCase, UNTOUCHED};
 use datatype::Field;
 use datatype::rows::ROW_WORDS;
 
@@ -104,17 +104,17 @@ fn alike(
     case.read.status != 0 || writes(stored, &left[..n], image, out)
 }
 
-// The tally with one case more.
+// The agreement with one case more.
 #[tactic(auto, unfolding(crate::specs::ImageCase::one_image))]
 fn one_case(
     sample: &[u8],
-    t: Tally,
+    t: Agreement,
     case: ImageCase,
     rows: &mut [u32],
     left: &mut [u32],
     text: &mut [u8],
     out: &mut [u8],
-) -> Tally
+) -> Agreement
     ensures { result ≡ one_image sample.now t case (length rows.old) (length left.old) (length text.old) (length out.old) }
 {
     let next = left_words(sample, case.read, left);
@@ -122,16 +122,16 @@ fn one_case(
     counted(t, alike, next)
 }
 
-// The tally with the case that stands behind it.
+// The agreement with the case that stands behind it.
 #[tactic(auto, unfolding(crate::specs::ImageCase::image_one))]
 fn image_one(
     sample: &[u8],
-    t: Tally,
+    t: Agreement,
     rows: &mut [u32],
     left: &mut [u32],
     text: &mut [u8],
     out: &mut [u8],
-) -> Tally
+) -> Agreement
     ensures { result ≡ image_one sample.now (min (length rows.old) (length left.old)) (min (length text.old) (length out.old)) t }
 {
     let case = case_at(sample, t.next);
@@ -174,7 +174,7 @@ impl Images {
 impl Sample for Images {
     ghost one_of = { λ sample. image_one sample most_words most_bytes };
 
-    fn one(&mut self, sample: &[u8], t: Tally) -> Tally {
+    fn one(&mut self, sample: &[u8], t: Agreement) -> Agreement {
         image_one(
             sample,
             t,

@@ -48,7 +48,7 @@ struct Number {
 // place behind the last. A function takes it beside the sample and lent words and answers the next: no struct of the three,
 // since it alone changes hands.
 #[derive(Clone, Copy)]
-struct Tally {
+struct Agreement {
     all: u32,
     alike: u32,
     first: Option<u32>,

@@ -8,7 +8,7 @@ ghost use Rattle.replay.specs.PrintCase.{print_case_at, is_answer, leaves_bytes,
 use crate::counts::counted;
 use crate::samples::Sample;
 use crate::stored::{after_part, bytes_of, number_at, part_at, rest_at, words_at};
-use crate::{MOST_BYTES, MOST_WORDS, PrintCase, Tally, UNTOUCHED};
+use crate::{Agreement, MOST_BYTES, MOST_WORDS, PrintCase, UNTOUCHED};
 use datatype::Tree;
 use display_length::Spelling;
 use tokenizer::{Numbered, Refusal};
@@ -73,16 +73,16 @@ fn gives(spelling: Spelling, tree: Tree, case: PrintCase, printed: &[u8], out: &
     is_answer(answer, case.status, case.printed.value) && leaves(out, case.printed.value, printed)
 }
 
-// The tally with one case more.
+// The agreement with one case more.
 #[tactic(auto, unfolding(crate::specs::PrintCase::one_print))]
 fn one_case(
     spelling: Spelling,
     sample: &[u8],
-    t: Tally,
+    t: Agreement,
     case: PrintCase,
     words: &mut [u32],
     out: &mut [u8],
-) -> Tally
+) -> Agreement
     ensures { result ≡ one_print spelling sample.now t case (length words.old) (length out.old) }
 {
     let next = words_at(sample, case.next, words);
@@ -96,15 +96,15 @@ fn one_case(
     counted(t, alike, next)
 }
 
-// The tally with the case that stands behind it.
+// The agreement with the case that stands behind it.
 #[tactic(auto, unfolding(crate::specs::PrintCase::print_one))]
 fn print_one(
     spelling: Spelling,
     sample: &[u8],
-    t: Tally,
+    t: Agreement,
     words: &mut [u32],
     out: &mut [u8],
-) -> Tally
+) -> Agreement
     ensures { result ≡ print_one spelling sample.now (length words.old) (length out.old) t }
 {
     let case = case_at(sample, t.next);
@@ -179,7 +179,7 @@ impl<S> Prints<S> {
 impl<S: Spelled> Sample for Prints<S> {
     ghost one_of = { λ sample. print_one S.spelled sample most_words most_bytes };
 
-    fn one(&mut self, sample: &[u8], t: Tally) -> Tally {
+    fn one(&mut self, sample: &[u8], t: Agreement) -> Agreement {
         let spelling = self.spelled.spelling();
         print_one(spelling, sample, t, &mut self.words, &mut self.out)
     }

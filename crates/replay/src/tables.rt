@@ -9,7 +9,7 @@ ghost use Rattle.replay.specs.TableCase.{table_at, table_case_at, is_verdict, tr
 use crate::counts::counted;
 use crate::samples::Sample;
 use crate::stored::{after_part, bytes_of, number_at, words_at};
-use crate::{Answer, MOST_WORDS, Table, TableCase, Tally};
+use crate::{Agreement, Answer, MOST_WORDS, Table, TableCase};
 use datatype::rows::{HOME, NAME_LENGTH, NAME_START, ROW_WORDS, ZONE_LENGTH, ZONE_START};
 use datatype::{Field, Tree};
 use tokenizer::{Numbered, Refusal};
@@ -177,10 +177,10 @@ fn alike(group: Group, words: &[u32], case: TableCase) -> bool
     equal == case.equal
 }
 
-// The tally with the case that stands behind it. The table is left as it was.
+// The agreement with the case that stands behind it. The table is left as it was.
 #[tactic(auto, using(crate::proofs::Steps::put_back), unfolding(crate::specs::TableCase::one_change))]
-fn one_case(group: Group, t: Tally, words: &mut [u32]) -> Tally
-    ensures tally { result ≡ one_change group.entry.sample.now group.entry.table words.old group.entry.other group.entry.others.now t }
+fn one_case(group: Group, t: Agreement, words: &mut [u32]) -> Agreement
+    ensures agreement { result ≡ one_change group.entry.sample.now group.entry.table words.old group.entry.other group.entry.others.now t }
     ensures words { words.new ≡ words.old }
 {
     let case = case_at(group.sample, t.next);
@@ -192,9 +192,9 @@ fn one_case(group: Group, t: Tally, words: &mut [u32]) -> Tally
     counted(t, good, case.next)
 }
 
-// The tally with so many cases.
+// The agreement with so many cases.
 #[tactic(auto, using(crate::proofs::Times::times_steps))]
-fn cases_of(group: Group, start: Tally, cases: u32, words: &mut [u32]) -> Tally
+fn cases_of(group: Group, start: Agreement, cases: u32, words: &mut [u32]) -> Agreement
     ensures { result ≡ changes group.entry.sample.now group.entry.table words.old group.entry.other group.entry.others.now cases start }
 {
     let mut t = start;
@@ -204,16 +204,16 @@ fn cases_of(group: Group, start: Tally, cases: u32, words: &mut [u32]) -> Tally
     t
 }
 
-// The tally with the cases of two tables, the second of so many words.
+// The agreement with the cases of two tables, the second of so many words.
 #[tactic(auto, unfolding(crate::specs::TableCase::group_cases))]
 fn group_cases(
     sample: &[u8],
-    t: Tally,
+    t: Agreement,
     table: Table,
     words: &mut [u32],
     other: Table,
     others: &mut [u32],
-) -> Tally
+) -> Agreement
     ensures { result ≡ group_cases sample.now table words.old other (length others.old) t }
 {
     let next = words_at(sample, other.next, others);
@@ -224,16 +224,22 @@ fn group_cases(
         other,
         others,
     };
-    let start = Tally {
+    let start = Agreement {
         next: cases.next,
         ..t
     };
     cases_of(group, start, cases.value, words)
 }
 
-// The tally with the group of a table of so many words.
+// The agreement with the group of a table of so many words.
 #[tactic(auto, unfolding(crate::specs::TableCase::group_of))]
-fn group_of(sample: &[u8], t: Tally, table: Table, words: &mut [u32], others: &mut [u32]) -> Tally
+fn group_of(
+    sample: &[u8],
+    t: Agreement,
+    table: Table,
+    words: &mut [u32],
+    others: &mut [u32],
+) -> Agreement
     ensures { result ≡ group_of sample.now table (length words.old) (length others.old) t }
 {
     let next = words_at(sample, table.next, words);
@@ -242,9 +248,9 @@ fn group_of(sample: &[u8], t: Tally, table: Table, words: &mut [u32], others: &m
     group_cases(sample, t, table, words, other, &mut others[..count])
 }
 
-// The tally with the group that stands behind it.
+// The agreement with the group that stands behind it.
 #[tactic(auto, unfolding(crate::specs::TableCase::one_group))]
-fn one_group(sample: &[u8], t: Tally, words: &mut [u32], others: &mut [u32]) -> Tally
+fn one_group(sample: &[u8], t: Agreement, words: &mut [u32], others: &mut [u32]) -> Agreement
     ensures { result ≡ one_group sample.now (length words.old) (length others.old) t }
 {
     let table = table_at(sample, t.next);
@@ -271,7 +277,7 @@ impl Tables {
 impl Sample for Tables {
     ghost one_of = { λ sample. one_group sample most_words most_words };
 
-    fn one(&mut self, sample: &[u8], t: Tally) -> Tally {
+    fn one(&mut self, sample: &[u8], t: Agreement) -> Agreement {
         one_group(sample, t, &mut self.words, &mut self.others)
     }
 }

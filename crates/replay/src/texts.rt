@@ -7,7 +7,7 @@ ghost use Rattle.replay.specs.ReadCase.{gives as gives_of};
 use crate::counts::counted;
 use crate::samples::Sample;
 use crate::stored::{after_part, number_at, part_at, words_at};
-use crate::{MOST_WORDS, ReadCase, Tally, UNTOUCHED};
+use crate::{Agreement, MOST_WORDS, ReadCase, UNTOUCHED};
 use datatype::rows::ROW_WORDS;
 
 // What stands before the rows' words of a case.
@@ -104,9 +104,15 @@ fn gives(text: &[u8], case: ReadCase, left: &[u32], rows: &mut [u32]) -> bool
     place == case.place as usize && datatype::equal_words(rows, left)
 }
 
-// The tally with one case more.
+// The agreement with one case more.
 #[tactic(auto, unfolding(crate::specs::ReadCase::one_case))]
-fn one_case(sample: &[u8], t: Tally, case: ReadCase, rows: &mut [u32], left: &mut [u32]) -> Tally
+fn one_case(
+    sample: &[u8],
+    t: Agreement,
+    case: ReadCase,
+    rows: &mut [u32],
+    left: &mut [u32],
+) -> Agreement
     ensures { result ≡ one_case sample.now t case (length rows.old) (length left.old) }
 {
     let next = left_words(sample, case, left);
@@ -115,15 +121,15 @@ fn one_case(sample: &[u8], t: Tally, case: ReadCase, rows: &mut [u32], left: &mu
     counted(t, alike, next)
 }
 
-// The tally with the case that stands behind it.
+// The agreement with the case that stands behind it.
 #[tactic(auto, unfolding(crate::specs::ReadCase::read_one))]
 fn read_one<L: Lending>(
     sample: &[u8],
     lending: &L,
-    t: Tally,
+    t: Agreement,
     rows: &mut [u32],
     left: &mut [u32],
-) -> Tally
+) -> Agreement
     ensures { result ≡ read_one sample.now L.lent (min (length rows.old) (length left.old)) t }
 {
     let case = case_at(sample, t.next);
@@ -153,7 +159,7 @@ impl<L> Texts<L> {
 impl<L: Lending> Sample for Texts<L> {
     ghost one_of = { λ sample. read_one sample L.lent most_words };
 
-    fn one(&mut self, sample: &[u8], t: Tally) -> Tally {
+    fn one(&mut self, sample: &[u8], t: Agreement) -> Agreement {
         read_one(sample, &self.lending, t, &mut self.rows, &mut self.left)
     }
 }

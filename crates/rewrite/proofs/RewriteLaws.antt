@@ -14,7 +14,7 @@ use Rattle.tokenizer.proofs.Basics.{of_true, is_true}
 use Rattle.datatype.specs.Tree.{count, name_list}
 use Rattle.datatype.specs.Table.{row_words, tree_of}
 use Rattle.row_table.specs.Sound.{is_sound}
-use Rattle.subtrees.specs.Equal.{equal_trees}
+use Rattle.unchecked_rows.specs.Equal.{equal_trees}
 use Rattle.datatype_parse.specs.Parse.{parse_answer}
 use Rattle.datatype_parse.proofs.ReadSound.{lent-sound}
 use Rattle.display_length.specs.declared.words.Spelling.{Spelling}

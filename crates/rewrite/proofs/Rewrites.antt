@@ -16,10 +16,10 @@ use Rattle.parser.specs.Answer.{refusal_in, read_answer}
 use Rattle.parser.specs.declared.error.ReadError.{ReadError}
 use Rattle.datatype.specs.Tree.{Forest, node, count, ∅, Row, name_list}
 use Rattle.datatype.specs.Table.{row_words, rows_lent}
-use Rattle.subtrees.specs.Equal.{equal_trees}
+use Rattle.unchecked_rows.specs.Equal.{equal_trees}
 use Rattle.row_table.specs.Sound.{is_sound}
 use Rattle.parser.proofs.Holds.{Holds}
-use Rattle.subtrees.proofs.ParentTree.{count_parented}
+use Rattle.unchecked_rows.proofs.ParentTree.{count_parented}
 use Rattle.datatype_parse.specs.Parse.{parse, row_count, parse_answer, parse_rows}
 use Rattle.datatype_parse.proofs.ReadSound.{Read, parse_read, lent-sound}
 use Rattle.display_length.specs.declared.words.Spelling.{Spelling}

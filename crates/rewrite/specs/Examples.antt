@@ -3,7 +3,7 @@ use Rattle.std.specs.Prelude.{◌≡◌, refl, List, [], ◌∷◌, ◌++◌, �
 use Rattle.tokenizer.specs.Text.{bytes}
 use Rattle.datatype_parse.specs.Internal.Computed as parser
 use Rattle.datatype_display.specs.Internal.Computed as printer
-use Rattle.subtrees.specs.Equal.{equal_trees}
+use Rattle.unchecked_rows.specs.Equal.{equal_trees}
 use Rattle.datatype_display.specs.Print.{default_spelling}
 use Rattle.round_trip.specs.PrintAndRead.{print_and_read_answer, print_and_read_rows}
 use Rattle.rewrite.specs.Rewrite.{Outcome, text, not_read, not_printed, not_read_back, differs, is_same, printed_again, bytes_again, rewrite_answer, rewrite_bytes}

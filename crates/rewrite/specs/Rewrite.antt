@@ -5,7 +5,7 @@ use Rattle.tokenizer.specs.Answer.{Refusal, Out, refused, done, number_of}
 use Rattle.parser.specs.Answer.{refusal_in}
 use Rattle.datatype.specs.Tree.{name_list}
 use Rattle.datatype.specs.Table.{row_words}
-use Rattle.subtrees.specs.Equal.{equal_trees}
+use Rattle.unchecked_rows.specs.Equal.{equal_trees}
 use Rattle.datatype_parse.specs.Parse.{parse_answer, parse_rows}
 use Rattle.display_length.specs.declared.words.Spelling.{Spelling}
 use Rattle.datatype_display.specs.Print.{print_bytes}

@@ -15,8 +15,8 @@ use parser::ReadError;
 use print_and_read::print_and_read_sound_tree;
 use round_trip::{NotReadBack, PrintedAndRead};
 use row_table::nodes::SoundTree;
-use subtrees::equal_trees;
 use tokenizer::Refusal;
+use unchecked_rows::equal_trees;
 
 // Why a text was not rewritten: the step that refused, with its refusal; or what was printed reads back as another tree.
 #[derive(Clone, Copy, Debug, PartialEq, Eq)]

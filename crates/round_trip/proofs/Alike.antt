@@ -23,11 +23,11 @@ use Rattle.tokenizer.proofs.Utf8Laws.{utf8_append}
 use Rattle.datatype.specs.Kind.{list, decimal, kinds, decimal32_kind, shape_of, decimal_fits}
 use Rattle.datatype.specs.Tree.{Forest, ∅, node, Row, Label}
 use Rattle.datatype.proofs.Tests.{below_at}
-use Rattle.subtrees.specs.Parents.{with_parent, parented_from, parented}
+use Rattle.unchecked_rows.specs.Parents.{with_parent, parented_from, parented}
 use Rattle.parser.specs.Parse.{Tree, bare_row, single, place_at, need, close_at, list_field, list_at, decimal_at, shape_at, type_with, type_at}
 use Rattle.parser.proofs.FirstType.{first-type}
 use Rattle.datatype_parse.specs.Parse.{text_over, parse}
-use Rattle.output.specs.Digits.{digits_with, digits}
+use Rattle.writer.specs.Digits.{digits_with, digits}
 use Rattle.display_length.specs.Display.{Shown, kind_word, scale_text, list_field_text, shape_text, type_text, shown, display}
 use Rattle.display_length.specs.declared.words.Spelling.{Spelling}
 use Rattle.round_trip.proofs.Tokens.{kind_word_lem}

@@ -10,7 +10,7 @@ use Rattle.tokenizer.specs.Answer.{done}
 use Rattle.datatype.specs.Tree.{Forest, count, Row}
 use Rattle.datatype.specs.Table.{row_words, table_of, tree_of, rows_lent}
 use Rattle.row_table.specs.Sound.{is_sound}
-use Rattle.subtrees.specs.Equal.{equal_trees}
+use Rattle.unchecked_rows.specs.Equal.{equal_trees}
 use Rattle.datatype.proofs.Table.{length_table}
 use Rattle.datatype_parse.specs.Parse.{parse, filled, parse_answer, parse_rows}
 use Rattle.datatype_display.specs.Print.{print_answer, print_bytes}

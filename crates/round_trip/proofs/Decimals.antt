@@ -13,7 +13,7 @@ use Rattle.tokenizer.specs.Text.{all}
 use Rattle.tokenizer.specs.Token.{is_digit, number_from}
 use Rattle.tokenizer.proofs.Basics.{both}
 use Rattle.std.proofs.lemmas.Bool.Decides.{nat_tests}
-use Rattle.output.specs.Digits.{digits_with, digits}
+use Rattle.writer.specs.Digits.{digits_with, digits}
 
 number_snoc : (v : ℕ) (s : List ℕ) (c : ℕ) → number_from v (s ++ (c ∷ [])) ≡ number_from v s * 10 + (c - 48)
 unfolding number_from

@@ -16,7 +16,7 @@ use Rattle.row_table.specs.Sound.{field, union_field}
 use Rattle.parser.specs.Parse as P
 use Rattle.parser.specs.Parse.{Tree, Item, end, last, more, single, id_of, stands, items_by, field_at, struct_item, union_item}
 use Rattle.parser.proofs.TokenLaws.{here}
-use Rattle.output.specs.Digits.{digits}
+use Rattle.writer.specs.Digits.{digits}
 use Rattle.display_length.specs.Display.{field_text, struct_text, union_text, shown}
 use Rattle.display_length.specs.declared.words.Spelling.{Spelling}
 use Rattle.round_trip.proofs.Tokens.{mark_stop, comma_stop}

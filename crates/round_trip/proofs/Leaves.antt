@@ -17,7 +17,7 @@ use Rattle.datatype.specs.Kind.{leaf, timestamp, time, interval, fixed, decimal,
 use Rattle.datatype.specs.Tree.{Forest, ∅, node, roots, Label, name_list, zone_of, labels}
 use Rattle.row_table.specs.Sound.{arity_fits, no_child, rules_of, zone_fits, shape_fits}
 use Rattle.parser.specs.Parse.{Zone, Tree, bare_row, scale_of, unit_at, zone_string, zone_at, timestamp_at, time_at, interval_at, fixed_size_binary_at, scale_at, decimal_at}
-use Rattle.output.specs.Digits.{digits}
+use Rattle.writer.specs.Digits.{digits}
 use Rattle.display_length.specs.Display.{microsecond_text, unit_text, interval_text, scale_text, zone_text, quoted, shape_text, shown}
 use Rattle.display_length.specs.declared.words.Spelling.{Spelling}
 use Rattle.display_length.specs.declared.words.Spelling.TheVariants.{Us, Micro}

@@ -14,7 +14,7 @@ use Rattle.datatype.specs.Kind.{list, fixed_list, struct, union, dictionary, map
 use Rattle.datatype.specs.Tree.{Forest, ∅, node, count, roots, Label, name_list, labels}
 use Rattle.row_table.specs.Sound.{arity_fits, rules_of, shape_fits, roles_of, ids_of}
 use Rattle.parser.specs.Parse.{Tree, single, pair, items_by, list_field, struct_item, union_item, run_end_fields, entries_at, fixed_list_field, list_at, fixed_size_list_at, struct_at, union_at, dictionary_at, map_at, run_end_encoded_at}
-use Rattle.output.specs.Digits.{digits}
+use Rattle.writer.specs.Digits.{digits}
 use Rattle.display_length.specs.Display.{mode_text, sorted_text, field_text, list_field_text, struct_text, union_text, run_end_text, shape_text, type_text, shown}
 use Rattle.display_length.specs.declared.words.Spelling.{Spelling}
 use Rattle.round_trip.proofs.Tokens.{Stop, mark_stop, comma_stop, is_listed_word, is_word_of, WordOf, word_is}

@@ -20,7 +20,7 @@ use Rattle.datatype.specs.Tree.{Forest, Row, part}
 use Rattle.row_table.specs.Sound.{is_name}
 use Rattle.parser.specs.Parse.{need, stands, number_in, close_at}
 use Rattle.parser.proofs.TokenLaws.{here}
-use Rattle.output.specs.Digits.{digits}
+use Rattle.writer.specs.Digits.{digits}
 use Rattle.display_length.specs.Display.{quoted}
 use Rattle.round_trip.specs.Plain.{is_plain_text}
 use Rattle.tokenizer.proofs.Numbers.{abs_signed, below_signed}

@@ -14,7 +14,7 @@ use lib.Dec.{T}
 use Rattle.tokenizer.specs.Answer.{done, refuse}
 use Rattle.datatype.specs.Tree.{count}
 use Rattle.datatype.specs.Table.{row_words, tree_of}
-use Rattle.subtrees.specs.Equal.{equal_trees}
+use Rattle.unchecked_rows.specs.Equal.{equal_trees}
 use Rattle.datatype_parse.specs.Parse.{parse_rows}
 use Rattle.datatype_display.specs.Print.{print, print_bytes}
 use Rattle.display_length.specs.declared.words.Spelling.{Spelling}

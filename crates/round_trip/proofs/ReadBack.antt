@@ -11,8 +11,8 @@ use Rattle.tokenizer.specs.Token.{token, token_at, token_from, no_token, type_wo
 use Rattle.datatype.specs.Kind.{Shape, leaf, timestamp, time, interval, fixed, list, fixed_list, struct, union, dictionary, decimal, mapping, run_end_encoded, shape_of}
 use Rattle.datatype.specs.Tree.{Forest, ∅, node, count, depth, Row, Label, name_list, labels}
 use Rattle.row_table.specs.Sound.{Standing, bare}
-use Rattle.subtrees.specs.Parents.{parented}
-use Rattle.subtrees.proofs.ParentFixed.{labels-parented}
+use Rattle.unchecked_rows.specs.Parents.{parented}
+use Rattle.unchecked_rows.proofs.ParentFixed.{labels-parented}
 use Rattle.row_table.proofs.SoundTree.{rules_at}
 use Rattle.parser.specs.Parse.{Tree, single, shape_at, type_with, type_at}
 use Rattle.parser.proofs.FirstType.{first-type}

@@ -21,12 +21,12 @@ use Rattle.tokenizer.proofs.Basics.{is_true}
 use Rattle.datatype.specs.Tree.{Forest, ∅, node, count, depth, Row, Label, name_list, label_of, labels}
 use Rattle.datatype.specs.Table.{table_of, tree_of}
 use Rattle.row_table.specs.Sound.{bare, rows_fit, is_sound}
-use Rattle.subtrees.specs.Equal.{equal_trees}
+use Rattle.unchecked_rows.specs.Equal.{equal_trees}
 use Rattle.datatype.proofs.Table.{table_view}
 use Rattle.row_table.proofs.SoundTree.{SoundTree, sound_tree, sound-labels}
-use Rattle.subtrees.proofs.RowList.{count_labels}
+use Rattle.unchecked_rows.proofs.RowList.{count_labels}
 use Rattle.row_table.proofs.DepthLaws.{depth_labels}
-use Rattle.subtrees.proofs.Equivalence.{labels-equal}
+use Rattle.unchecked_rows.proofs.Equivalence.{labels-equal}
 use Rattle.datatype_parse.specs.Parse.{parse}
 use Rattle.datatype_parse.proofs.MoreRows.{more_rows}
 use Rattle.datatype_parse.proofs.ReadSound.{read_sound}

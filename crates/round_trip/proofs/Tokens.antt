@@ -19,7 +19,7 @@ use Rattle.tokenizer.proofs.Basics.{and_l, and_r, is_true, is_false}
 use Rattle.datatype.specs.Kind.{kinds}
 use Rattle.datatype.proofs.Tests.{below_at}
 use Rattle.tokenizer.proofs.Listed.{same_path}
-use Rattle.output.specs.Digits.{digits}
+use Rattle.writer.specs.Digits.{digits}
 use Rattle.display_length.specs.Display.{kind_word, escaped}
 use Rattle.round_trip.specs.Plain.{is_plain_byte, is_plain_text}
 use Rattle.round_trip.proofs.Decimals.{Spelled, digits_spell}

@@ -14,7 +14,7 @@ use Rattle.tokenizer.proofs.Basics.{of_true}
 use Rattle.datatype.specs.Kind.{Shape, leaf, timestamp, time, interval, fixed, list, fixed_list, struct, union, dictionary, decimal, mapping, run_end_encoded, kinds, shape_of}
 use Rattle.datatype.specs.Tree.{Forest, ∅, node, count, roots, Row, Label, name_list, name_of, zone_of, label_of, labels}
 use Rattle.row_table.specs.Sound.{roles_of, ids_of}
-use Rattle.subtrees.proofs.RowList.{count_labels}
+use Rattle.unchecked_rows.proofs.RowList.{count_labels}
 use Rattle.parser.specs.Parse.{Name, Tree, Fields, bare_row, field_row, stands, role_at, after_role}
 use Rattle.display_length.specs.Display.{Shown, kind_word, nullity_text, shape_text, type_text, shown}
 use Rattle.display_length.specs.declared.words.Spelling.{Spelling}

@@ -7,7 +7,7 @@ use Rattle.tokenizer.specs.Answer.{Out, refused, done}
 use Rattle.datatype.specs.Limits.{max_text, max_rows}
 use Rattle.datatype.specs.Tree.{Forest, Row, count, name_list}
 use Rattle.datatype.specs.Table.{table_of}
-use Rattle.subtrees.specs.Parents.{parent_column}
+use Rattle.unchecked_rows.specs.Parents.{parent_column}
 use Rattle.datatype_parse.specs.Internal.Computed as parser
 use Rattle.datatype_parse.specs.Parse.{parse}
 use Rattle.display_length.specs.declared.words.Spelling.{Spelling}

@@ -6,7 +6,7 @@ use Rattle.parser.specs.Answer.{refusal_in}
 use Rattle.datatype.specs.Tree.{count}
 use Rattle.datatype.specs.Table.{row_words, tree_of}
 use Rattle.row_table.specs.Sound.{is_sound}
-use Rattle.subtrees.specs.Equal.{equal_trees}
+use Rattle.unchecked_rows.specs.Equal.{equal_trees}
 use Rattle.datatype_parse.specs.Parse.{parse_answer, parse_rows}
 use Rattle.datatype_display.specs.Print.{print}
 use Rattle.display_length.specs.declared.words.Spelling.{Spelling}

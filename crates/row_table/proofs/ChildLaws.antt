@@ -17,15 +17,15 @@ use Rattle.datatype.specs.Kind.{ids_fit}
 use Rattle.datatype.specs.Tree.{Forest, ∅, node, count, roots, Row}
 use Rattle.datatype.specs.Table.{row_words, rows_at}
 use Rattle.row_table.specs.Sound.{no_child, one_child, two_children, any_count, arity_fits, rules_of}
-use Rattle.subtrees.specs.Internal.Run.{row_at, run_at, is_run, entries_of, Nests}
+use Rattle.unchecked_rows.specs.Internal.Run.{row_at, run_at, is_run, entries_of, Nests}
 use Rattle.row_table.specs.Internal.Check.{trees, entries_ok, first_non_null, children_fit}
-use Rattle.subtrees.specs.MapEntries.{refused_with, entries_refusal_at}
-use Rattle.subtrees.specs.UnionFields.{type_ids_fit}
+use Rattle.unchecked_rows.specs.MapEntries.{refused_with, entries_refusal_at}
+use Rattle.unchecked_rows.specs.UnionFields.{type_ids_fit}
 use Rattle.datatype.proofs.Tests.{iff_eq}
 use Rattle.datatype.proofs.KindShapes.{shape_by}
-use Rattle.subtrees.proofs.EntryLaws.{entries_nest}
-use Rattle.subtrees.proofs.UnionLaws.{type_ids_fit_lem}
-use Rattle.subtrees.proofs.Runs.{Turn, turn, forest_none, count_forest}
+use Rattle.unchecked_rows.proofs.EntryLaws.{entries_nest}
+use Rattle.unchecked_rows.proofs.UnionLaws.{type_ids_fit_lem}
+use Rattle.unchecked_rows.proofs.Runs.{Turn, turn, forest_none, count_forest}
 
 -- ---- how many
 

@@ -8,8 +8,8 @@ use lib.Dec.{T}
 use Rattle.tokenizer.specs.Answer.{done, refuse}
 use Rattle.datatype.specs.Tree.{Forest, ∅, node, depth, Row, labels}
 use Rattle.datatype.specs.Table.{tree_of}
-use Rattle.subtrees.specs.Levels.{levels_of}
-use Rattle.subtrees.proofs.LevelLaws.{levels_tree}
+use Rattle.unchecked_rows.specs.Levels.{levels_of}
+use Rattle.unchecked_rows.proofs.LevelLaws.{levels_tree}
 use Rattle.row_table.specs.Sound.{is_sound, depth_of}
 use Rattle.row_table.proofs.SoundTree.{SoundTree, sound_tree, sound-labels}
 

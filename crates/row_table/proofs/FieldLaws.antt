@@ -14,8 +14,8 @@ use Rattle.tokenizer.proofs.Basics.{is_true}
 use Rattle.datatype.specs.Kind.{struct_kind}
 use Rattle.datatype.specs.Tree.{Forest, ∅, node, Row, label_of}
 use Rattle.datatype.proofs.Table.{table_view}
-use Rattle.subtrees.specs.Equal.{equal_trees}
-use Rattle.subtrees.proofs.Equivalence.{equal-labels}
+use Rattle.unchecked_rows.specs.Equal.{equal_trees}
+use Rattle.unchecked_rows.proofs.Equivalence.{equal-labels}
 use Rattle.row_table.proofs.SoundTree.{SoundTree, sound_tree, sound-labels}
 use Rattle.datatype.specs.Table.{tree_of, rows_at, word_at}
 use Rattle.datatype.specs.Table.{row_at}

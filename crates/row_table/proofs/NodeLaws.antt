@@ -19,9 +19,9 @@ use Rattle.datatype.specs.Kind.{kinds}
 use Rattle.datatype.specs.Tree.{Forest, ∅, node, count, depth, Row, name_of, zone_of, label_of, labels}
 use Rattle.datatype.specs.Table.{row_words, words_of, table_of, tree_of, rows_at, word_at}
 use Rattle.datatype.proofs.Table.{length_table, table_view}
-use Rattle.subtrees.specs.Internal.Run.{row_at, forest_at, Nests}
+use Rattle.unchecked_rows.specs.Internal.Run.{row_at, forest_at, Nests}
 use Rattle.row_table.specs.Sound.{Standing, bare, rows_fit, is_sound}
-use Rattle.subtrees.proofs.Runs.{Turn, turn, forest_none, count_forest}
+use Rattle.unchecked_rows.proofs.Runs.{Turn, turn, forest_none, count_forest}
 use Rattle.row_table.proofs.SoundTree.{RowFits, rules_at, rows_fit_lem, SoundTree, sound_tree, sound-count, sound-nests, sound-forest, sound-labels}
 use Rattle.row_table.proofs.Walks.{labels-turn}
 use Rattle.row_table.specs.declared.nodes.SoundTree.{SoundTree as Whole}

@@ -16,13 +16,13 @@ use Rattle.datatype.specs.Tree.{Forest, ∅, node, count, depth, Row, name_list,
 use Rattle.datatype.specs.Table.{view_of}
 use Rattle.datatype.proofs.Table.{view_table, table_view}
 use Rattle.row_table.specs.Sound.{bare, rows_fit, name_placed, zone_placed, placed, is_sound}
-use Rattle.subtrees.specs.Equal.{equal_trees}
-use Rattle.subtrees.specs.Parents.{parent_column, with_parent, parented_from, parented, table_with, with_parents}
+use Rattle.unchecked_rows.specs.Equal.{equal_trees}
+use Rattle.unchecked_rows.specs.Parents.{parent_column, with_parent, parented_from, parented, table_with, with_parents}
 use Rattle.row_table.proofs.SoundTree.{SoundTree, tree_sound}
-use Rattle.subtrees.proofs.ParentTree.{count_parented, view_with_parents}
-use Rattle.subtrees.proofs.ParentFit.{parented_right}
-use Rattle.subtrees.proofs.ParentFixed.{labels_fix, labels-parented}
-use Rattle.subtrees.proofs.Equivalence.{equal-labels}
+use Rattle.unchecked_rows.proofs.ParentTree.{count_parented, view_with_parents}
+use Rattle.unchecked_rows.proofs.ParentFit.{parented_right}
+use Rattle.unchecked_rows.proofs.ParentFixed.{labels_fix, labels-parented}
+use Rattle.unchecked_rows.proofs.Equivalence.{equal-labels}
 
 pub depth_parented : (p i : ℕ) (f : Forest Row) → depth (parented_from p i f) ≡ depth f
 unfolding parented_from

@@ -16,13 +16,13 @@ use Rattle.tokenizer.proofs.Listed.{same_path}
 use Rattle.datatype.specs.Tree.{Forest, ∅, node, count, depth, Row, name_list, labels}
 use Rattle.datatype.specs.Table.{row_words, words_of, table_of, join, view_of, rows_at}
 use Rattle.row_table.specs.Sound.{Standing, bare, rows_fit, placed, is_sound}
-use Rattle.subtrees.specs.Internal.Run.{row_at, run_at, is_run, run_or, forest_at}
+use Rattle.unchecked_rows.specs.Internal.Run.{row_at, run_at, is_run, run_or, forest_at}
 use Rattle.row_table.specs.Internal.Check.{below_of, trees, own_fits, children_fit, run_fits}
 use Rattle.datatype.proofs.Table.{table_view}
 use Rattle.datatype.proofs.Tests.{iff_eq, false_of}
-use Rattle.subtrees.specs.Parents.{parents_fit}
-use Rattle.subtrees.proofs.ParentFit.{view_fits as parents-view}
-use Rattle.subtrees.proofs.Runs.{run_step, run_none, no_rows, forest_none, run_all, run_is, view_rows}
+use Rattle.unchecked_rows.specs.Parents.{parents_fit}
+use Rattle.unchecked_rows.proofs.ParentFit.{view_fits as parents-view}
+use Rattle.unchecked_rows.proofs.Runs.{run_step, run_none, no_rows, forest_none, run_all, run_is, view_rows}
 use Rattle.row_table.proofs.SoundTree.{SoundTree, sound_tree, tree_sound, sound-count}
 use Rattle.row_table.proofs.Clauses.{Run, run_of, of_run, run_in, run_out}
 

@@ -16,10 +16,10 @@ use Rattle.datatype.specs.Kind.{kinds, shape_of}
 use Rattle.datatype.specs.Tree.{Forest, ∅, node, count, roots, depth, Row, Label, name_list, labels}
 use Rattle.datatype.specs.Table.{row_words, view_of, tree_of}
 use Rattle.row_table.specs.Sound.{Rules, Standing, bare, arity_fits, role_fits, id_fits, name_fits, rules_of, zone_fits, shape_fits, row_fits, rows_fit, placed, view_sound, is_sound}
-use Rattle.subtrees.specs.Parents.{parents_right}
-use Rattle.subtrees.specs.Internal.Run.{forest_at, Nests}
+use Rattle.unchecked_rows.specs.Parents.{parents_right}
+use Rattle.unchecked_rows.specs.Internal.Run.{forest_at, Nests}
 use Rattle.datatype.proofs.Same.{eq_same}
-use Rattle.subtrees.proofs.Runs.{view_rows, nests_all, forest_all}
+use Rattle.unchecked_rows.proofs.Runs.{view_rows, nests_all, forest_all}
 
 -- ---- one row
 

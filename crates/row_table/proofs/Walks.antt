@@ -6,8 +6,8 @@ use mathlib.Core.List.{List}
 use Prim.Native.Nat.{ℕ, ◌+◌, ◌-◌}
 use Rattle.datatype.specs.Tree.{Forest, node, Row, Label, label_of, labels}
 use Rattle.datatype.specs.Table.{rows_at}
-use Rattle.subtrees.specs.Internal.Run.{row_at, forest_at}
-use Rattle.subtrees.proofs.Runs.{Turn}
+use Rattle.unchecked_rows.specs.Internal.Run.{row_at, forest_at}
+use Rattle.unchecked_rows.proofs.Runs.{Turn}
 
 module _ (text names table : List ℕ) (at end : ℕ) (t : Turn table at end) where
   abbrev kids_run : Forest Row

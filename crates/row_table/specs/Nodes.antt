@@ -5,7 +5,7 @@ use Rattle.std.specs.declared.option.Option.TheVariants.{None, Some}
 use Rattle.datatype.specs.Tree.{Forest, Label, label_of, labels}
 use Rattle.datatype.specs.Table.{rows_at}
 use Rattle.datatype.specs.Table.{row_at}
-use Rattle.subtrees.specs.Rows.{forest_at}
+use Rattle.unchecked_rows.specs.Rows.{forest_at}
 use Rattle.row_table.specs.declared.nodes.Node.{Node}
 use Rattle.row_table.specs.declared.nodes.Nodes.{Nodes}
 

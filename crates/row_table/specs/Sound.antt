@@ -8,7 +8,7 @@ use Rattle.datatype.specs.Limits.{max_text, max_rows, max_levels}
 use Rattle.datatype.specs.Kind.{Shape, leaf, timestamp, time, interval, fixed, list, fixed_list, struct, union, dictionary, decimal, mapping, run_end_encoded, kinds, shape_of, unit_fits, decimal_fits, entries_refusal, ids_fit, struct_kind}
 use Rattle.datatype.specs.Tree.{Forest, ∅, node, count, roots, depth, Row, Label, name_list, labels}
 use Rattle.datatype.specs.Table.{view_of, tree_of}
-use Rattle.subtrees.specs.Parents.{parents_right}
+use Rattle.unchecked_rows.specs.Parents.{parents_right}
 
 -- ---- what a row says, by its shape and by where it stands
 

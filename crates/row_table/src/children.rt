@@ -2,14 +2,14 @@
 ghost use Rattle.std.specs.Prelude.{◌≡◌, ◌-◌, ◌*◌, ◌≤◌, ◌<◌, true, length, nat_eq, ⊤};
 ghost use Rattle.datatype.specs.Table.{row_words};
 ghost use Rattle.datatype.specs.Tree.{∅, roots};
-ghost use Rattle.subtrees.specs.Internal.Run.{is_run, run_at};
+ghost use Rattle.unchecked_rows.specs.Internal.Run.{is_run, run_at};
 ghost use Rattle.row_table.specs.Internal.Check.{trees, children_fit};
 
 use datatype::kind::{DICTIONARY, LARGE_LIST_VIEW, LIST, MAP, RUN_END_ENCODED, STRUCT, UNION};
 use datatype::rows::NON_NULL;
 use datatype::{KeptRows, Row};
 use std::alloc::AllocError;
-use subtrees::{check_entries, try_new};
+use unchecked_rows::{check_entries, try_new};
 
 // Whether a row of a kind may have no children.
 #[tactic(auto, using(datatype::proofs::KindShapes::by_shape), unfolding(crate::specs::Internal::Check::children_fit, crate::specs::Sound::rules_of, crate::specs::Sound::arity_fits, datatype::specs::Kind::ids_fit))]

@@ -4,13 +4,13 @@ ghost use Rattle.tokenizer.specs.Answer.{refuse};
 ghost use Rattle.datatype.specs.Label.{label_said};
 ghost use Rattle.datatype.specs.Tree.{depth, name_of, zone_of};
 ghost use Rattle.datatype.specs.Table.{rows_at, tree_of, word_at};
-ghost use Rattle.subtrees.specs.Internal.Run.{Nests};
+ghost use Rattle.unchecked_rows.specs.Internal.Run.{Nests};
 ghost use Rattle.row_table.specs.Sound.{is_sound};
 
 use crate::sound::is_sound;
 use datatype::kind::STRUCT;
 use datatype::{Label, Row, Tree};
-use subtrees::levels_of;
+use unchecked_rows::levels_of;
 
 /// A tree that is sound: `of` tests it, and who knows it otherwise, as a reader of what it has just read, makes one by a proof.
 #[derive(Clone, Copy)]

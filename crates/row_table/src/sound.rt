@@ -1,7 +1,7 @@
 // Soundness of a tree: every clause, in one walk over its rows.
 ghost use Rattle.std.specs.Prelude.{◌≡◌, ◌-◌, ◌*◌};
 ghost use Rattle.row_table.specs.Sound.{id_fits, is_sound};
-ghost use Rattle.subtrees.specs.Internal.Run.{row_at, run_at};
+ghost use Rattle.unchecked_rows.specs.Internal.Run.{row_at, run_at};
 ghost use Rattle.row_table.specs.Internal.Check.{standing_of, own_fits, run_fits};
 
 use crate::children::{Children, Run, is_childless};
@@ -10,7 +10,7 @@ use crate::rules::{Standing, below, numbers_fit};
 use datatype::kind::KINDS;
 use datatype::rows::{MAX_LEVELS, MAX_ROWS, MAX_TEXT, ROW_WORDS};
 use datatype::{KeptRows, Row, Tree};
-use subtrees::parents_fit;
+use unchecked_rows::parents_fit;
 
 // Whether the union id is one of a row of a standing.
 #[tactic(auto, unfolding(crate::specs::Sound::id_fits))]
@@ -24,7 +24,7 @@ fn id_fits(standing: Standing, id: u32) -> bool
 }
 
 // Whether a row, of a standing, is sound, but for what its children must be.
-#[tactic(auto, unfolding(crate::specs::Internal::Check::own_fits, subtrees::specs::Internal::Run::row_at))]
+#[tactic(auto, unfolding(crate::specs::Internal::Check::own_fits, unchecked_rows::specs::Internal::Run::row_at))]
 fn row_fits<T: KeptRows>(text: &str, standing: Standing, row: Row<T>) -> bool
     ensures { result ≡ own_fits text.now (standing_of standing) (row_at (T.words row.rows) row.at) }
 {

@@ -16,7 +16,7 @@ use Rattle.datatype.specs.Kind.{kinds}
 use Rattle.datatype.specs.Tree.{Forest, count, Row}
 use Rattle.datatype.specs.Table.{row_words, table_of, rows_lent, word_at}
 use Rattle.datatype.proofs.Table.{length_table}
-use Rattle.subtrees.specs.Levels.{levels_of}
+use Rattle.unchecked_rows.specs.Levels.{levels_of}
 use Rattle.parser.specs.Answer.{refusal_in}
 use Rattle.parser.specs.declared.error.ReadError.{ReadError}
 use Rattle.datatype_parse.specs.Parse.{parse, row_count, parse_answer, filled, parse_rows}

@@ -6,10 +6,10 @@ use native.Mathlib.Omega.{arith}
 use lib.ListN.{length, get_or, take, drop}
 use lib.Seq.{take_all}
 use Rattle.tokenizer.specs.Text.{bytes}
-use Rattle.output.specs.Digits.{digits}
-use Rattle.output.specs.Written.{written}
-use Rattle.output.specs.declared.Writer.{Writer}
-use Rattle.output.proofs.Written.{written_then, written_none, written_first, written_place}
+use Rattle.writer.specs.Digits.{digits}
+use Rattle.writer.specs.Written.{written}
+use Rattle.writer.specs.declared.Writer.{Writer}
+use Rattle.writer.proofs.Written.{written_then, written_none, written_first, written_place}
 use Rattle.tally.specs.Tally.{Counts, count_line, number_line, count_lines, report}
 
 -- ---- the lines

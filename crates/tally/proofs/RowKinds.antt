@@ -11,8 +11,8 @@ use lib.Dec.{T}
 use Rattle.std.proofs.lemmas.List.Elements.{All-cons, All-nil, All-append}
 use Rattle.std.proofs.lemmas.List.{get_or-drop, map-append}
 use lib.Seq.{drop-drop}
-use Rattle.subtrees.specs.Levels.{levels_of}
-use Rattle.subtrees.proofs.LevelLaws.{levels_tree}
+use Rattle.unchecked_rows.specs.Levels.{levels_of}
+use Rattle.unchecked_rows.proofs.LevelLaws.{levels_tree}
 use Rattle.tokenizer.specs.Answer.{done}
 use Rattle.datatype.specs.Kind.{kinds}
 use Rattle.datatype.specs.Tree.{Forest, ∅, node, count, depth, Row, name_list, label_of, labels}

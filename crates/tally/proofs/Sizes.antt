@@ -7,8 +7,8 @@ use native.Mathlib.Omega.{arith}
 use lib.ListN.{length, get_or, length-append}
 use Rattle.std.proofs.Math.Nat.{mul-suc}
 use Rattle.tokenizer.specs.Text.{bytes}
-use Rattle.output.specs.Digits.{digits}
-use Rattle.output.proofs.DigitLaws.{digits_at_most, digits_few}
+use Rattle.writer.specs.Digits.{digits}
+use Rattle.writer.proofs.DigitLaws.{digits_at_most, digits_few}
 use Rattle.tally.specs.Tally.{Counts, count_line, number_line, count_lines, report}
 use Rattle.tally.proofs.Bounds.{Bounded}
 

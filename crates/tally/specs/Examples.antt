@@ -2,7 +2,7 @@
 use Rattle.std.specs.Prelude.{◌≡◌, refl, [], ◌∷◌}
 use Rattle.tokenizer.specs.Text.{bytes}
 use Rattle.input_lines.specs.Lines.{lines_of}
-use Rattle.output.specs.Digits.{digits, digits_with}
+use Rattle.writer.specs.Digits.{digits, digits_with}
 use Rattle.datatype_parse.specs.Internal.Computed as parser
 use Rattle.tally.specs.Tally.{read, each_from, tally, count_lines, report, report_of}
 

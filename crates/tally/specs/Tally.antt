@@ -7,7 +7,7 @@ use Rattle.datatype.specs.Kind.{kinds}
 use Rattle.datatype.specs.Limits.{max_rows}
 use Rattle.datatype.specs.Tree.{Forest, ∅, node, depth, Row}
 use Rattle.input_lines.specs.Lines.{lines_of}
-use Rattle.output.specs.Digits.{digits}
+use Rattle.writer.specs.Digits.{digits}
 use Rattle.datatype_parse.specs.Parse.{parse, parse_rows}
 use Rattle.tally.specs.declared.NotCounted.{NotCounted}
 use Rattle.tally.specs.declared.NotCounted.TheVariants.{TooManyLines}

@@ -2,7 +2,7 @@
 ghost use Rattle.std.specs.Prelude.{◌≡◌, [], ◌∷◌, ◌++◌, ◌+◌, ◌/◌, ◌<◌, ◌≤◌, ◌^◌, List, ℕ, length, drop, nat_le};
 ghost use Rattle.datatype.specs.Table.{row_words};
 ghost use Rattle.tokenizer.specs.Answer.{answer_of};
-ghost use Rattle.output.specs.Written.{written};
+ghost use Rattle.writer.specs.Written.{written};
 ghost use Rattle.tally.specs.Laws.{CountsOf, IsTally};
 ghost use Rattle.tally.specs.Tally.{tally, max_lines, tally_after, add_answer, rows_after, number_of, added, count_line, count_lines, report, report_bytes};
 ghost use Rattle.tally.specs.Internal.Steps.{rows_by_kind, Countable};
@@ -11,10 +11,10 @@ use crate::NotCounted;
 use datatype::Row;
 use datatype::rows::{LINE_WORDS, ROW_WORDS};
 use datatype_parse::parse_data_type;
-use output::Writer;
 use std::marker::Model;
-use subtrees::levels_of;
 use tokenizer::Numbered;
+use unchecked_rows::levels_of;
+use writer::Writer;
 
 // So many lines are counted, and no more.
 pub const LINES: u32 = 1_000_000;

@@ -5,7 +5,7 @@ use Rattle.tokenizer.specs.Answer.{Out, refused, done}
 use Rattle.datatype.specs.Limits.{max_text}
 use Rattle.datatype.specs.Tree.{depth}
 use Rattle.datatype.specs.Table.{row_words, tree_of}
-use Rattle.output.specs.Digits.{digits}
+use Rattle.writer.specs.Digits.{digits}
 use Rattle.datatype_display.specs.Print.{default_spelling, print}
 use Rattle.answer_line.specs.Line.{no_line}
 

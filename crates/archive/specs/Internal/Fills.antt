@@ -5,10 +5,10 @@ use Rattle.tokenizer.specs.Answer.{Out, refused, done, refuse, ◌>>=◌}
 use Rattle.datatype.specs.Limits.{max_text, max_levels}
 use Rattle.datatype.specs.Tree.{Forest, Label, depth}
 use Rattle.datatype.specs.Table.{rows_lent}
-use Rattle.packed.specs.declared.packer.Packer.{Packer}
-use Rattle.packed.specs.Packer.{put_trees}
-use Rattle.packed.specs.declared.Packed.{Packed}
-use Rattle.packed.specs.Packed.{packed_size, packed_rows, packed_bytes}
+use Rattle.packing.specs.declared.packer.Packer.{Packer}
+use Rattle.packing.specs.Packer.{put_trees}
+use Rattle.packing.specs.declared.Packed.{Packed}
+use Rattle.packing.specs.Packed.{packed_size, packed_rows, packed_bytes}
 use Rattle.archive.specs.declared.NotRead.{NotRead}
 use Rattle.archive.specs.declared.fill.Filled.{Filled}
 use Rattle.archive.specs.Archive.{Room, Read, tree_at}

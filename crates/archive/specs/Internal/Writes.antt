@@ -5,7 +5,7 @@ use Rattle.std.specs.Int.{w16, w32, to_le_bytes}
 use Rattle.std.proofs.lemmas.List.Edits.{sets}
 use Rattle.datatype.specs.Kind.{kinds}
 use Rattle.datatype.specs.Tree.{Forest, ∅, node, Label}
-use Rattle.output.specs.declared.Writer.{Writer}
+use Rattle.writer.specs.declared.Writer.{Writer}
 use Rattle.archive.specs.Archive.{with_length, record_of, image_of}
 
 -- More bytes than any image has.

@@ -4,9 +4,9 @@ use Rattle.tokenizer.specs.Answer.{done}
 use Rattle.datatype.specs.Limits.{max_rows}
 use Rattle.datatype.specs.Tree.{Forest, Label}
 use Rattle.datatype.specs.Table.{row_words}
-use Rattle.packed.specs.Packed.{packed_size}
-use Rattle.packed.specs.Packer.{put_row, trees_written, trees_fit}
-use Rattle.packed.specs.declared.packer.Packer.{Packer}
+use Rattle.packing.specs.Packed.{packed_size}
+use Rattle.packing.specs.Packer.{put_row, trees_written, trees_fit}
+use Rattle.packing.specs.declared.packer.Packer.{Packer}
 use Rattle.column_out.specs.declared.fields.Kept.{Kept}
 use Rattle.column_out.specs.ColumnOut.{tree_left}
 use Rattle.column_out.specs.Internal.Stretch.{label_at, put_stretch}

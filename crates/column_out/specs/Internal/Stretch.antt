@@ -3,9 +3,9 @@
 use Rattle.std.specs.Prelude.{Option, Some, None, List, ℕ, zero, suc, ◌+◌, length, nat_lt, if◌then◌else◌}
 use Rattle.datatype.specs.Tree.{Label, label_of}
 use Rattle.datatype.specs.Table.{rows_at, row_at}
-use Rattle.packed.specs.Packed.{row_text}
-use Rattle.packed.specs.Packer.{put_row}
-use Rattle.packed.specs.declared.packer.Packer.{Packer}
+use Rattle.packing.specs.Packed.{row_text}
+use Rattle.packing.specs.Packer.{put_row}
+use Rattle.packing.specs.declared.packer.Packer.{Packer}
 
 -- The row at which the n-th of the trees begins that stand side by side from row at to row end: none where there is none.
 unfoldable pub nth_row : List ℕ → ℕ → ℕ → ℕ → Option ℕ

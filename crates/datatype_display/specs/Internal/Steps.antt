@@ -4,9 +4,9 @@ use Rattle.std.specs.Prelude.{◌≡◌, Bool, true, false, not, ◌&&◌, ◌||
 use Rattle.std.proofs.lemmas.List.Edits.{sets}
 use Rattle.tokenizer.specs.Text.{bytes}
 use Rattle.datatype.specs.Kind.{Shape}
-use Rattle.output.specs.Digits.{digits}
-use Rattle.output.specs.declared.Writer.{Writer}
-use Rattle.output.specs.Written.{last_place, written}
+use Rattle.writer.specs.Digits.{digits}
+use Rattle.writer.specs.declared.Writer.{Writer}
+use Rattle.writer.specs.Written.{last_place, written}
 use Rattle.display_length.specs.Display.{is_lead, escaped_from, quoted, Shown, nullity_text, field_text, shape_text, type_text, shown}
 use Rattle.row_table.specs.declared.nodes.Nodes.{Nodes}
 use Rattle.row_table.specs.Nodes.{labels_in}

@@ -2,7 +2,7 @@
 use Rattle.std.specs.Prelude.{ℕ, ◌+◌, ◌-◌}
 use Rattle.datatype.specs.Tree.{Forest, Label, label_of, labels}
 use Rattle.datatype.specs.Table.{row_at, rows_at}
-use Rattle.subtrees.specs.Rows.{forest_at}
+use Rattle.unchecked_rows.specs.Rows.{forest_at}
 use Rattle.row_table.specs.Internal.Nodes.{depth_below}
 use Rattle.display_length.specs.declared.printed.PrintedNode.{PrintedNode}
 use Rattle.display_length.specs.Internal.Steps.{type_length}

@@ -5,7 +5,7 @@ use Rattle.tokenizer.specs.Text.{all}
 use Rattle.datatype.specs.Limits.{max_text}
 use Rattle.datatype.specs.Kind.{Shape, leaf, timestamp, time, interval, fixed, list, fixed_list, struct, union, dictionary, decimal, mapping, run_end_encoded, shape_of}
 use Rattle.datatype.specs.Tree.{Forest, ∅, node, roots, Label}
-use Rattle.output.specs.Digits.{digits}
+use Rattle.writer.specs.Digits.{digits}
 use Rattle.display_length.specs.Display.{kind_text, unit_text, interval_text, mode_text, sorted_text, scale_text, is_lead, quoted, list_name_text, zone_text}
 use Rattle.display_length.specs.declared.words.Spelling.{Spelling}
 use Rattle.display_length.specs.PrintedLength.{quotes_names, is_latin, names_latin}

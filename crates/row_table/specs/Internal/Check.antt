@@ -5,7 +5,7 @@ use Rattle.std.proofs.Math.Option.{Option, none, some}
 use Rattle.tokenizer.specs.Utf8.{utf8_state, is_utf8}
 use Rattle.datatype.specs.Kind.{Shape, time, union, decimal, mapping, run_end_encoded, kinds, shape_of, unit_fits, decimal_fits, ids_fit}
 use Rattle.datatype.specs.Tree.{Forest, ∅, node, roots, depth, Row, name_list, part, labels}
-use Rattle.subtrees.specs.Internal.Run.{forest_at, entries_of}
+use Rattle.unchecked_rows.specs.Internal.Run.{forest_at, entries_of}
 use Rattle.row_table.specs.declared.rules.Standing.{Standing as Place}
 use Rattle.row_table.specs.declared.rules.Standing.TheVariants.{Bare, Field, UnionField}
 use Rattle.row_table.specs.Sound.{Standing, bare, field, union_field, arity_fits, id_fits, rules_of, is_listed, rows_fit, placed}

@@ -2,7 +2,7 @@
 use Rattle.std.specs.Prelude.{List, ℕ, ◌+◌, ◌-◌}
 use Rattle.datatype.specs.Tree.{Forest, depth, Row}
 use Rattle.datatype.specs.Table.{rows_at}
-use Rattle.subtrees.specs.Rows.{forest_at}
+use Rattle.unchecked_rows.specs.Rows.{forest_at}
 use Rattle.row_table.specs.declared.nodes.Node.{Node}
 use Rattle.row_table.specs.declared.nodes.Nodes.{Nodes}
 

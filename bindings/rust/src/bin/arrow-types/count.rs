@@ -37,11 +37,16 @@ fn say(output: &mut impl Write, text: &str) -> Result<(), Failure> {
 
 /// What is there of the input, of which nothing is taken: nothing at its end.
 fn ahead(input: &mut impl BufRead) -> io::Result<&[u8]> {
-    while let Err(error) = input.fill_buf() {
-        if error.kind() != io::ErrorKind::Interrupted {
-            return Err(error);
+    loop {
+        match input.fill_buf() {
+            // A terminal that has told its end once would be asked for more.
+            Ok([]) => return Ok(&[]),
+            Ok(_) => break,
+            Err(error) if error.kind() == io::ErrorKind::Interrupted => {}
+            Err(error) => return Err(error),
         }
     }
+    // What is held already is answered without a read.
     input.fill_buf()
 }
 

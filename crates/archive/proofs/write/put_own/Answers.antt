@@ -1,5 +1,5 @@
 use mathlib.Core.Path.{ap, ◌∙◌}
-use Rattle.output.specs.Written.{written}
+use Rattle.writer.specs.Written.{written}
 use Rattle.archive.specs.Internal.Writes.{own_bytes}
 use Rattle.archive.proofs.Writing.{written_two}
 use Rattle.archive.proofs.write.put_own.Goals as goal

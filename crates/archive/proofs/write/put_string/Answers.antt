@@ -1,5 +1,5 @@
 use mathlib.Core.Path.{ap, ◌∙◌}
-use Rattle.output.specs.Written.{written}
+use Rattle.writer.specs.Written.{written}
 use Rattle.archive.proofs.Writing.{written_two}
 use Rattle.archive.proofs.write.put_string.Goals as goal
 

@@ -1,6 +1,6 @@
 use mathlib.Core.Path.{◌≡◌}
 use Prim.Native.Nat.{◌≤◌, ◌-◌}
-use Rattle.subtrees.specs.Internal.Run.{run_at}
+use Rattle.unchecked_rows.specs.Internal.Run.{run_at}
 use Rattle.row_table.specs.Internal.Check.{standing_of, run_fits}
 use Rattle.row_table.proofs.sound.+run_fits.Given as goal
 

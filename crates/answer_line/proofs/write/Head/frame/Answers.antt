@@ -2,7 +2,7 @@
 use mathlib.Core.Path.{refl, sym, ◌∙◌}
 use native.Mathlib.Omega.{arith}
 use borrow.Author.Rules.{rules}
-use Rattle.output.proofs.Written.{same_output}
+use Rattle.writer.proofs.Written.{same_output}
 use Rattle.answer_line.proofs.Writing.{head_place, head_framed}
 use Rattle.answer_line.proofs.write.Head.frame.Goals as goal
 

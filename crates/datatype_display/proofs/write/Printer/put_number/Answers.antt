@@ -2,7 +2,7 @@
 use mathlib.Core.Path.{refl}
 use native.Mathlib.Omega.{arith}
 use borrow.Author.Rules.{rules}
-use Rattle.output.proofs.DigitLaws.{digits_stored}
+use Rattle.writer.proofs.DigitLaws.{digits_stored}
 use Rattle.datatype_display.proofs.Writes.{stored}
 use Rattle.datatype_display.proofs.write.Printer.put_number.Goals as goal
 

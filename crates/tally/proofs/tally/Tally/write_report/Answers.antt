@@ -2,7 +2,7 @@
 use mathlib.Core.Path.{ap, ◌∙◌, subst}
 use Prim.Native.Nat.{◌≤◌}
 use lib.ListN.{length}
-use Rattle.output.specs.Written.{written}
+use Rattle.writer.specs.Written.{written}
 use Rattle.tally.specs.Tally.{Counts, report}
 use Rattle.tally.specs.Laws.{IsTally}
 use Rattle.tally.proofs.Bounds.{bounded}

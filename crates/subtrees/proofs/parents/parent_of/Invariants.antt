@@ -1,8 +1,0 @@
-use Rattle.subtrees.proofs.ParentClimb.{ClimbSo}
-use Rattle.subtrees.proofs.parents.parent_of.Given as goal
-
-abbrev pub invariant-loop-p : goal.invariant-loop-p
-invariant-loop-p g l = ClimbSo (g.T.KeptRows.words l.row.rows) l.row.at l.p
-
-abbrev pub decreases-loop-p : goal.decreases-loop-p
-decreases-loop-p g l = l.p
