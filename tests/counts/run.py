@@ -23,6 +23,7 @@ import needs  # noqa: E402
 
 PROGRAM = ROOT / "target" / "bin" / "type_counts"
 LINES = ROOT / "target" / "bin" / "type_lines"
+TEXTS_REPORT = ROOT / "tests" / "counts" / "texts.report"
 SERVICE = ROOT / "bindings" / "rust" / "target" / "release" / "arrow-types"
 IS_SERVICE = "--service" in sys.argv
 COMMAND = [SERVICE, "count"] if IS_SERVICE else [PROGRAM]
@@ -68,6 +69,11 @@ def stored_texts():
         yield sample[head.end() : end]
         answer = re.compile(rb"\n\d+ (\d+) \d+\n").match(sample, end)
         at = re.compile(rb"(?:[^\n]*\n){%d}" % int(answer[1])).match(sample, answer.end()).end()
+
+
+def stored_lines():
+    """Those of these texts that can be a line."""
+    return [text for text in stored_texts() if b"\n" not in text]
 
 
 class Reports(unittest.TestCase):
@@ -128,10 +134,21 @@ class Reports(unittest.TestCase):
                 self.assertEqual(report(text), counted(count + 2, count + 2, [], [(2, count), (3, 1), (24, 1)], 1))
 
 
+class Stored(unittest.TestCase):
+    """The stored texts have the report that tests/counts/store.py wrote without the program."""
+
+    def test_stored_texts(self):
+        texts = stored_lines()
+        self.assertGreater(len(texts), 3000)
+        self.assertEqual(report(b"".join(text + b"\n" for text in texts)), TEXTS_REPORT.read_bytes())
+
+
 class Limit(unittest.TestCase):
     def test_a_million(self):
         self.assertEqual(report(b"\n" * MOST), counted(MOST, 0, [(5, MOST)]))
         self.assertEqual(report(b"\n" * (MOST - 1) + b"Int8"), counted(MOST, 1, [(5, MOST - 1)], [(2, 1)], 1))
+        for last in [b"a" * 70_000, b"a" * 70_000 + b"\n"]:
+            self.assertEqual(report(b"\n" * (MOST - 1) + last), counted(MOST, 0, [(1, 1), (5, MOST - 1)]))
 
     def test_a_line_more(self):
         for more in [b"x", b"\n", b"Int8\n", b"a" * 20_000, b"\n" * 1000]:
@@ -274,9 +291,7 @@ class BesideTheLineProgram(unittest.TestCase):
             self.assertEqual(sum(int(line.split()[2]) for line in found if line.startswith("kind ")), rows)
 
     def test_stored_texts(self):
-        texts = [text for text in stored_texts() if b"\n" not in text]
-        self.assertGreater(len(texts), 3000)
-        self.assert_same(b"".join(text + b"\n" for text in texts))
+        self.assert_same(b"".join(text + b"\n" for text in stored_lines()))
 
     def test_mixed(self):
         self.assert_same("".join(line + "\n" for _, line in mix.mixed(100_000)).encode())

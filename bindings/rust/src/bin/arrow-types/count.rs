@@ -1,9 +1,10 @@
 //! The monthly count: exact counts of the lines of the input, byte for byte as `type_counts` reports them.
 
 use crate::failure::{Failure, written};
-use arrow_types::{DataType, MAX_TEXT};
+use crate::input_lines::InputLines;
+use arrow_types::DataType;
 use std::fmt;
-use std::io::{self, BufRead, Write};
+use std::io::{Read, Write};
 
 /// So many lines are counted; one more is refused.
 const MAX_LINES: u32 = 1_000_000;
@@ -12,19 +13,20 @@ const MAX_LINES: u32 = 1_000_000;
 const TOO_MANY_LINES: &str = "no 24\n";
 
 /// Counts lines until the input ends, or has more of them than are counted: whether there is a report.
-pub fn run(input: &mut impl BufRead, output: &mut impl Write) -> Result<bool, Failure> {
+pub fn run(input: &mut impl Read, output: &mut impl Write) -> Result<bool, Failure> {
+    let mut lines = InputLines::of(input);
     let mut tally = Tally::default();
-    let mut line = Vec::new();
-    while begins(input).map_err(Failure::Input)? {
-        if tally.lines == MAX_LINES {
+    loop {
+        let count = lines.read(|line| tally.add(line)).map_err(Failure::Input)?;
+        if tally.lines + u32::from(lines.has_begun()) > MAX_LINES {
             say(output, TOO_MANY_LINES)?;
             return Ok(false);
         }
-        read_line(input, &mut line).map_err(Failure::Input)?;
-        tally.add(&line);
+        if count == 0 {
+            say(output, &tally.to_string())?;
+            return Ok(true);
+        }
     }
-    say(output, &tally.to_string())?;
-    Ok(true)
 }
 
 fn say(output: &mut impl Write, text: &str) -> Result<(), Failure> {
@@ -33,46 +35,6 @@ fn say(output: &mut impl Write, text: &str) -> Result<(), Failure> {
             .write_all(text.as_bytes())
             .and_then(|()| output.flush()),
     )
-}
-
-/// What is there of the input, of which nothing is taken: nothing at its end.
-fn ahead(input: &mut impl BufRead) -> io::Result<&[u8]> {
-    loop {
-        match input.fill_buf() {
-            // A terminal that has told its end once would be asked for more.
-            Ok([]) => return Ok(&[]),
-            Ok(_) => break,
-            Err(error) if error.kind() == io::ErrorKind::Interrupted => {}
-            Err(error) => return Err(error),
-        }
-    }
-    // What is held already is answered without a read.
-    input.fill_buf()
-}
-
-/// Whether another line begins.
-fn begins(input: &mut impl BufRead) -> io::Result<bool> {
-    Ok(!ahead(input)?.is_empty())
-}
-
-/// Reads a line, without its newline: no more of it is kept than makes it too long.
-fn read_line(input: &mut impl BufRead, line: &mut Vec<u8>) -> io::Result<()> {
-    line.clear();
-    loop {
-        let bytes = ahead(input)?;
-        if bytes.is_empty() {
-            return Ok(());
-        }
-        let end = bytes.iter().position(|byte| *byte == b'\n');
-        let part = &bytes[..end.unwrap_or(bytes.len())];
-        let room = MAX_TEXT + 1 - line.len();
-        line.extend(&part[..part.len().min(room)]);
-        let taken = part.len() + usize::from(end.is_some());
-        input.consume(taken);
-        if end.is_some() {
-            return Ok(());
-        }
-    }
 }
 
 /// The counts so far.

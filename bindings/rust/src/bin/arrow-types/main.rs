@@ -6,6 +6,7 @@ mod count;
 mod explain;
 mod failure;
 mod hints;
+mod input_lines;
 mod lines;
 mod paint;
 mod progress;
@@ -21,7 +22,7 @@ use paint::Paint;
 use progress::Progress;
 use rewrite::Options;
 use std::ffi::{OsStr, OsString};
-use std::io::{self, BufReader, IsTerminal, Write};
+use std::io::{self, IsTerminal, Write};
 use std::process::ExitCode;
 
 const HELP: &str = "\
@@ -93,10 +94,7 @@ fn run(arguments: &[&OsStr]) -> Ending {
         ] => say(HELP),
         ["--version"] => say(concat!("arrow-types ", env!("CARGO_PKG_VERSION"), "\n")),
         ["lines"] => lines(),
-        ["count"] => count::run(
-            &mut BufReader::with_capacity(65_536, io::stdin().lock()),
-            &mut io::stdout().lock(),
-        ),
+        ["count"] => count::run(&mut io::stdin().lock(), &mut io::stdout().lock()),
         ["explain", "--text" | "--file"] => Err(Failure::Usage),
         ["explain", "--text", _] => explain(Source::Text(arguments[2])),
         ["explain", "--file", _] => explain(Source::File(arguments[2].as_ref())),
