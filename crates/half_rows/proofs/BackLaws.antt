@@ -14,12 +14,13 @@ use lib.Dec.{T}
 use Rattle.std.proofs.Common.{All, ◌≢◌}
 use Rattle.std.proofs.lemmas.List.{length-take, length-drop, take-append-drop, get_or-take}
 use Rattle.std.proofs.lemmas.List.Elements.{All-get_or, All-drop}
+use Rattle.tokenizer.proofs.Basics.{is_true}
 use Rattle.tokenizer.specs.Answer.{refuse, done, Out}
 use Rattle.datatype.specs.Table.{row_words}
 use Rattle.row_table.specs.Sound.{is_sound}
 use Rattle.row_table.proofs.SoundTree.{sound_tree, sound-count}
 use Rattle.half_rows.specs.HalfRows.{half, half_words, halves_of, words_of_halves, halved_rows, unhalved_rows, halved, unhalved, half_rows_answer, half_rows_words, wide_rows_answer, wide_rows_words}
-use Rattle.half_rows.specs.Laws.{ComesBack, KeptAlike, KeepsAgain}
+use Rattle.half_rows.specs.Laws.{ComesBack, KeptAlike, KeepsAgain, BringsSound}
 use Rattle.half_rows.proofs.HalfLaws.{row-long, unhalved-long, table-long}
 use Rattle.half_rows.proofs.Keeping.{cut, own-long, halved-long, table-halved-long, sets-front, to-unsound, to-full, to-answer, left-words, from-left, from-unsound, from-full, from-answer, back-words, from-words}
 
@@ -209,3 +210,6 @@ pub keeps-again_as : (text names halves rows : List ℕ) (answer : Out ℕ) (wor
 keeps-again_as text names halves rows answer words small e f =
     subst (λ (o : Out ℕ). KeepsAgain text names halves o words) (sym e)
     (subst (λ (ws : List ℕ). KeepsAgain text names halves (wide_rows_answer text names halves rows) ws) (sym f) (keeps-again text names halves rows small))
+
+pub brings-sound_as : (text names halves rows : List ℕ) (answer : Out ℕ) → answer ≡ wide_rows_answer text names halves rows → BringsSound text names halves rows answer
+brings-sound_as text names halves rows answer e whole sound room = e ∙ from-answer text names halves rows whole (is_true _ sound) room

@@ -7,7 +7,7 @@ ghost use Rattle.std.specs.Prelude.{◌≡◌};
 ghost use Rattle.std.proofs.Common.{rules};
 ghost use Rattle.tokenizer.specs.Answer.{answer_of};
 ghost use Rattle.half_rows.specs.HalfRows.{number_of, half_rows_answer, half_rows_words, wide_rows_answer, wide_rows_words};
-ghost use Rattle.half_rows.specs.Laws.{ComesBack, KeptAlike, KeepsAgain};
+ghost use Rattle.half_rows.specs.Laws.{ComesBack, KeptAlike, KeepsAgain, BringsSound};
 
 mod halves;
 mod keep;
@@ -72,6 +72,7 @@ pub fn from_half_rows(
     ensures answer { answer_of number_of result ≡ wide_rows_answer text.now names.now halves.now rows.old }
     ensures contents { rows.new ≡ wide_rows_words text.now names.now halves.now rows.old }
     ensures keeps_again { KeepsAgain text.now names.now halves.now (answer_of number_of result) rows.new }
+    ensures brings_sound { BringsSound text.now names.now halves.now rows.old (answer_of number_of result) }
 {
     let count = halves.len() / HALF_ROW_WORDS;
     if halves.len() != HALF_ROW_WORDS * count {

@@ -1,6 +1,6 @@
 use Rattle.std.proofs.Common.{sym, ◌∙◌, ◌<◌, ℕ, length, arith}
 use Rattle.std.proofs.lemmas.List.Elements.{All-from_get_or}
-use Rattle.half_rows.proofs.BackLaws.{keeps-again_as}
+use Rattle.half_rows.proofs.BackLaws.{keeps-again_as, brings-sound_as}
 use Rattle.half_rows.specs.HalfRows.{half}
 use Rattle.half_rows.proofs.HalfLaws.{table-long}
 use Rattle.half_rows.proofs.Keeping.{from-left, from-unsound, from-full, from-answer, from-words}
@@ -38,3 +38,15 @@ returns-clause-keeps_again c =
     keeps-again_as c.args.text.now c.args.names.now c.args.halves.now c.args.rows.now _ c.put_words.new.rows (All-from_get_or (λ (x : ℕ). x < half) c.args.halves.now 0 (λ (i : ℕ) (h : i < length c.args.halves.now). (c.type_inv.halves i).fits))
     (sym (from-answer _ _ _ c.args.rows.now c.if-halves-count.false (sym c.is_sound_table.ensures ∙ c.if-not-is_sound_table.false) c.if-rows-count.false))
     (c.put_words.ensures ∙ from-words _ _ _ c.args.rows.now c.if-halves-count.false (sym c.is_sound_table.ensures ∙ c.if-not-is_sound_table.false) c.if-rows-count.false)
+
+pub returns-then-halves-count-clause-brings_sound : goal.returns-then-halves-count-clause-brings_sound
+returns-then-halves-count-clause-brings_sound c = brings-sound_as c.args.text.now c.args.names.now c.args.halves.now c.args.rows.now _ (returns-then-halves-count-clause-answer c)
+
+pub returns-then-not-is_sound_table-clause-brings_sound : goal.returns-then-not-is_sound_table-clause-brings_sound
+returns-then-not-is_sound_table-clause-brings_sound c = brings-sound_as c.args.text.now c.args.names.now c.args.halves.now c.args.rows.now _ (returns-then-not-is_sound_table-clause-answer c)
+
+pub returns-then-rows-count-clause-brings_sound : goal.returns-then-rows-count-clause-brings_sound
+returns-then-rows-count-clause-brings_sound c = brings-sound_as c.args.text.now c.args.names.now c.args.halves.now c.args.rows.now _ (returns-then-rows-count-clause-answer c)
+
+pub returns-clause-brings_sound : goal.returns-clause-brings_sound
+returns-clause-brings_sound c = brings-sound_as c.args.text.now c.args.names.now c.args.halves.now c.args.rows.now _ (returns-clause-answer c)
