@@ -56,8 +56,12 @@ pub fn unread(command: &mut Command) -> (Option<i32>, String) {
 fn unread_pipe() -> Stdio {
     let mut reader = Command::new("true");
     let mut reader = reader.stdin(Stdio::piped()).spawn().expect("true");
-    let pipe = reader.stdin.take().expect("a pipe");
+    let mut pipe = reader.stdin.take().expect("a pipe");
     reader.wait().expect("its end");
+    // A program that another test begins just now may hold the reader's end until it runs.
+    while pipe.write(b".").is_ok() {
+        sleep(Duration::from_millis(1));
+    }
     pipe.into()
 }
 
