@@ -200,6 +200,17 @@ impl<'a> Printer<'a> {
         }
     }
 
+    // Writes a piece as it is: it is made part of its caller, where the piece's length is known, and one move writes it.
+    #[inline(always)]
+    fn put_whole(&mut self, piece: &[u8])
+        requires { Fits self.old piece.now }
+        ensures { Wrote self.old piece.now self.new }
+    {
+        let end = self.at + piece.len();
+        self.out[self.at..end].copy_from_slice(piece);
+        self.at = end;
+    }
+
     // Writes a piece: at once where nothing in it is escaped.
     #[tactic(auto, using(crate::proofs::Escapes::itself_fits))]
     fn put_piece(&mut self, lead: bool, piece: &[u8; PIECE])
@@ -211,7 +222,7 @@ impl<'a> Printer<'a> {
         } else if has_escaped(piece) || has_lead(piece) {
             self.put_between(lead, piece);
         } else {
-            self.put(piece);
+            self.put_whole(piece);
         }
     }
 

@@ -1,11 +1,24 @@
 // Writing at a place that is known to have room: nothing asks for it. With stores that ask, as `writer::Writer` has them,
 // printing takes 2 to 9 in 100 more instructions.
-ghost use Rattle.std.specs.Prelude.{[], ◌∷◌};
+ghost use Rattle.std.specs.Prelude.{◌≡◌, ◌+◌, ◌≤◌, length, [], ◌∷◌};
+ghost use Rattle.std.proofs.lemmas.List.Edits.{sets};
 ghost use Rattle.writer.specs.Digits.{digits};
 ghost use Rattle.datatype_display.specs.Internal.Steps.{Fits, Wrote};
 
 use itoa::write_digits;
 use writer::digits_length;
+
+// Stores bytes at a place. One by one: those of a literal become a store or two, and of others many are stored at once. By
+// `copy_from_slice` a library for C would need `memmove` from outside, and each literal is asked whether it overlaps the output.
+#[tactic(auto, using(writer::proofs::Writes::puts))]
+fn store(out: &mut [u8], at: usize, s: &[u8])
+    requires { at + length s.now ≤ length out.old }
+    ensures { out.new ≡ sets out.old at s.now }
+{
+    for i in 0..s.len() {
+        out[at + i] = s[i];
+    }
+}
 
 // The output, and the place in it behind what was written.
 #[derive(Drop)]
@@ -15,14 +28,13 @@ pub(crate) struct Printer<'a> {
 }
 
 impl<'a> Printer<'a> {
-    // Writes bytes: those of a literal become a store or two.
+    // Writes bytes.
     pub(crate) fn put(&mut self, s: &[u8])
         requires { Fits self.old s.now }
         ensures { Wrote self.old s.now self.new }
     {
-        let end = self.at + s.len();
-        self.out[self.at..end].copy_from_slice(s);
-        self.at = end;
+        store(self.out, self.at, s);
+        self.at = self.at + s.len();
     }
 
     // Writes one byte.

@@ -3,7 +3,6 @@ use mathlib.Core.Path.{◌≡◌, refl, sym, ap, ◌∙◌}
 use lib.ListN.{get_or}
 use lib.IntN.{ℤ}
 use Rattle.parser.specs.declared.ReadValue.{ReadValue}
-use Rattle.tokenizer.specs.declared.TokenKind.TheVariants.{Integer}
 use mathlib.Core.Bool.{true, false}
 use mathlib.Core.List.{List}
 use Prim.Native.Nat.{ℕ, ◌+◌}
@@ -17,7 +16,7 @@ use Rattle.parser.specs.declared.error.ReadError.{ReadError}
 use Rattle.tokenizer.specs.Token.{Standing, lparen, rparen, comma, colon, double_quoted}
 use Rattle.datatype.specs.Tree.{Forest, ∅, node, count, Row}
 use Rattle.parser.specs.Parse.{role_place, last_token, Tree, Fields, end, last, more, run_ends, values, id_of, need, stands, role_at, after_role, signed_byte_at, close_at, field_at, default_field, named_run_ends, default_run_ends, run_end_fields, struct_item, union_field, union_item}
-use Rattle.parser.specs.Internal.Steps.{integer_of, extent, rows_left, Stored, Meets, MeetsFields, FieldWords}
+use Rattle.parser.specs.Internal.Steps.{integer_of, integer_kind, extent, rows_left, Stored, Meets, MeetsFields, FieldWords}
 use Rattle.parser.proofs.Matched.{Read, behind, GotTree, GotNumber, got_integer}
 use Rattle.parser.proofs.Looks.{needed-stands, refused-stands}
 use Rattle.parser.proofs.Values.{id-is}
@@ -198,7 +197,7 @@ module _ (text : List ℕ) (type : ℕ → ℕ → Out Tree) where
         unfolding union_field
         union-3 x h = rw (f.is, g, h) refl
 
-        module _ (p : Standing) (q id : ℕ) (h : need text lparen m ≡ done (behind p q)) (i : id ≡ id_of (done (Integer z.value))) where
+        module _ (p : Standing) (q id : ℕ) (h : need text lparen m ≡ done (behind p q)) (i : id ≡ id_of (integer_kind z.value)) where
           w : id ≡ id_of f.token.kind
           w = i ∙ id-is _ z.value z.next f
 

@@ -3,7 +3,6 @@ use Rattle.std.specs.Prelude.{if◌then◌else◌, Ok, Err}
 use mathlib.Core.Path.{◌≡◌, refl, sym, ap, ◌∙◌, subst}
 use mathlib.Core.Bool.{Bool, true, false}
 use lib.IntN.{ℤ}
-use Rattle.tokenizer.specs.declared.TokenKind.TheVariants.{Integer}
 use Rattle.parser.proofs.Values.{scale-is}
 use mathlib.Core.List.{List, ◌++◌}
 use Prim.Native.Nat.{ℕ, suc, ◌+◌, ◌*◌, ◌-◌, ◌≤◌}
@@ -22,7 +21,7 @@ use Rattle.datatype.specs.Kind.{decimal_fits}
 use Rattle.datatype.specs.Tree.{Forest, ∅, node, count, Row}
 use Rattle.datatype.specs.Table.{row_words, words_of}
 use Rattle.parser.specs.Parse.{Name, Tree, Fields, item, bare_row, field_row, scale_of, need, unit_at, length_at, time_at, interval_at, fixed_size_binary_at, stands, role_at, after_role, number_in, close_at, zone_at, timestamp_at, scale_at, decimal_at, list_name_at, field_at, default_field, list_field}
-use Rattle.parser.specs.Internal.Steps.{word_of, integer_of, extent, rows_left, Stored, Meets, Put, Closed, FieldWords, MeetsFields}
+use Rattle.parser.specs.Internal.Steps.{word_of, integer_of, integer_kind, extent, rows_left, Stored, Meets, Put, Closed, FieldWords, MeetsFields}
 use Rattle.parser.proofs.Stores.{further, rows_from, with_rows, left_behind, follows, in_front, alone, as_field}
 use Rattle.parser.proofs.Matched.{Read, handed_on, behind, string, GotWord, GotTree, got_word, got_integer, got-tree, lost-tree, got-fields}
 
@@ -198,7 +197,7 @@ module _ (text : List ℕ) (k v at : ℕ) where
   scale-1 x e = rw e refl
 
   -- it is known, and the closing mark was read or is missing
-  module _ (n : ReadValue ℤ) (i : done n ≡ integer_of (number_in text 128 127 at)) (scale : ℕ) (w : scale ≡ scale_of (done (Integer n.value))) (row row₂ : List ℕ) (l : length row ≡ row_words) where
+  module _ (n : ReadValue ℤ) (i : done n ≡ integer_of (number_in text 128 127 at)) (scale : ℕ) (w : scale ≡ scale_of (integer_kind n.value)) (row row₂ : List ℕ) (l : length row ≡ row_words) where
     abbrev closed : Out Tree
     closed = close_at text (bare_row k v scale 0 0) ∅ n.next
 

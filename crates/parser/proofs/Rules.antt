@@ -8,7 +8,7 @@ use Rattle.parser.proofs.Loops.{loop-most}
 use Rattle.parser.proofs.Parents.{dictionary-1, dictionary-2, dictionary-3, dictionary-4, dictionary-5, fixed-list-1, fixed-list-2, fixed-list-3, fixed-list-4, fixed-list-5, fixed-list-6, fixed-list-7, list-1, list-2, list-3, map-1, map-2, map-3, map-last, map-4, map-5, map-6, run-end-1, run-end-2, run-end-3}
 use Rattle.parser.proofs.Readers.{closed-done, closed-lost, decimal-1, decimal-2, decimal-3, decimal-4, field-1, field-2, field-3, field-5, fixed-3, interval-3, list-field-1, list-field-2, list-field-3, list-field-4, meets-handed, meets-refused, name-1, name-2, name-3, scale-1, scale-2, scale-3, scale-4, time-3, timestamp-1, timestamp-2, timestamp-3, timestamp-5, value-1, value-2}
 use Rattle.parser.proofs.Stores.{from_length}
-use Rattle.parser.proofs.TokenLaws.{after-here, after-out, expect-found, expect-refused, gone, integer-found, integer-refused, interval-unit-here, look-here, look-not, lost, map-sorted-here, next-here, next-refused, null-not, null-other, role-here, role-out, span-here, span-refused, stands-gone, stands-lost, stands_here, time-unit-here, type-word-here, union-mode-here, word-refused, word_lost}
+use Rattle.parser.proofs.TokenLaws.{after-here, after-out, expect-found, expect-refused, gone, integer-found, integer-fits, integer-refused, interval-unit-here, look-here, look-not, lost, map-sorted-here, next-here, next-refused, null-not, null-other, role-here, role-out, span-here, span-refused, stands-gone, stands-lost, stands_here, time-unit-here, type-word-here, union-mode-here, word-refused, word_lost}
 use Rattle.parser.proofs.Types.{struct-1, struct-2, struct-4, struct-loop, struct-start, type-decimal, type-deep, type-dictionary, type-fixed, type-fixed-list, type-full, type-interval, type-list, type-map, type-run-ends, type-struct, type-time, type-timestamp, type-union, type-word, union-at-1, union-at-2, union-loop, union-start}
 use Rattle.parser.proofs.ZoneLaws.{byte-in, byte-out, list-name-fits, name-fits, number_lost, positive-out, some-1, some-2, some-3, some-4, unit-1, unit-2, unit-3, zone-1, zone-2, zone-3, zone-4, zone-5, zone-fits, zone-lost, zone-none, zone-other, zone-some, zone-string, zone_done, zone_refused}
 
@@ -16,7 +16,7 @@ pub ruleset word_place_steps = (handed_on, handed, word-place-1, lost_span, got_
 
 pub ruleset text_steps = (text-refused, too_long, not-utf8, lent_fits, lent_words, lent_room, text-read)
 
-pub ruleset i64_steps = (handed_on, handed, integer-refused, lost, integer-found, gone)
+pub ruleset i64_steps = (handed_on, handed, integer-refused, lost, integer-found, integer-fits, gone)
 
 pub ruleset close_steps = (handed_on, closed-lost, lost_next, got_next, closed-done)
 

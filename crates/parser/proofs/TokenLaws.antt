@@ -1,17 +1,17 @@
 -- Tokens where one is needed or looked for: each return of the small functions as a law.
-use Rattle.std.specs.Prelude.{Option, Some, None, nat_abs}
-use mathlib.Core.Path.{◌≡◌, refl, sym, ap, ◌∙◌}
-use mathlib.Core.Bool.{true, false}
+use Rattle.std.specs.Prelude.{Option, Some, None}
+use mathlib.Core.Path.{◌≡◌, refl, sym, ap, ◌∙◌, subst}
+use mathlib.Core.Bool.{Bool, true, false}
 use mathlib.Core.List.{List, [], ◌∷◌}
-use Prim.Native.Nat.{ℕ, ◌<◌}
+use Prim.Native.Nat.{ℕ, ◌≤◌, ◌<◌}
 use native.Mathlib.Omega.{arith}
 use lib.ListN.{get_or}
-use lib.IntN.{ℤ}
-use lib.Dec.{T, eqb}
+use lib.Dec.{T, leb→le, eqb}
 use borrow.Author.Tests.{eq-eqb, ne_eqb}
 use Rattle.tokenizer.specs.Answer.{Refusal, Out, refused, done, refuse_at}
 use Rattle.tokenizer.specs.Places.{after_spaces, next_byte}
-use Rattle.tokenizer.specs.Token.{Standing, token, token_at, sort_of, value_of, is_negative, signed, is_below_zero, no_token, integer, type_word, time_unit, interval_unit, union_mode, map_sorted, nullability}
+use Rattle.tokenizer.specs.Token.{Standing, token, token_at, sort_of, value_of, is_negative, signed, no_token, integer, type_word, time_unit, interval_unit, union_mode, map_sorted, nullability}
+use Rattle.tokenizer.specs.Internal.Digits.{limit}
 use Rattle.tokenizer.specs.declared.Token.{Token}
 use Rattle.tokenizer.specs.declared.TokenKind.{TokenKind}
 use Rattle.tokenizer.specs.declared.TokenKind.TheVariants as K
@@ -30,19 +30,16 @@ use Rattle.parser.proofs.Looks.{need-is, need-not}
 
 -- ---- kinds and their sorts
 
-signed_back : (z : ℤ) → signed (is_below_zero z) (nat_abs z) ≡ z
-signed_back z = grind arith
-
 -- the kind of each sort, from 0 on, that says what a kind says
 abbrev pub of_sort : TokenKind → ℕ → TokenKind
 of_sort k sort =
     let v = value_of (done k) in
-    get_or (k ∷ K.LParen ∷ K.RParen ∷ K.Comma ∷ K.Colon ∷ K.Integer (signed (is_negative (done k)) v) ∷ K.DoubleQuotedString ∷ K.SingleQuotedString ∷ K.DataType v ∷ K.TimeUnit v
+    get_or (k ∷ K.LParen ∷ K.RParen ∷ K.Comma ∷ K.Colon ∷ K.Integer (is_negative (done k)) v ∷ K.DoubleQuotedString ∷ K.SingleQuotedString ∷ K.DataType v ∷ K.TimeUnit v
     ∷ K.IntervalUnit v ∷ K.UnionMode v ∷ K.MapSorted v ∷ K.Nullability v ∷ K.Field ∷ K.Some ∷ K.None ∷ K.X ∷ []) sort k
 
 -- a kind is that of its sort
 told : (k : TokenKind) → k ≡ of_sort k (sort_of (done k))
-told k = grind (arith, signed_back)
+told k = grind arith
 
 -- a kind that is not that of a sort is of another sort
 pub other_sort : (sort : ℕ) (k : TokenKind) → (k ≡ of_sort k sort → ⊥) → eqb (sort_of (done k)) sort ≡ false
@@ -178,10 +175,16 @@ word_lost text sort at r x n t h = handed (word_of (need text sort at)) r x h (w
 
 -- ---- numbers
 
-module _ (text : List ℕ) (at : ℕ) (t : Token) (e : done t ≡ taken (token_at text at)) (z : ℤ) (k : t.kind ≡ K.Integer z) where
-  pub integer-found : done (record { value = z; next = t.next }) ≡ integer_of (need text integer at)
+module _ (text : List ℕ) (at : ℕ) (t : Token) (e : done t ≡ taken (token_at text at)) (negative : Bool) (v : ℕ) (k : t.kind ≡ K.Integer negative v) where
+  pub integer-found : done (record { value = signed negative v; next = t.next }) ≡ integer_of (need text integer at)
   unfolding integer_of
-  integer-found = rw (got text integer at t e (ap (λ (x : TokenKind). sort_of (done x)) k), k, signed_back z)
+  integer-found = rw (got text integer at t e (ap (λ (x : TokenKind). sort_of (done x)) k), k)
+
+  -- its magnitude is one that its sign takes
+  pub integer-fits : v ≤ limit negative
+  integer-fits =
+      let s = ap (λ (x : Standing). Marks.in_sign x.kind) (got_token (token_at text at) t e) ∙ ap (λ (x : TokenKind). Marks.in_sign (done x)) k in
+      leb→le v (limit negative) (subst T s (Marks.sign_holds text at))
 
 -- ---- marks, by the first byte that is no space
 

@@ -16,7 +16,7 @@ use Rattle.std.specs.Int.RustNames.{FitsSigned}
 use Rattle.std.proofs.Common.{to_z-of_z}
 use Rattle.tokenizer.specs.Answer.{Refusal, Out, refused, done, refuse_at}
 use Rattle.tokenizer.specs.declared.refusal.Refusal.TheVariants.{NumberOutOfRange, WrongTimeUnit}
-use Rattle.tokenizer.specs.Token.{Standing, token_at, sort_of, is_below_zero, no_token, lparen, rparen, comma, colon, integer, double_quoted, single_quoted, field_word, time_unit, some_word, none_word}
+use Rattle.tokenizer.specs.Token.{Standing, token_at, sort_of, value_of, is_negative, is_below_zero, no_token, lparen, rparen, comma, colon, integer, double_quoted, single_quoted, field_word, time_unit, some_word, none_word}
 use Rattle.tokenizer.specs.declared.Token.{Token}
 use Rattle.tokenizer.specs.declared.TokenKind.{TokenKind}
 use Rattle.tokenizer.specs.declared.TokenKind.TheVariants as K
@@ -30,7 +30,7 @@ use Rattle.parser.specs.declared.ReadValue.{ReadValue}
 use Rattle.parser.specs.declared.Span.{Span}
 use Rattle.parser.proofs.Holds.{Holds, holds_bind, holds_then, holds_if}
 use Rattle.parser.proofs.Matched.{error_at, unexpected, standing, got_token, got_word, got_integer, behind, string, GotWord, GotNumber}
-use Rattle.parser.proofs.Values.{sign-is, magnitude-is, byte_in, byte_out, positive, positive_out}
+use Rattle.parser.proofs.Values.{inside-is, outside-is, magnitude-is, byte_in, byte_out, positive, positive_out}
 use Rattle.parser.proofs.Looks.{needed-stands, refused-stands}
 use Rattle.parser.proofs.TokenLaws.{gone, here, lost, other_sort, stands-lost, word-refused}
 
@@ -70,14 +70,14 @@ module _ (text : List ℕ) (least most at : ℕ) where
     pub number-out : (if is_below_zero z then least else most) < nat_abs z → number_in text least most at ≡ refuse_at 10 (place_at text at)
     unfolding number_in
     number-out h =
-        let l = lt-leb (nat_abs z) (if is_below_zero z then least else most) h in
-        rw (g.is, sign-is _ _ _ g, magnitude-is _ _ _ g, l) refl
+        let l = lt-leb (value_of g.token.kind) (if is_negative g.token.kind then least else most) (outside-is _ _ _ g least most h) in
+        rw (g.is, l) refl
 
     number-in : nat_abs z ≤ (if is_below_zero z then least else most) → number_in text least most at ≡ done (behind g.token n)
     unfolding number_in
     number-in h =
-        let l = le-leb (nat_abs z) (if is_below_zero z then least else most) h in
-        rw (g.is, sign-is _ _ _ g, magnitude-is _ _ _ g, l) refl
+        let l = le-leb (value_of g.token.kind) (if is_negative g.token.kind then least else most) (inside-is _ _ _ g least most h) in
+        rw (g.is, l) refl
 
     pub signed-in : nat_abs z ≤ (if is_below_zero z then least else most) → done (record { value = z; next = n }) ≡ integer_of (number_in text least most at)
     unfolding integer_of

@@ -7,13 +7,11 @@
 #![tactic(auto)]
 
 ghost use Rattle.std.specs.Prelude.{◌≡◌, ◌≤◌, ◌++◌, length};
-ghost use Rattle.tokenizer.specs.Answer.{done};
 ghost use Rattle.parser.specs.Answer.{read_answer};
-ghost use Rattle.tokenizer.specs.declared.TokenKind.TheVariants.{Integer};
 ghost use Rattle.datatype.specs.Limits.{max_text};
 ghost use Rattle.datatype.specs.Table.{rows_lent};
 ghost use Rattle.parser.specs.Parse.{id_of, scale_of, field_at, list_field, list_name_at, named_run_ends, default_run_ends, list_at, fixed_size_list_at, struct_at, union_at, union_field, dictionary_at, map_at, run_end_encoded_at, type_at, first_type, read_of, rows_of};
-ghost use Rattle.parser.specs.Internal.Steps.{Room, RoomBelow, Meets, MeetsFields, rows_left, span_of};
+ghost use Rattle.parser.specs.Internal.Steps.{Room, RoomBelow, Meets, MeetsFields, rows_left, integer_kind, span_of};
 
 use crate::rows::{Head, PLAIN, put_field, put_row};
 use crate::tokens::mark_before;
@@ -57,14 +55,14 @@ pub(crate) struct ReadValue<T> {
 impl ReadValue<i8> {
     // A row keeps a union id with 256 added to a negative one.
     fn as_union_id(self) -> u32
-        ensures { result ≡ id_of (done (Integer self.value)) }
+        ensures { result ≡ id_of (integer_kind self.value) }
     {
         u32::from(self.value.cast_unsigned())
     }
 
     // A row keeps a decimal's scale plus 128, which is never negative.
     pub(crate) fn as_scale(self) -> u32
-        ensures { result ≡ scale_of (done (Integer self.value)) }
+        ensures { result ≡ scale_of (integer_kind self.value) }
     {
         (i32::from(self.value) + 128) as u32
     }

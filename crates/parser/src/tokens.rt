@@ -1,9 +1,10 @@
 // One token where it is needed or looked for: the small functions of the Rust's `Parser`.
-ghost use Rattle.std.specs.Prelude.{◌≡◌, true};
+ghost use Rattle.std.specs.Prelude.{◌≡◌, ◌≤◌, true};
 ghost use Rattle.tokenizer.specs.Answer.{done};
 ghost use Rattle.tokenizer.specs.declared.refusal.Refusal.TheVariants.{UnexpectedToken};
 ghost use Rattle.parser.specs.Answer.{refusal_in, read_answer};
-ghost use Rattle.tokenizer.specs.Token.{token_at, place_of, integer, double_quoted, single_quoted, type_word, time_unit, interval_unit, union_mode, map_sorted, field_word, x_word};
+ghost use Rattle.tokenizer.specs.Token.{token_at, place_of, signed, integer, double_quoted, single_quoted, type_word, time_unit, interval_unit, union_mode, map_sorted, field_word, x_word};
+ghost use Rattle.tokenizer.specs.Internal.Digits.{limit};
 ghost use Rattle.parser.specs.Parse.{place_at, mark_before, role_place, word_place, last_token, need, role_at, after_role, number_in, length_at, precision_at, signed_byte_at, stands};
 ghost use Rattle.parser.specs.Internal.Steps.{taken, refused_here, mark_sort, is_mark, next_of, look_of, word_of, integer_of, span_of};
 
@@ -91,7 +92,7 @@ impl<'a> Parser<'a> {
     pub(crate) fn next_token(&self, at: usize) -> Result<Token, ReadError>
         ensures { read_answer result ≡ taken (token_at self.now.text.now at) }
     {
-        match tokenizer::next_token(self.text, at) {
+        match tokenizer::read_token(self.text, at) {
             Ok(token) => Ok(token),
             Err(refusal) => Err(self.make_error(refusal, at)),
         }
@@ -301,6 +302,17 @@ impl<'a> Parser<'a> {
 
 // ---- numbers
 
+// The number that a sign and a magnitude are. Of -0 it is 0; 2^63 is its own negation, and -2^63 as an `i64`.
+fn signed(negative: bool, magnitude: u64) -> i64
+    requires { magnitude ≤ limit negative }
+    ensures { result ≡ signed negative magnitude }
+{
+    if negative {
+        return magnitude.wrapping_neg().cast_signed();
+    }
+    magnitude.cast_signed()
+}
+
 impl<'a> Parser<'a> {
     // A number of signed 64 bits is needed.
     #[tactic(auto, using(crate::proofs::Rules::i64_steps))]
@@ -308,11 +320,11 @@ impl<'a> Parser<'a> {
         ensures { read_answer result ≡ integer_of (need self.now.text.now integer at) }
     {
         let token = self.next_token(at)?;
-        let TokenKind::Integer(value) = token.kind else {
+        let TokenKind::Integer(negative, magnitude) = token.kind else {
             return Err(make_error_expected(token));
         };
         Ok(ReadValue {
-            value,
+            value: signed(negative, magnitude),
             next: token.next,
         })
     }

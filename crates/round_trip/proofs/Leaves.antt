@@ -22,7 +22,6 @@ use Rattle.display_length.specs.Display.{microsecond_text, unit_text, interval_t
 use Rattle.display_length.specs.declared.words.Spelling.{Spelling}
 use Rattle.display_length.specs.declared.words.Spelling.TheVariants.{Us, Micro}
 use Rattle.round_trip.specs.Plain.{is_plain_text}
-use Rattle.tokenizer.proofs.Numbers.{abs_signed, below_signed}
 use Rattle.round_trip.proofs.Tokens.{Stop, mark_stop, comma_stop, is_listed_word, is_word_of, WordOf, word_is}
 use Rattle.round_trip.proofs.PlainRows.{ShapeRow, bare_label, no_zone}
 use Rattle.round_trip.proofs.Pieces.{Look, look-here, look-space, need-lparen, need-rparen, need-comma, rparen-stands, comma-stands, stands-is, closes, Found, found_word, need-found, NumberRead, number_read, minus-read, Quoted, need-quoted, double-read}
@@ -156,7 +155,7 @@ module _ (text : List ℕ) where
           → NumberRead text 128 127 from scale_of s (41 ∷ rest)
       go true e k =
           let h : s < 128 = ltb-true s 128 e in
-          minus-read text 128 127 scale_of (128 - s) from p s (41 ∷ rest) (omega arith) (omega arith) (omega arith) (rw (below_signed (128 - s) (omega arith), abs_signed true (128 - s)) (omega arith)) (mark_stop rest) k
+          minus-read text 128 127 scale_of (128 - s) from p s (41 ∷ rest) (omega arith) (omega arith) (omega arith) (mark_stop rest) k
       go false e k =
           let h : 128 ≤ s = ltb-false s 128 e in
           number_read text 128 127 scale_of (s - 128) from p s (41 ∷ rest) (omega arith) (omega arith) (omega arith) (mark_stop rest) k

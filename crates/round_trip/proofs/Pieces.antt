@@ -1,6 +1,6 @@
 -- Printed pieces at a place of a text, read back: marks, words, numbers and quoted strings.
 use mathlib.Core.Path.{◌≡◌, refl, sym, ap, ◌∙◌}
-use mathlib.Core.Bool.{true}
+use mathlib.Core.Bool.{true, false}
 use mathlib.Core.List.{List, [], ◌∷◌, ◌++◌, append_assoc}
 use mathlib.Core.Option.{some}
 use Prim.Native.Nat.{ℕ, suc, ◌+◌, ◌-◌, ◌^◌, ◌≤◌, ◌<◌}
@@ -9,10 +9,9 @@ use lib.ListN.{length, drop, length-append, length-drop}
 use lib.Seq.{take-append_seam}
 use lib.Dec.{T, eqb}
 use borrow.Author.Tests.{le-leb}
-use lib.IntN.{pos}
 use Rattle.tokenizer.specs.Answer.{Out, done}
 use Rattle.tokenizer.specs.Words.{words, find}
-use Rattle.tokenizer.specs.Token.{Standing, token, sort_of, value_of, lparen, rparen, comma, colon, integer, double_quoted, single_quoted, string_token, token_from, token_at, signed}
+use Rattle.tokenizer.specs.Token.{Standing, token, sort_of, value_of, lparen, rparen, comma, colon, integer, double_quoted, single_quoted, string_token, token_from, token_at}
 use Rattle.tokenizer.specs.declared.TokenKind.{TokenKind}
 use Rattle.tokenizer.specs.declared.TokenKind.TheVariants.{LParen, RParen, Comma, Colon, Integer, DoubleQuotedString, SingleQuotedString}
 use Rattle.tokenizer.proofs.Basics.{skip, skip_word}
@@ -23,7 +22,6 @@ use Rattle.parser.proofs.TokenLaws.{here}
 use Rattle.writer.specs.Digits.{digits}
 use Rattle.display_length.specs.Display.{quoted}
 use Rattle.round_trip.specs.Plain.{is_plain_text}
-use Rattle.tokenizer.proofs.Numbers.{abs_signed, below_signed}
 use Rattle.round_trip.proofs.Tokens.{Stop, WordOf, listed_token, number_token_lem, minus_token, until_double, until_single, escaped_plain}
 
 module _ (text : List ℕ) where
@@ -122,26 +120,26 @@ module _ (text : List ℕ) where
     pub value : keep token.kind ≡ v
     pub after : drop token.next text ≡ s
 
-  pub number_read : (least most : ℕ) (keep : Out TokenKind → ℕ) (n at p v : ℕ) (s : List ℕ) → n ≤ most → n < 2 ^ 63 → keep (done (Integer (pos n))) ≡ v → Stop s
+  pub number_read : (least most : ℕ) (keep : Out TokenKind → ℕ) (n at p v : ℕ) (s : List ℕ) → n ≤ most → n < 2 ^ 63 → keep (done (Integer false n)) ≡ v → Stop s
       → Look at p (digits n ++ s) → NumberRead least most at keep v s
   unfolding number_in
   number_read least most keep n at p v s h small e st k =
-      let t : token_at text at ≡ token (done (Integer (pos n))) p (length (digits n)) = k.token ∙ number_token_lem p n s small st in
+      let t : token_at text at ≡ token (done (Integer false n)) p (length (digits n)) = k.token ∙ number_token_lem p n s small st in
       record {
-        token = token (done (Integer (pos n))) p (length (digits n));
-        reads = rw (here text integer at (token (done (Integer (pos n))) p (length (digits n))) (sym t) refl, le-leb n most h);
+        token = token (done (Integer false n)) p (length (digits n));
+        reads = rw (here text integer at (token (done (Integer false n)) p (length (digits n))) (sym t) refl, le-leb n most h);
         value = e;
         after = skip_word p text (digits n) s k.on;
       }
 
-  pub minus-read : (least most : ℕ) (keep : Out TokenKind → ℕ) (n at p v : ℕ) (s : List ℕ) → 1 ≤ n → n ≤ least → n ≤ 2 ^ 63 → keep (done (Integer (signed true n))) ≡ v → Stop s
+  pub minus-read : (least most : ℕ) (keep : Out TokenKind → ℕ) (n at p v : ℕ) (s : List ℕ) → n ≤ least → n ≤ 2 ^ 63 → keep (done (Integer true n)) ≡ v → Stop s
       → Look at p (45 ∷ (digits n ++ s)) → NumberRead least most at keep v s
   unfolding number_in
-  minus-read least most keep n at p v s o h small e st k =
-      let t : token_at text at ≡ token (done (Integer (signed true n))) p (suc (length (digits n))) = k.token ∙ minus_token p n s small st in
+  minus-read least most keep n at p v s h small e st k =
+      let t : token_at text at ≡ token (done (Integer true n)) p (suc (length (digits n))) = k.token ∙ minus_token p n s small st in
       record {
-        token = token (done (Integer (signed true n))) p (suc (length (digits n)));
-        reads = rw (here text integer at (token (done (Integer (signed true n))) p (suc (length (digits n)))) (sym t) refl, below_signed n o, abs_signed true n, le-leb n least h);
+        token = token (done (Integer true n)) p (suc (length (digits n)));
+        reads = rw (here text integer at (token (done (Integer true n)) p (suc (length (digits n)))) (sym t) refl, le-leb n least h);
         value = e;
         after = skip_word p text (45 ∷ digits n) s k.on;
       }

@@ -8,11 +8,10 @@ use native.Mathlib.Omega.{arith}
 use lib.ListN.{length}
 use lib.Dec.{T, leb, eqb}
 use borrow.Author.Tests.{le-leb}
-use lib.IntN.{pos}
 use Rattle.std.proofs.lemmas.Bool.Decides.{nat_tests}
 use Rattle.tokenizer.specs.Text.{all, same}
 use Rattle.tokenizer.specs.Words.{words, find}
-use Rattle.tokenizer.specs.Token.{token, sort_of, value_of, type_word, is_separator, word_of, is_digit, word_kind, until_quote, token_from, signed}
+use Rattle.tokenizer.specs.Token.{token, sort_of, value_of, type_word, is_separator, word_of, is_digit, word_kind, until_quote, token_from}
 use Rattle.tokenizer.specs.Answer.{done}
 use Rattle.tokenizer.specs.declared.TokenKind.TheVariants.{Integer}
 use Rattle.tokenizer.proofs.Basics.{and_l, and_r, is_true, is_false}
@@ -79,7 +78,7 @@ digits_in_word : (w : List ℕ) → T (all is_digit w) → T (all in_word w)
 digits_in_word [] h = tt
 digits_in_word (c ∷ w) h = let d = digit_starts c (grind (arith, nat_tests)) in let ds = digits_in_word w (grind (arith, nat_tests)) in grind (arith, nat_tests)
 
-spelled_token : (at n : ℕ) (w s : List ℕ) → Spelled n w → n < 2 ^ 63 → Stop s → token_from at (w ++ s) ≡ token (done (Integer (pos n))) at (length w)
+spelled_token : (at n : ℕ) (w s : List ℕ) → Spelled n w → n < 2 ^ 63 → Stop s → token_from at (w ++ s) ≡ token (done (Integer false n)) at (length w)
 unfolding word_kind
 spelled_token at n [] s h k l = absurd (omega (arith, h.some))
 spelled_token at n (c ∷ w) s h k l =
@@ -89,17 +88,17 @@ spelled_token at n (c ∷ w) s h k l =
     word_token_lem at c w s q.0 (digits_in_word w ds) l
     ∙ rw (q.2, is_true (is_digit c) d, is_true (all is_digit w) ds, h.value, le-leb n (2 ^ 63 - 1) (omega arith))
 
-pub number_token_lem : (at n : ℕ) (s : List ℕ) → n < 2 ^ 63 → Stop s → token_from at (digits n ++ s) ≡ token (done (Integer (pos n))) at (length (digits n))
+pub number_token_lem : (at n : ℕ) (s : List ℕ) → n < 2 ^ 63 → Stop s → token_from at (digits n ++ s) ≡ token (done (Integer false n)) at (length (digits n))
 number_token_lem at n s h k = spelled_token at n (digits n) s (digits_spell n) h k
 
-minus_spelled : (at n : ℕ) (w s : List ℕ) → Spelled n w → n ≤ 2 ^ 63 → Stop s → token_from at (45 ∷ (w ++ s)) ≡ token (done (Integer (signed true n))) at (suc (length w))
+minus_spelled : (at n : ℕ) (w s : List ℕ) → Spelled n w → n ≤ 2 ^ 63 → Stop s → token_from at (45 ∷ (w ++ s)) ≡ token (done (Integer true n)) at (suc (length w))
 unfolding word_kind
 minus_spelled at n [] s h k l = absurd (omega (arith, h.some))
 minus_spelled at n (c ∷ w) s h k l =
     word_token_lem at 45 (c ∷ w) s (unfold is_separator in tt) (digits_in_word (c ∷ w) h.digits) l
     ∙ rw (is_true (all is_digit (c ∷ w)) h.digits, h.value, le-leb n (2 ^ 63) k)
 
-pub minus_token : (at n : ℕ) (s : List ℕ) → n ≤ 2 ^ 63 → Stop s → token_from at (45 ∷ (digits n ++ s)) ≡ token (done (Integer (signed true n))) at (suc (length (digits n)))
+pub minus_token : (at n : ℕ) (s : List ℕ) → n ≤ 2 ^ 63 → Stop s → token_from at (45 ∷ (digits n ++ s)) ≡ token (done (Integer true n)) at (suc (length (digits n)))
 minus_token at n s h k = minus_spelled at n (digits n) s (digits_spell n) h k
 
 -- ---- quoted strings of plain bytes

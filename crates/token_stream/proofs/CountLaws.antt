@@ -1,17 +1,14 @@
--- Tokens that are read one behind another: the place behind each, and what the loop that counts them meets.
+-- Tokens that are read one behind another: what the loop that counts them meets.
 use mathlib.Core.Path.{◌≡◌, refl, sym, ap, ◌∙◌}
 use mathlib.Core.Bool.{Bool, true, false}
 use mathlib.Core.List.{List, [], ◌∷◌}
 use Prim.Native.Nat.{ℕ, zero, suc, ◌+◌, ◌-◌, ◌≤◌, ◌<◌}
-use lib.Dec.{T}
 use native.Mathlib.Omega.{arith}
 use lib.ListN.{length}
-use Rattle.tokenizer.specs.Answer.{Refusal, Out, refused, done, refuse}
-use Rattle.tokenizer.specs.Places.{after_spaces, word_end}
+use Rattle.tokenizer.specs.Answer.{Refusal, Out, refused, done}
 use Rattle.tokenizer.specs.Token.{Standing, no_token, sort_of, value_of, token_at}
 use Rattle.tokenizer.specs.declared.TokenKind.{TokenKind}
-use Rattle.tokenizer.proofs.Marks.{placeless, token_placeless, bounds}
-use Rattle.tokenizer.proofs.Places.{refused_next}
+use Rattle.tokenizer.proofs.Marks.{bounds}
 use Rattle.token_stream.specs.Count.{is_read, tokens_from, place_behind, count_tokens}
 
 -- a token stands there
@@ -21,21 +18,6 @@ is_done (done a) = true
 
 read_done : (k : Out TokenKind) → is_read k ≡ is_done k
 read_done k = grind arith
-
-refused_is : (k : Out TokenKind) → T (placeless k) → is_done k ≡ false → k ≡ refuse (value_of k)
-refused_is k h d = grind arith
-
--- ---- the place behind what is refused
-
-module _ (text : List ℕ) (at : ℕ) where
-  pub next-word : (token_at text at).kind ≡ refuse 8 → (token_at text at).next ≡ word_end text (after_spaces text at)
-  unfolding word_end
-  next-word e = (refused_next text at 8 e).0 refl
-
-  pub next-refused : is_done (token_at text at).kind ≡ false → (value_of (token_at text at).kind ≡ 8 → ⊥) → (token_at text at).next ≡ after_spaces text at
-  next-refused d v = (refused_next text at (value_of (token_at text at).kind) (refused_is (token_at text at).kind (token_placeless text at) d)).1 v
-
-pub ruleset behind_steps = (next-word, next-refused)
 
 -- ---- one turn of the loop
 

@@ -4,12 +4,11 @@
 #![tactic(auto)]
 
 ghost use Rattle.std.specs.Prelude.{◌≡◌};
-ghost use Rattle.tokenizer.specs.Answer.{number_of, answer_of};
-ghost use Rattle.tokenizer.specs.Token.{token_or_refusal, token_at};
+ghost use Rattle.tokenizer.specs.Token.{standing_of, token_at};
 ghost use Rattle.token_stream.specs.Stream.{start_of, token_of, moved_on};
 ghost use Rattle.token_stream.specs.Count.{count_of, count_tokens};
 
-use tokenizer::{Refusal, Token, next_token, skip_spaces, word_end};
+use tokenizer::{NoToken, Refusal, Token, next_token};
 
 #[derive(Clone, Copy)]
 pub struct Tokenizer<'a> {
@@ -25,9 +24,9 @@ impl<'a> Tokenizer<'a> {
         Tokenizer { text, at: 0 }
     }
 
-    // The token at the place.
-    pub fn peek(self) -> Result<Token, Refusal>
-        ensures { answer_of number_of result ≡ token_of self.entry }
+    // The token at the place, or what is none, and where it stands.
+    pub fn peek(self) -> Result<Token, NoToken>
+        ensures { standing_of result ≡ token_of self.entry }
     {
         next_token(self.text, self.at)
     }
@@ -36,44 +35,37 @@ impl<'a> Tokenizer<'a> {
     pub fn advance(self) -> Tokenizer<'a>
         ensures { result ≡ moved_on self.entry }
     {
-        let token = self.peek();
         Tokenizer {
             text: self.text,
-            at: place_behind(self.text, self.at, token),
+            at: place_behind(self.peek()),
         }
     }
 
-    // The token at the place, and the place moves behind it.
-    pub fn next(&mut self) -> Result<Token, Refusal>
-        ensures token { answer_of number_of result ≡ token_of self.old }
+    // The token at the place, or what is none, and the place moves behind it.
+    pub fn next(&mut self) -> Result<Token, NoToken>
+        ensures token { standing_of result ≡ token_of self.old }
         ensures place { self.new ≡ moved_on self.old }
     {
         let token = self.peek();
-        self.at = place_behind(self.text, self.at, token);
+        self.at = place_behind(token);
         token
     }
 }
 
-// The place behind the token that is read at a place, or behind a word that is none; else where it would begin.
-#[tactic(auto, using(crate::proofs::CountLaws::behind_steps))]
-fn place_behind(text: &[u8], at: usize, token: Result<Token, Refusal>) -> usize
-    requires { answer_of number_of token ≡ token_or_refusal (token_at text.now at) }
-    ensures { result ≡ (token_at text.now at).next }
+// The place behind a token, or behind what is none.
+fn place_behind(token: Result<Token, NoToken>) -> usize
+    ensures { result ≡ (standing_of token).next }
 {
-    let start = skip_spaces(text, at);
     match token {
         Ok(token) => token.next,
-        Err(refusal) => match refusal {
-            Refusal::UnknownWord => word_end(text, start),
-            _ => start,
-        },
+        Err(none) => none.next,
     }
 }
 
 // The token at or behind a place, by a tokenizer that stands there: what `tokenizer::next_token` answers. What is public
 // stays.
-pub fn token_from(text: &[u8], at: usize) -> Result<Token, Refusal>
-    ensures { answer_of number_of result ≡ token_or_refusal (token_at text.now at) }
+pub fn token_from(text: &[u8], at: usize) -> Result<Token, NoToken>
+    ensures { standing_of result ≡ token_at text.now at }
 {
     let tokens = Tokenizer { text, at };
     tokens.peek()
@@ -100,7 +92,12 @@ pub fn count_tokens(text: &[u8]) -> TokenCount
                 at = token.next;
                 tokens += 1;
             }
-            Err(refusal) => return TokenCount { tokens, refusal },
+            Err(none) => {
+                return TokenCount {
+                    tokens,
+                    refusal: none.refusal,
+                };
+            }
         }
     }
 }

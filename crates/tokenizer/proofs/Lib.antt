@@ -9,6 +9,7 @@ pub mod Marks
 pub mod Places
 pub mod Walks
 pub mod WordTokens
+pub mod Stands
 pub mod Utf8Laws
 pub mod RustUtf8
 pub mod Rules

@@ -16,13 +16,14 @@ use Rattle.std.proofs.lemmas.Bool.Decides.{nat_tests}
 use Rattle.tokenizer.specs.Answer.{Out, refused, done, refuse}
 use Rattle.tokenizer.specs.Text.{all, same}
 use Rattle.tokenizer.specs.Words.{Listed, words, find}
-use Rattle.tokenizer.specs.Token.{lparen, rparen, comma, colon, integer, double_quoted, single_quoted, type_word, time_unit, interval_unit, union_mode, map_sorted, nullability, no_token, sort_of, value_of, is_string, place_of, Standing, token, is_separator, word_of, is_digit, number_from, is_number, signed, number_kind, word_kind, until_quote, string_token, token_from, token_at}
+use Rattle.tokenizer.specs.Token.{lparen, rparen, comma, colon, integer, double_quoted, single_quoted, type_word, time_unit, interval_unit, union_mode, map_sorted, nullability, no_token, sort_of, value_of, is_negative, is_string, place_of, Standing, token, is_separator, word_of, is_digit, number_from, is_number, number_kind, word_kind, until_quote, string_token, token_from, token_at}
 use Rattle.tokenizer.specs.Places.{after_spaces}
 use Rattle.tokenizer.specs.declared.TokenKind.{TokenKind}
 use Rattle.tokenizer.specs.declared.TokenKind.TheVariants.{LParen, RParen, Comma, Colon, Integer, DoubleQuotedString, SingleQuotedString}
 use Rattle.tokenizer.proofs.Basics.{and_l, and_r, of_true}
 use Rattle.tokenizer.proofs.Listed.{same_path}
-use Rattle.tokenizer.proofs.Numbers.{limit, limit_most, abs_signed}
+use Rattle.tokenizer.specs.Internal.Digits.{limit}
+use Rattle.tokenizer.proofs.Numbers.{limit_most}
 use Rattle.tokenizer.proofs.Runs.{Within, until_within, Skipped, spaces-end, word_part}
 use Rattle.tokenizer.proofs.Tokens.{token_end, here, token-34, token-39}
 
@@ -125,19 +126,17 @@ module _ (q : List ℕ → Out TokenKind → Bool) where
       (and_l (q l.word (done l.kind)) (all_listed q ls) t))
       (λ e. find-holds w ls (and_r (q l.word (done l.kind)) (all_listed q ls) t) r)
 
-  module _ (number : (w : List ℕ) (negative : Bool) (v : ℕ) → v ≤ 9223372036854775808 → T (q w (done (Integer (signed negative v)))))
+  module _ (number : (w : List ℕ) (negative : Bool) (v : ℕ) → v ≤ limit negative → T (q w (done (Integer negative v))))
       (none : (w : List ℕ) → T (q w (refuse 8))) (listed : T (all_listed q words)) where
-    most : (negative : Bool) (digits : List ℕ) → is_number negative digits ≡ true → number_from 0 digits ≤ 9223372036854775808
+    most : (negative : Bool) (digits : List ℕ) → is_number negative digits ≡ true → number_from 0 digits ≤ limit negative
     most negative [] e = absurd (let z : ◌≡◌ {A = ℕ} 0 1 = ap (λ (b : Bool). if b then 1 else 0) e in omega arith)
     most negative (d ∷ ds) e =
-        let m = limit_most negative in
-        let l = leb→le (number_from 0 (d ∷ ds)) (limit negative)
-        (and_r (all is_digit (d ∷ ds)) (leb (number_from 0 (d ∷ ds)) (limit negative)) (of_true (is_number negative (d ∷ ds)) e)) in
-        omega arith
+        leb→le (number_from 0 (d ∷ ds)) (limit negative)
+        (and_r (all is_digit (d ∷ ds)) (leb (number_from 0 (d ∷ ds)) (limit negative)) (of_true (is_number negative (d ∷ ds)) e))
 
     number-holds : (w : List ℕ) (negative : Bool) (digits : List ℕ) → T (q w (number_kind negative digits))
     number-holds w negative digits =
-        choice (λ (k : Out TokenKind). T (q w k)) (is_number negative digits) (done (Integer (signed negative (number_from 0 digits)))) (refuse 8)
+        choice (λ (k : Out TokenKind). T (q w k)) (is_number negative digits) (done (Integer negative (number_from 0 digits))) (refuse 8)
         (λ e. number w negative (number_from 0 digits) (most negative digits e))
         (λ e. none w)
 
@@ -354,7 +353,30 @@ word_values : (c : ℕ) (w : List ℕ) → T (in_range (sort_of (word_kind (c �
 unfolding words
 word_values =
     word_holds (λ w k. in_range (sort_of k) (value_of k))
-    (λ w negative v h. rw (abs_signed negative v) (of_true (leb v 9223372036854775808) (le-leb v 9223372036854775808 h))) (λ w. tt) tt
+    (λ w negative v h. let m = limit_most negative in of_true (leb v 9223372036854775808) (le-leb v 9223372036854775808 (omega arith))) (λ w. tt) tt
+
+-- a number's magnitude is one that its sign takes
+abbrev pub in_sign : Out TokenKind → Bool
+in_sign k = if eqb (sort_of k) integer then leb (value_of k) (limit (is_negative k)) else true
+
+string_sign : (k : TokenKind) (p : ℕ) (o : Option ℕ) → T (in_sign (done k)) → T (in_sign (string_token k p o).kind)
+string_sign k p o t = grind arith
+
+word_sign : (c : ℕ) (w : List ℕ) → T (in_sign (word_kind (c ∷ w)))
+unfolding words
+word_sign = word_holds (λ w k. in_sign k) (λ w negative v h. of_true (leb v (limit negative)) (le-leb v (limit negative) h)) (λ w. tt) tt
+
+pub sign_holds : (text : List ℕ) (at : ℕ) → T (in_sign (token_at text at).kind)
+sign_holds text at =
+    let p = after_spaces text at in
+    by_cases text at (λ t. T (in_sign t.kind))
+    (record {
+      over = λ h. tt;
+      mark = λ m t h e. marks (λ (x : ℕ). T (in_sign (mark_kind x))) tt tt tt tt m t;
+      double = λ h e. string_sign DoubleQuotedString p (until_quote 34 false (drop (p + 1) text)) tt;
+      single = λ h e. string_sign SingleQuotedString p (until_quote 39 false (drop (p + 1) text)) tt;
+      word = λ h e. subst (λ (w : List ℕ). T (in_sign (word_kind w))) (sym (word_first text p h e)) (word_sign (get_or text p 0) (word_of (drop (suc p) text)));
+    })
 
 module _ (text : List ℕ) (at : ℕ) where
   pub values : T (in_range (sort_of (token_at text at).kind) (value_of (token_at text at).kind))

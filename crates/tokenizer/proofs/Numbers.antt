@@ -1,32 +1,20 @@
--- Numbers: what std's `parse` reads is document 01's number of a sign and digits.
-use Rattle.std.specs.Prelude.{if◌then◌else◌, nat_abs}
-use mathlib.Core.Path.{◌≡◌, refl, sym, ap, ◌∙◌, subst}
-use mathlib.Core.Bool.{Bool, true, false, ◌&&◌, ◌||◌}
+-- Numbers: digit by digit, and by the first byte of a word.
+use Rattle.std.specs.Prelude.{nat_abs}
+use mathlib.Core.Path.{◌≡◌, refl, sym, ap}
+use mathlib.Core.Bool.{Bool, true, false, ◌&&◌}
 use mathlib.Core.List.{List, [], ◌∷◌}
-use Prim.Native.Nat.{ℕ, zero, suc, ◌-◌, ◌≤◌, ◌<◌, ◌^◌}
+use Prim.Native.Nat.{ℕ, zero, suc, ◌+◌, ◌*◌, ◌-◌, ◌≤◌, ◌<◌}
 use native.Mathlib.Omega.{arith}
-use lib.ListN.{length, get_or}
-use lib.IntN.{ℤ}
-use lib.Dec.{T, leb, eqb, leb→le}
-use borrow.Author.Rules.{rules}
-use borrow.Author.Tests.{eqb-true, eqb-false}
-use mir.Syntax.{w64}
-use mir.Val.{to_z, of_z}
-use Rattle.std.specs.Int.RustNames.{FitsSigned}
-use Rattle.std.proofs.Common.{to_z-of_z}
-use Rattle.std.specs.declared.result.Result.TheVariants.{Ok, Err}
-use Rattle.std.specs.declared.num.ParseIntError.{ParseIntError}
-use Rattle.std.specs.Str.{IsAscii, IsUtf8}
-use Rattle.std.specs.Str.Parse.{ParsesSigned}
+use native.Mathlib.Numerals.{add-one}
+use lib.ListN.{length, take, drop, get_or, drop_of_length-le}
+use lib.Seq.{drop-cons, take_all}
+use lib.Dec.{T, leb, leb→le}
+use borrow.Author.Tests.{lt-leb, le-leb}
 use Rattle.std.proofs.lemmas.Bool.Decides.{nat_tests}
-use Rattle.std.proofs.lemmas.Str.{IsUtf8-from_ascii}
-use Rattle.std.proofs.lemmas.Str.Parse.{IsNumeralModel, numerals_by_fold, parse_signed_minus, parse_signed_plain}
-use Rattle.tokenizer.specs.Answer.{Out, done, refuse}
+use Rattle.tokenizer.specs.Answer.{done, refuse}
 use Rattle.tokenizer.specs.Text.{all}
-use Rattle.tokenizer.specs.Words.{words, find}
-use Rattle.tokenizer.specs.Token.{is_digit, number_from, is_number, signed, is_below_zero, number_kind, word_kind}
-use Rattle.tokenizer.specs.Internal.Digits.{begins_number}
-use Rattle.tokenizer.specs.declared.TokenKind.{TokenKind}
+use Rattle.tokenizer.specs.Token.{is_digit, number_from, signed, is_below_zero, number_kind, word_kind}
+use Rattle.tokenizer.specs.Internal.Digits.{begins_number, limit, kind_from}
 use Rattle.tokenizer.specs.declared.TokenKind.TheVariants.{Integer}
 use Rattle.tokenizer.proofs.Basics.{and_l, and_r, of_true}
 
@@ -37,10 +25,6 @@ digit_least b e = leb→le 48 b (and_l (leb 48 b) (leb b 57) (of_true (leb 48 b 
 pub digit_most : (b : ℕ) → is_digit b ≡ true → b ≤ 57
 unfolding is_digit
 digit_most b e = leb→le b 57 (and_r (leb 48 b) (leb b 57) (of_true (leb 48 b && leb b 57) e))
-
--- the greatest magnitude
-abbrev pub limit : Bool → ℕ
-limit negative = if negative then 2 ^ 63 else (2 ^ 63 - 1)
 
 pub limit_most : (negative : Bool) → limit negative ≤ 9223372036854775808
 limit_most negative = grind arith
@@ -54,84 +38,73 @@ pub below_signed : (n : ℕ) → 1 ≤ n → is_below_zero (signed true n) ≡ t
 below_signed zero h = absurd (omega arith)
 below_signed (suc n) h = refl
 
--- document 01's digits and their number are std's
-own : IsNumeralModel (λ ds. all is_digit ds ≡ true) (number_from 0)
-unfolding is_digit number_from
-own = numerals_by_fold _ (search rules) number_from (search rules)
+-- ---- digit by digit
 
-module _ (negative : Bool) where
-  pub kind_ok : (ds : List ℕ) (n : ℤ) → all is_digit ds ≡ true → 0 < length ds → number_from 0 ds ≤ limit negative → n ≡ signed negative (number_from 0 ds)
-      → done (Integer n) ≡ number_kind negative ds
-  kind_ok ds n a l v e = grind (arith, nat_tests)
+-- more digits make no smaller number
+pub grows : (v : ℕ) (ds : List ℕ) → v ≤ number_from v ds
+unfolding number_from
+grows v [] = omega arith
+grows v (d ∷ ds) = omega (arith, grows (v * 10 + (d - 48)) ds)
 
-  told : (ds : List ℕ) → is_number negative ds ≡ true → (all is_digit ds ≡ true) × (0 < length ds) × (number_from 0 ds ≤ limit negative)
-  told ds e = grind (arith, nat_tests)
+and_false : (a : Bool) → (a && false) ≡ false
+and_false true = refl
+and_false false = refl
 
-  pub kind_err : (ds : List ℕ) → ((all is_digit ds ≡ true) × (0 < length ds) × (number_from 0 ds ≤ limit negative) → ⊥) → refuse 8 ≡ number_kind negative ds
-  kind_err ds f = grind (arith, nat_tests, told ds)
+pub kind_start : (negative : Bool) (digits : List ℕ) → 0 < length digits → number_kind negative digits ≡ kind_from negative 0 digits
+unfolding kind_from
+kind_start negative [] h = absurd (omega arith)
+kind_start negative (d ∷ ds) h = refl
+
+pub kind_none : (negative : Bool) (digits : List ℕ) → length digits ≤ 0 → refuse 8 ≡ number_kind negative digits
+kind_none negative [] h = refl
+kind_none negative (d ∷ ds) h = absurd (omega arith)
+
+module _ (negative : Bool) (v : ℕ) (digits : List ℕ) (i : ℕ) where
+  pub kind-out : length digits ≤ i → kind_from negative v (drop i digits) ≡ kind_from negative v []
+  kind-out h = rw (drop_of_length-le digits h)
+
+  pub kind-go : i < length digits → is_digit (get_or digits i 0) ≡ true
+      → kind_from negative v (drop i digits) ≡ kind_from negative (v * 10 + (get_or digits i 0 - 48)) (drop (i + 1) digits)
+  unfolding kind_from number_from
+  kind-go h e = rw (drop-cons digits i 0 h, e, add-one i)
+
+  pub kind-other : i < length digits → is_digit (get_or digits i 0) ≡ false → kind_from negative v (drop i digits) ≡ refuse 8
+  unfolding kind_from
+  kind-other h e = rw (drop-cons digits i 0 h, e)
+
+  pub kind-large : i < length digits → 922337203685477580 < v → kind_from negative v (drop i digits) ≡ refuse 8
+  unfolding kind_from number_from
+  kind-large h l =
+      let c = get_or digits i 0 in
+      let rest = drop (suc i) digits in
+      let g = grows (v * 10 + (c - 48)) rest in
+      let m = limit_most negative in
+      let f : leb (number_from (v * 10 + (c - 48)) rest) (limit negative) ≡ false = lt-leb (number_from (v * 10 + (c - 48)) rest) (limit negative) (omega arith) in
+      rw (drop-cons digits i 0 h, f, and_false (all is_digit (c ∷ rest)))
+
+module _ (negative : Bool) (v : ℕ) where
+  pub kind-beyond : limit negative < v → refuse 8 ≡ kind_from negative v []
+  unfolding kind_from number_from
+  kind-beyond h = rw (lt-leb v (limit negative) h)
+
+  pub kind-fits : v ≤ limit negative → done (Integer negative v) ≡ kind_from negative v []
+  unfolding kind_from number_from
+  kind-fits h = rw (le-leb v (limit negative) h)
 
 -- ---- by the first byte
 
-digits_ascii : (ds : List ℕ) → all is_digit ds ≡ true → IsAscii ds
-digits_ascii [] a k = omega arith
-digits_ascii (d ∷ ds) a zero = let l = digit_most d in grind (arith, nat_tests)
-digits_ascii (d ∷ ds) a (suc k) = let r = digits_ascii ds in grind (arith, nat_tests)
+-- a word that begins as a number does has a first byte
+pub first_there : (w : List ℕ) → T (begins_number w) → 0 < length w
+first_there [] t = absurd t
+first_there (c ∷ w) t = omega arith
 
-minus_ascii : (ds : List ℕ) → all is_digit ds ≡ true → IsAscii (45 ∷ ds)
-minus_ascii ds a zero = omega arith
-minus_ascii ds a (suc k) = digits_ascii ds a k
-
--- a choice by a test
-then_else : {X : Type 0} (Q : X → Type 0) (b : Bool) (x y : X) → (b ≡ true → Q x) → (b ≡ false → Q y) → Q (if b then x else y)
-then_else Q true x y f g = f refl
-then_else Q false x y f g = g refl
-
--- a word that begins as a number does is one with a minus sign, or one without
-pub by_sign : (P : List ℕ → Out TokenKind → Type 0) (w : List ℕ) → T (begins_number w)
-    → ((ds : List ℕ) → P (45 ∷ ds) (number_kind true ds))
-    → ((get_or w 0 0 ≡ 45 → ⊥) → is_digit (get_or w 0 0) ≡ true → P w (number_kind false w))
-    → P w (word_kind w)
+-- it is one with a minus sign, or one without
+pub word_minus : (w : List ℕ) → T (begins_number w) → get_or w 0 0 ≡ 45 → word_kind w ≡ number_kind true (take (length w - 1) (drop 1 w))
 unfolding word_kind
-by_sign P [] t f g = absurd t
-by_sign P (c ∷ w) t f g =
-    then_else (P (c ∷ w)) (eqb c 45) (number_kind true w) (if is_digit c then number_kind false (c ∷ w) else find (c ∷ w) words)
-    (λ e. subst (λ (x : ℕ). P (x ∷ w) (number_kind true w)) (sym (eqb-true c 45 e)) (f w))
-    (λ e. let d = digit (is_digit c) (rw e at t) in
-    then_else (P (c ∷ w)) (is_digit c) (number_kind false (c ∷ w)) (find (c ∷ w) words)
-    (λ h. g (eqb-false c 45 e) d)
-    (λ h. absurd (subst T (sym d ∙ h) tt)))
-  where
-    digit : (b : Bool) → T (false || b) → b ≡ true
-    digit true t = refl
-    digit false t = absurd t
+word_minus [] t e = absurd t
+word_minus (c ∷ w) t e = rw e (ap (number_kind true) (sym (take_all (length (c ∷ w) - 1) w (omega arith))))
 
--- a word that is no UTF-8 is no number
-pub no_utf8 : (w : List ℕ) → T (begins_number w) → (IsUtf8 w → ⊥) → refuse 8 ≡ word_kind w
-no_utf8 w t =
-    by_sign (λ v k. (IsUtf8 v → ⊥) → refuse 8 ≡ k) w t
-    (λ ds n. kind_err true ds (λ h. n (IsUtf8-from_ascii (45 ∷ ds) (minus_ascii ds h.0))))
-    (λ m d n. kind_err false w (λ h. n (IsUtf8-from_ascii w (digits_ascii w h.0))))
-
--- what is parsed is the number, and what is not is none
-module _ (w : List ℕ) (t : T (begins_number w)) where
-  parsed_of : (n : ℤ) → ParsesSigned {E = ParseIntError} w64 10 w (Ok n) → done (Integer (to_z w64 (of_z w64 n))) ≡ word_kind w
-  parsed_of n h =
-      ap (λ (m : ℤ). done (Integer m)) (to_z-of_z (subst (FitsSigned w64) (sym h.1) h.0.1))
-      ∙ by_sign (λ v k. ParsesSigned {E = ParseIntError} w64 10 v (Ok n) → done (Integer n) ≡ k) w t
-      (λ ds h. let p = parse_signed_minus own {E = ParseIntError} w64 (45 ∷ ds) (Ok n) h refl in kind_ok true ds n p.0.0 p.0.1 (omega (arith, p.0.2)) p.1)
-      (λ m d h. let p = parse_signed_plain own {E = ParseIntError} w64 w (Ok n) h (λ e. omega (arith, digit_least (get_or w 0 0) d)) m in kind_ok false w n p.0.0 p.0.1 (omega (arith, p.0.2)) p.1)
-      h
-
-  -- of which error it is nothing is asked
-  not_parsed_of : ParsesSigned {E = Unit {0}} w64 10 w (Err tt) → refuse 8 ≡ word_kind w
-  not_parsed_of =
-      by_sign (λ v k. ParsesSigned {E = Unit {0}} w64 10 v (Err tt) → refuse 8 ≡ k) w t
-      (λ ds h. kind_err true ds (λ k. parse_signed_minus own {E = Unit {0}} w64 (45 ∷ ds) (Err tt) h refl (k.0, k.1, omega (arith, k.2))))
-      (λ m d h. kind_err false w (λ k. parse_signed_plain own {E = Unit {0}} w64 w (Err tt) h (λ f. omega (arith, digit_least (get_or w 0 0) d)) m (k.0, k.1, omega (arith, k.2))))
-
-module _ (v w : List ℕ) (e : v ≡ w) (t : T (begins_number w)) where
-  pub parsed : (n : ℤ) → ParsesSigned {E = ParseIntError} w64 10 v (Ok n) → done (Integer (to_z w64 (of_z w64 n))) ≡ word_kind w
-  parsed n h = parsed_of w t n (subst (λ (u : List ℕ). ParsesSigned {E = ParseIntError} w64 10 u (Ok n)) e h)
-
-  pub not_parsed : ParsesSigned {E = Unit {0}} w64 10 v (Err tt) → refuse 8 ≡ word_kind w
-  not_parsed h = not_parsed_of w t (subst (λ (u : List ℕ). ParsesSigned {E = Unit {0}} w64 10 u (Err tt)) e h)
+pub word_plain : (w : List ℕ) → T (begins_number w) → (get_or w 0 0 ≡ 45 → ⊥) → word_kind w ≡ number_kind false w
+unfolding word_kind
+word_plain [] t n = absurd t
+word_plain (c ∷ w) t n = grind (arith, nat_tests)

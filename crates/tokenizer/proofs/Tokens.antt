@@ -3,6 +3,8 @@ use mathlib.Core.Path.{◌≡◌, refl, sym, ◌∙◌}
 use mathlib.Core.Bool.{Bool, true, false}
 use mathlib.Core.List.{List, [], ◌∷◌}
 use Prim.Native.Nat.{ℕ, suc, ◌+◌, ◌≤◌, ◌<◌}
+use native.Mathlib.Omega.{arith}
+use native.Mathlib.Decide.{dec_lt}
 use native.Mathlib.Numerals.{add-one}
 use lib.ListN.{length, drop, get_or, drop_of_length-le}
 use lib.Seq.{drop-cons}
@@ -12,6 +14,7 @@ use Rattle.tokenizer.specs.Token.{token, until_quote, string_token, token_from, 
 use Rattle.tokenizer.specs.Places.{spaces_from, after_spaces}
 use Rattle.tokenizer.specs.declared.TokenKind.TheVariants.{DoubleQuotedString, SingleQuotedString}
 use Rattle.tokenizer.proofs.Basics.{skip}
+use Rattle.tokenizer.proofs.Runs.{spaces-out, spaces-stop, spaces-end}
 
 -- ---- spaces
 
@@ -31,6 +34,14 @@ module _ (text : List ℕ) where
   pub token-spaces : (at : ℕ) → token_at text at ≡ token_at text (after_spaces text at)
   unfolding after_spaces token_at
   token-spaces at = from-space (drop at text) at refl
+
+  -- behind the spaces no more are skipped
+  pub spaces-twice : (at : ℕ) → after_spaces text (after_spaces text at) ≡ after_spaces text at
+  spaces-twice at =
+      elim (dec_lt (after_spaces text at) (length text)) [
+        | yes h ↦ spaces-stop text (after_spaces text at) h ((spaces-end text at).no_space h)
+        | no h ↦ spaces-out text (after_spaces text at) (omega arith)
+      ]
 
 -- ---- the token at a place that holds no space
 

@@ -1,10 +1,13 @@
 -- Tokens (document 01, 'Tokens').
-use Rattle.std.specs.Prelude.{Bool, true, false, not, ℤ, pos, negsuc, neg_ℤ, nat_abs, ◌&&◌, ◌||◌, List, [], ◌∷◌, ℕ, zero, suc, ◌+◌, ◌*◌, ◌-◌, ◌^◌, length, drop, nat_le, nat_eq, if◌then◌else◌}
+use Rattle.std.specs.Prelude.{Bool, true, false, not, ℤ, pos, negsuc, neg_ℤ, ◌&&◌, ◌||◌, List, [], ◌∷◌, ℕ, zero, suc, ◌+◌, ◌*◌, ◌-◌, ◌^◌, length, drop, nat_le, nat_eq, if◌then◌else◌}
 use Rattle.std.proofs.Math.Option.{Option, none, some, map}
 use Rattle.tokenizer.specs.Text.{all}
-use Rattle.tokenizer.specs.Answer.{Out, refused, done, refuse, ◌>>=◌}
+use Rattle.std.specs.declared.result.Result.{Result}
+use Rattle.std.specs.declared.result.Result.TheVariants.{Ok, Err}
+use Rattle.tokenizer.specs.Answer.{Out, refused, done, refuse, ◌>>=◌, number_of}
 use Rattle.tokenizer.specs.Words.{words, find}
 use Rattle.tokenizer.specs.declared.Token.{Token}
+use Rattle.tokenizer.specs.declared.NoToken.{NoToken}
 use Rattle.tokenizer.specs.declared.TokenKind.{TokenKind}
 use Rattle.tokenizer.specs.declared.TokenKind.TheVariants.{LParen, RParen, Comma, Colon, Integer, DoubleQuotedString, SingleQuotedString, DataType, TimeUnit, IntervalUnit, UnionMode, MapSorted, Nullability, Field, Some, None, X}
 
@@ -71,7 +74,7 @@ sort_of (done LParen) = lparen
 sort_of (done RParen) = rparen
 sort_of (done Comma) = comma
 sort_of (done Colon) = colon
-sort_of (done (Integer n)) = integer
+sort_of (done (Integer negative magnitude)) = integer
 sort_of (done DoubleQuotedString) = double_quoted
 sort_of (done SingleQuotedString) = single_quoted
 sort_of (done (DataType k)) = type_word
@@ -92,7 +95,7 @@ value_of (done LParen) = 0
 value_of (done RParen) = 0
 value_of (done Comma) = 0
 value_of (done Colon) = 0
-value_of (done (Integer n)) = nat_abs n
+value_of (done (Integer negative magnitude)) = magnitude
 value_of (done DoubleQuotedString) = 0
 value_of (done SingleQuotedString) = 0
 value_of (done (DataType k)) = k
@@ -106,18 +109,14 @@ value_of (done Some) = 0
 value_of (done None) = 0
 value_of (done X) = 0
 
-abbrev pub is_below_zero : ℤ → Bool
-is_below_zero (pos n) = false
-is_below_zero (negsuc n) = true
-
--- A number below 0.
+-- A number with a minus sign before it.
 abbrev pub is_negative : Out TokenKind → Bool
 is_negative (refused r) = false
 is_negative (done LParen) = false
 is_negative (done RParen) = false
 is_negative (done Comma) = false
 is_negative (done Colon) = false
-is_negative (done (Integer n)) = is_below_zero n
+is_negative (done (Integer negative magnitude)) = negative
 is_negative (done DoubleQuotedString) = false
 is_negative (done SingleQuotedString) = false
 is_negative (done (DataType k)) = false
@@ -143,7 +142,12 @@ pub record Standing : Type 0 where
 abbrev pub token : Out TokenKind → ℕ → ℕ → Standing
 token k at size = record { kind = k; start = at; size = size; next = at + size }
 
--- The token that stands there, or its refusal: what `next_token` answers.
+-- What the answer of `next_token` says stands there: a token, or what is none.
+abbrev pub standing_of : Result Token NoToken → Standing
+standing_of (Ok t) = record { kind = done t.kind; start = t.start; size = t.size; next = t.next }
+standing_of (Err e) = record { kind = refuse (number_of e.refusal); start = e.start; size = e.size; next = e.next }
+
+-- The token that stands there, or its refusal alone: what `read_token` answers.
 abbrev pub token_or_refusal : Standing → Out Token
 token_or_refusal s = s.kind >>= λ k. done (record { kind = k; start = s.start; size = s.size; next = s.next })
 
@@ -178,12 +182,16 @@ abbrev pub is_number : Bool → List ℕ → Bool
 is_number negative [] = false
 is_number negative (d ∷ ds) = all is_digit (d ∷ ds) && nat_le (number_from 0 (d ∷ ds)) (if negative then 2 ^ 63 else (2 ^ 63 - 1))
 
--- A number with its sign: -0 is 0.
+abbrev pub number_kind : Bool → List ℕ → Out TokenKind
+number_kind negative digits = if is_number negative digits then done (Integer negative (number_from 0 digits)) else refuse 8
+
+-- The number that a sign and a magnitude are, wherever a number is needed: of -0 it is 0.
 abbrev pub signed : Bool → ℕ → ℤ
 signed negative n = if negative then neg_ℤ (pos n) else pos n
 
-abbrev pub number_kind : Bool → List ℕ → Out TokenKind
-number_kind negative digits = if is_number negative digits then done (Integer (signed negative (number_from 0 digits))) else refuse 8
+abbrev pub is_below_zero : ℤ → Bool
+is_below_zero (pos n) = false
+is_below_zero (negsuc n) = true
 
 -- What a word is: a number where it begins with a digit or a minus sign, else a listed word, else refusal 8.
 unfoldable pub word_kind : List ℕ → Out TokenKind

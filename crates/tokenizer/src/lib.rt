@@ -15,7 +15,9 @@ mod words;
 
 pub use edges::{EDGES, WordTable};
 pub use refusal::{Numbered, Refusal};
-pub use tokenizer::{is_separator, next_byte, next_token, next_token_by, skip_spaces, word_end};
+pub use tokenizer::{
+    is_separator, next_byte, next_token, next_token_by, read_token, skip_spaces, word_end,
+};
 pub use utf8::is_utf8;
 
 // What a token is. Kinds, units, modes and roles are numbers, as they stand in the words of rows, which C reads and writes.
@@ -25,7 +27,8 @@ pub enum TokenKind {
     RParen,
     Comma,
     Colon,
-    Integer(i64),
+    // A number of signed 64 bits: whether a minus sign stands before it, and its magnitude.
+    Integer(bool, u64),
     DoubleQuotedString,
     SingleQuotedString,
     // The kind of a type, in the order of the Rust's `DataType`.
@@ -47,6 +50,16 @@ pub enum TokenKind {
 #[derive(Clone, Copy)]
 pub struct Token {
     pub kind: TokenKind,
+    pub start: usize,
+    pub size: usize,
+    pub next: usize,
+}
+
+// What is no token: why, where it would start, how long it is, and the place behind it. An unknown word has its length and is
+// passed; all else has none, and would begin at that place.
+#[derive(Clone, Copy)]
+pub struct NoToken {
+    pub refusal: Refusal,
     pub start: usize,
     pub size: usize,
     pub next: usize,

@@ -1,14 +1,14 @@
 // The token at a place of a text.
 ghost use Rattle.std.specs.Prelude.{◌≡◌, false, ◌+◌, ◌<◌, ◌≤◌, length, drop};
 ghost use Rattle.tokenizer.specs.Answer.{number_of, answer_of};
-ghost use Rattle.tokenizer.specs.Token.{token_or_refusal, is_separator, escaped_after, until_quote, string_token, token_at};
+ghost use Rattle.tokenizer.specs.Token.{standing_of, token_or_refusal, is_separator, escaped_after, until_quote, string_token, token_at};
 ghost use Rattle.tokenizer.specs.Places.{after_spaces, next_byte, word_end};
 ghost use Rattle.tokenizer.specs.WordTable.{token_by};
 ghost use Rattle.tokenizer.specs.Internal.Ends.{closes, quote_end, mark_place};
 
 use crate::edges::{EDGES, WordTable};
 use crate::words::word_token;
-use crate::{Refusal, Token, TokenKind};
+use crate::{NoToken, Refusal, Token, TokenKind};
 
 // The first place at or behind `from` that holds no space.
 // A `for`: measured, by `position` a call takes twice the instructions, and the tokens of a text 6 in 100 more.
@@ -171,9 +171,10 @@ fn quoted_string(text: &[u8], at: usize, quote: u8, kind: TokenKind) -> Result<T
     })
 }
 
-// The token at or behind a place, a word by a walk through the table that is lent. Only the space is skipped.
+// The token at or behind a place, a word by a walk through the table that is lent; of what is none, why alone. Only the space
+// is skipped.
 #[tactic(auto, using(crate::proofs::Rules::token_steps))]
-pub fn next_token_by(table: &WordTable, text: &[u8], from: usize) -> Result<Token, Refusal>
+fn read_token_by(table: &WordTable, text: &[u8], from: usize) -> Result<Token, Refusal>
     ensures { answer_of number_of result ≡ token_or_refusal (token_by table.now text.now from) }
 {
     let at = skip_spaces(text, from);
@@ -191,10 +192,41 @@ pub fn next_token_by(table: &WordTable, text: &[u8], from: usize) -> Result<Toke
     }
 }
 
-// The token at or behind a place.
+// The token at or behind a place; of what is none, why alone: what a reader asks that keeps its own places.
 #[tactic(auto, using(crate::proofs::Rules::table_steps), unfolding(crate::specs::Edges::edges))]
-pub fn next_token(text: &[u8], from: usize) -> Result<Token, Refusal>
+pub fn read_token(text: &[u8], from: usize) -> Result<Token, Refusal>
     ensures { answer_of number_of result ≡ token_or_refusal (token_at text.now from) }
+{
+    read_token_by(&EDGES, text, from)
+}
+
+// The token at or behind a place, a word by a walk through the table that is lent; or what is none, and where it stands.
+#[tactic(auto, using(crate::proofs::Rules::stands_steps))]
+pub fn next_token_by(table: &WordTable, text: &[u8], from: usize) -> Result<Token, NoToken>
+    ensures { standing_of result ≡ token_by table.now text.now from }
+{
+    match read_token_by(table, text, from) {
+        Ok(token) => Ok(token),
+        Err(refusal) => {
+            let start = skip_spaces(text, from);
+            let next = match refusal {
+                Refusal::UnknownWord => word_end(text, start),
+                _ => start,
+            };
+            Err(NoToken {
+                refusal,
+                start,
+                size: next - start,
+                next,
+            })
+        }
+    }
+}
+
+// The token at or behind a place; or what is none, and where it stands.
+#[tactic(auto, using(crate::proofs::Rules::table_steps), unfolding(crate::specs::Edges::edges))]
+pub fn next_token(text: &[u8], from: usize) -> Result<Token, NoToken>
+    ensures { standing_of result ≡ token_at text.now from }
 {
     next_token_by(&EDGES, text, from)
 }

@@ -95,6 +95,10 @@ equal_trans text names text' names' text'' names'' table table' table'' = rows-t
 
 -- ---- equal tables say the same
 
+row_of_lem : (r : Row) (c : ℕ) → row_of (words_of r c) ≡ r
+unfolding row_of words_of
+row_of_lem r c = refl
+
 -- two rows with their subtrees' sizes
 module _ (text names text' names' : List ℕ) (r r' : Row) (c c' : ℕ) where
   words_same : SameRow text names text' names' (words_of r c) (words_of r' c') → (c ≡ c') × (label_of text names r ≡ label_of text' names' r')

@@ -1,11 +1,12 @@
--- What `parents_fit` finds in a tree's table is what soundness asks of the tree.
---   view_fits        of a table that nests: `parents_fit` of the table is `parents_right` of its tree
---   parented_right   parents that are set are right
+-- What `parents_fit` finds in a tree's table is what soundness asks of the tree; what `set_parents` leaves fits.
+--   view_fits                  of a table that nests: `parents_fit` of the table is `parents_right` of its tree
+--   right_is, parented_right   parents are right exactly where setting them changes nothing
+--   set_fits, fits_set         a tree's table with the parents set fits, and one that fits is that table
 use mathlib.Core.Path.{◌≡◌, refl, sym, ap, ◌∙◌}
 use mathlib.Core.Bool.{Bool, true, ◌&&◌, and_assoc}
 use mathlib.Core.List.{List, [], ◌++◌, append-nil}
 use mathlib.Core.Option.{some}
-use Prim.Native.Nat.{ℕ, zero, suc, ◌+◌, ◌/◌}
+use Prim.Native.Nat.{ℕ, zero, suc, ◌+◌, ◌/◌, ◌≤◌}
 use native.Mathlib.Omega.{arith}
 use lib.ListN.{length}
 use lib.Dec.{T, eqb, eqb→eq}
@@ -13,9 +14,9 @@ use borrow.Author.Tests.{eq-eqb}
 use Rattle.tokenizer.proofs.Basics.{and_l, and_r}
 use Rattle.datatype.specs.Tree.{Forest, ∅, node, count, Row}
 use Rattle.datatype.specs.Table.{row_words, table_of, view_of, parent_word_at}
-use Rattle.unchecked_rows.specs.Parents.{parented_from, with_parent, parents_right, parent_at, fit_from, parents_fit}
+use Rattle.unchecked_rows.specs.Parents.{parented_from, parented, with_parent, table_with, parents_right, parent_at, with_parents, fit_from, parents_fit}
 use Rattle.datatype.proofs.Table.{length_table, table_view}
-use Rattle.unchecked_rows.proofs.ParentTree.{Stands, Inside, row-parent, row-kids, row_next, inside-here, inside-kids, inside-next, stands-first, inside-first, count_parented}
+use Rattle.unchecked_rows.proofs.ParentTree.{Stands, Inside, row-parent, row-kids, row_next, inside-here, inside-kids, inside-next, stands-first, inside-first, count_parented, view_with_parents}
 
 module _ (table : List ℕ) where
   pub fit_append : (m n i : ℕ) → fit_from table i (m + n) ≡ (fit_from table i m && fit_from table (i + m) n)
@@ -60,6 +61,10 @@ view_fits t f e = ap parents_fit (sym (table_view t f e)) ∙ table_fits f
 
 -- ---- right parents, and parents that are set
 
+own_parent : (r : Row) → with_parent r.parent r ≡ r
+unfolding with_parent
+own_parent r = refl
+
 pub right_node : (p i : ℕ) (r : Row) (kids next : Forest Row) → T (parents_right p i (node r kids next))
     → (r.parent ≡ p) × T (parents_right i (suc i) kids) × T (parents_right p (i + suc (count kids)) next)
 right_node p i r kids next h = apart (unfold parents_right in h)
@@ -72,8 +77,26 @@ right_node p i r kids next h = apart (unfold parents_right in h)
         let c = parents_right p (i + suc (count kids)) next in
         (eqb→eq r.parent p (and_l a b (and_l (a && b) c q)), and_r a b (and_l (a && b) c q), and_r (a && b) c q)
 
+pub right_is : (p i : ℕ) (f : Forest Row) → T (parents_right p i f) → parented_from p i f ≡ f
+unfolding parented_from
+right_is p i ∅ h = refl
+right_is p i (node r kids next) h =
+    let q = right_node p i r kids next h in
+    let own : with_parent p r ≡ r = ap (λ (n : ℕ). with_parent n r) (sym q.0) ∙ own_parent r in
+    let k = right_is i (suc i) kids q.1 in
+    let n = right_is p (i + suc (count kids)) next q.2 in
+    λ j. node (own j) (k j) (n j)
+
 pub parented_right : (p i : ℕ) (f : Forest Row) → parents_right p i (parented_from p i f) ≡ true
 unfolding parented_from parents_right with_parent
 parented_right p i ∅ = refl
 parented_right p i (node r kids next) =
     rw (eq-eqb p p refl, count_parented i (suc i) kids, parented_right i (suc i) kids, parented_right p (i + suc (count kids)) next)
+
+-- a tree's table with the parents set fits
+pub set_fits : (t : List ℕ) (f : Forest Row) → view_of t ≡ some f → count f ≤ 1024 → parents_fit (with_parents t) ≡ true
+set_fits t f e h = ap parents_fit (view_with_parents t f e h) ∙ table_fits (parented f) ∙ parented_right 0 0 f
+
+-- a tree's table that fits is the table with the parents set
+pub fits_set : (t : List ℕ) (f : Forest Row) → view_of t ≡ some f → T (parents_fit t) → table_with f ≡ t
+fits_set t f e h = ap table_of (right_is 0 0 f (rw (view_fits t f e) at h)) ∙ table_view t f e

@@ -14,8 +14,8 @@ use Rattle.std.proofs.lemmas.List.{set-append_right}
 use Rattle.tokenizer.proofs.Basics.{skip, skip_word}
 use Rattle.datatype.specs.Tree.{Forest, ∅, node, count, Row}
 use Rattle.datatype.specs.Table.{row_words, words_of, table_of, view_of, rows_lent, rows_at, parent_word_at}
-use Rattle.unchecked_rows.specs.Parents.{parented_from, with_parent, table_with, holder, parent_at, parents_set, with_parents}
-use Rattle.datatype.proofs.Table.{length_table, table_view}
+use Rattle.unchecked_rows.specs.Parents.{parented_from, parented, with_parent, table_with, holder, parent_at, parents_set, with_parents}
+use Rattle.datatype.proofs.Table.{length_table, view_table, table_view}
 use Rattle.unchecked_rows.proofs.ParentClimb.{holder-none, holder-yes, holder-no}
 
 -- from row i on a table holds a run of trees, and then some words
@@ -203,3 +203,7 @@ with_parents_lem f h =
 -- so does any table that nests
 pub view_with_parents : (t : List ℕ) (f : Forest Row) → view_of t ≡ some f → count f ≤ 1024 → with_parents t ≡ table_with f
 view_with_parents t f e h = ap with_parents (sym (table_view t f e)) ∙ with_parents_lem f h
+
+-- and it nests as before
+pub view_parented : (t : List ℕ) (f : Forest Row) → view_of t ≡ some f → count f ≤ 1024 → view_of (with_parents t) ≡ some (parented f)
+view_parented t f e h = ap view_of (view_with_parents t f e h) ∙ view_table (parented f)

@@ -1,14 +1,11 @@
--- Bytes written at a place: what has no room, and bytes copied into a part.
+-- Bytes written at a place: what has no room, and bytes one behind another.
 use mathlib.Core.Path.{◌≡◌, refl, sym, ap, ◌∙◌}
 use mathlib.Core.List.{List, [], ◌∷◌}
 use Prim.Native.Nat.{ℕ, suc, min, ◌+◌, ◌-◌, ◌≤◌, ◌<◌}
 use native.Mathlib.Decide.{dec_lt}
 use native.Mathlib.Omega.{arith}
-use lib.ListN.{length, set, take, drop, take-append-drop}
-use borrow.Rule.Slice.PartMut.{put_mid}
-use Rattle.std.proofs.lemmas.List.Edits.{sets-eq}
-use Rattle.std.proofs.Common.{append_assoc}
-use lib.Seq.{drop-drop, sets, set_out, length-sets, take_all, length-take-le}
+use lib.ListN.{length, get_or, set, take, drop, take-append-drop}
+use lib.Seq.{sets, set_out, length-sets, take-suc, take_all, length-take-le}
 use Rattle.datatype.proofs.Sets.{sets_append}
 
 -- Past the end nothing is written.
@@ -23,10 +20,6 @@ sets_room xs i n vs h k =
     ∙ sym (sets_append xs i (take n vs) (drop n vs))
     ∙ sets_out (sets xs i (take n vs)) (i + length (take n vs)) (drop n vs) (let e = length-sets xs i (take n vs) in let f = length-take-le n vs h in omega arith)
 
--- Bytes copied into a part are stored one behind another.
-pub part_sets : (xs : List ℕ) (at n : ℕ) (vs : List ℕ) → n ≡ length vs → at + n ≤ length xs → put_mid at n xs vs ≡ sets xs at vs
-part_sets xs at n vs e h = rw (sets-eq vs xs at (omega arith), append_assoc, drop-drop, e)
-
 -- A place that is capped is past the end, as the place itself.
 pub set_capped : (xs : List ℕ) (place sum most v : ℕ) → length xs ≤ most → place ≡ min sum most → set xs place v ≡ set xs sum v
 set_capped xs place sum most v h e =
@@ -35,14 +28,24 @@ set_capped xs place sum most v h e =
       | no l ↦ set_out xs place v (omega arith) ∙ sym (set_out xs sum v (omega arith))
     ]
 
--- The bytes that there is room for, copied: as many as there are, or as fill the room.
-pub puts_part : (xs : List ℕ) (at n : ℕ) (vs : List ℕ) → at < length xs → n ≡ min (length vs) (length xs - at) → put_mid at n xs (take n vs) ≡ sets xs at vs
-puts_part xs at n vs h e =
-    let len : length (take n vs) ≡ n = length-take-le n vs (omega arith) in
-    part_sets xs at n (take n vs) (sym len) (omega arith)
-    ∙ elim (dec_lt n (length vs)) [
+-- One byte more of those that are written at a place.
+pub sets_more : (xs : List ℕ) (at i : ℕ) (vs out : List ℕ) → out ≡ sets xs at (take i vs) → i < length vs → set out (at + i) (get_or vs i 0) ≡ sets xs at (take (i + 1) vs)
+sets_more xs at i vs out e h =
+    ap (λ (l : List ℕ). set l (at + i) (get_or vs i 0)) e
+    ∙ ap (λ (k : ℕ). set (sets xs at (take i vs)) (at + k) (get_or vs i 0)) (sym (length-take-le i vs (omega arith)))
+    ∙ sets_append xs at (take i vs) (get_or vs i 0 ∷ [])
+    ∙ ap (λ (l : List ℕ). sets xs at l) (sym (take-suc vs i 0 h))
+    ∙ ap (λ (k : ℕ). sets xs at (take k vs)) (let e : suc i ≡ i + 1 = omega arith in e)
+
+pub sets_length : (xs : List ℕ) (at i : ℕ) (vs out : List ℕ) → out ≡ sets xs at (take i vs) → length out ≡ length xs
+sets_length xs at i vs out e = ap (λ (l : List ℕ). length l) e ∙ length-sets xs at (take i vs)
+
+-- The bytes that there is room for are all, or as many as fill the room.
+pub sets_all : (xs : List ℕ) (at n : ℕ) (vs out : List ℕ) → out ≡ sets xs at (take n vs) → at < length xs → n ≡ min (length vs) (length xs - at) → out ≡ sets xs at vs
+sets_all xs at n vs out i h e =
+    i ∙ elim (dec_lt n (length vs)) [
       | yes l ↦ sym (sets_room xs at n vs (omega arith) (omega arith))
       | no l ↦ ap (λ (x : List ℕ). sets xs at x) (take_all n vs (omega arith))
     ]
 
-pub ruleset puts = (sets_out, puts_part)
+pub ruleset puts = (sets_out, sets_more, sets_length)

@@ -9,14 +9,16 @@ ghost use Rattle.writer.specs.Written.{written};
 
 use itoa::write_digits;
 
-// Writes bytes at a place: those that there is room for.
+// Writes bytes at a place: those that there is room for. One by one, which is compiled to stores of many at once: by
+// `copy_from_slice` a library for C would need `memcpy` from outside.
 #[tactic(auto, using(crate::proofs::Writes::puts))]
 pub fn put_bytes(out: &mut [u8], at: usize, s: &[u8])
     ensures { out.new ≡ sets out.old at s.now }
 {
     if at < out.len() {
-        let n = s.len().min(out.len() - at);
-        out[at..at + n].copy_from_slice(&s[..n]);
+        for i in 0..s.len().min(out.len() - at) {
+            out[at + i] = s[i];
+        }
     }
 }
 

@@ -1,10 +1,12 @@
 -- What the reader's own functions keep of an answer, and how answers and rows match the definitions. This is how the
 -- code finds its way; what must be believed is in Parse.antt.
-use Rattle.std.specs.Prelude.{◌≡◌, Option, Some, None, Result, Ok, Bool, ◌||◌, List, [], ◌∷◌, ◌++◌, ℕ, ℤ, ◌+◌, ◌*◌, ◌/◌, ◌≤◌, ◌<◌, length, drop, nat_eq, if◌then◌else◌}
+use Rattle.std.specs.Prelude.{◌≡◌, Option, Some, None, Result, Ok, Bool, ◌||◌, List, [], ◌∷◌, ◌++◌, ℕ, ℤ, ◌+◌, ◌*◌, ◌/◌, nat_abs, ◌≤◌, ◌<◌, length, drop, nat_eq, if◌then◌else◌}
 use Rattle.std.proofs.lemmas.List.Edits.{sets}
 use Rattle.tokenizer.specs.Answer.{Refusal, Out, refused, done, refuse_at}
-use Rattle.tokenizer.specs.Token.{Standing, token_or_refusal, place_of, value_of, is_negative, signed, lparen, rparen, comma, colon}
+use Rattle.tokenizer.specs.Token.{Standing, token_or_refusal, place_of, value_of, is_negative, signed, is_below_zero, lparen, rparen, comma, colon}
 use Rattle.tokenizer.specs.declared.Token.{Token}
+use Rattle.tokenizer.specs.declared.TokenKind.{TokenKind}
+use Rattle.tokenizer.specs.declared.TokenKind.TheVariants.{Integer}
 use Rattle.datatype.specs.Limits.{max_rows}
 use Rattle.datatype.specs.Tree.{Forest, count, Row}
 use Rattle.datatype.specs.Table.{row_words, words_of, table_of}
@@ -53,6 +55,10 @@ word_of (done t) = done (record { value = value_of t.kind; next = t.next })
 unfoldable pub integer_of : Out Standing → Out (ReadValue ℤ)
 integer_of (refused r) = refused r
 integer_of (done t) = done (record { value = signed (is_negative t.kind) (value_of t.kind); next = t.next })
+
+-- The token of a number that was read; of 0 it has no sign.
+abbrev pub integer_kind : ℤ → Out TokenKind
+integer_kind z = done (Integer (is_below_zero z) (nat_abs z))
 
 unfoldable pub span_of : Out Standing → Out Span
 span_of (refused r) = refused r

@@ -9,5 +9,5 @@ pub returns-else-has_lead : goal.returns-else-has_lead
 returns-else-has_lead c =
     elim c.if-has_escaped.branch [
       | then-has_escaped w ↦ absurd (false≢true (sym c.if-has_lead.false ∙ w.value-is ∙ w.if-has_escaped.true))
-      | else-has_escaped w ↦ itself_wrote c.if-lead.false c.has_escaped.ensures w.if-has_escaped.false w.has_lead.ensures (sym w.value-is ∙ c.if-has_lead.false) c.put.ensures
+      | else-has_escaped w ↦ itself_wrote c.if-lead.false c.has_escaped.ensures w.if-has_escaped.false w.has_lead.ensures (sym w.value-is ∙ c.if-has_lead.false) c.put_whole.ensures
     ]

@@ -1,0 +1,8 @@
+use Rattle.std.proofs.Common.{◌≡◌}
+use lib.ListN.{take}
+use lib.Seq.{sets}
+use Rattle.datatype_display.proofs.write.store.Given as goal
+
+-- The bytes before are stored.
+abbrev pub invariant-loop-i : goal.invariant-loop-i
+invariant-loop-i l = l.out ≡ sets l.initial.out l.at (take l.i l.s)
