@@ -14,9 +14,11 @@ use Rattle.tokenizer.specs.Text.{all}
 use Rattle.tokenizer.proofs.Basics.{of_true, is_true, and_l, and_r, both}
 use Rattle.datatype.proofs.Sets.{sets_append}
 use Rattle.display_length.specs.Display.{is_lead, escape, escape_next, escaped_from, escaped, quoted}
+use Rattle.display_length.specs.Internal.Steps.{no_lead}
+use Rattle.display_length.proofs.StringLaws.{lead-next, lead-end}
 use Rattle.datatype_display.specs.declared.write.Printer.{Printer}
-use Rattle.datatype_display.specs.Internal.Steps.{Fits, Ran, Wrote, is_shown, no_lead, is_itself}
-use Rattle.datatype_display.proofs.Writes.{stored, wrote_then, wrote_as, Left, left_start, left_as, left_fits, left_step, left_end, left_last}
+use Rattle.datatype_display.specs.Internal.Steps.{Fits, Ran, Wrote, Stored, is_shown, is_itself}
+use Rattle.datatype_display.proofs.Writes.{by_store, store_all, store_then, Left, left_start, left_as, left_fits, left_step, left_last}
 
 -- ---- what a string becomes
 
@@ -59,23 +61,58 @@ escaped_themselves [] t = from_none
 escaped_themselves (c ∷ s) t =
     from_itself c s (and_l (is_itself c) (all is_itself s) t) ∙ ap (λ (l : List ℕ). c ∷ l) (escaped_themselves s (and_r (is_itself c) (all is_itself s) t))
 
--- ---- byte by byte: what is left to write
+-- ---- byte by byte
 
-module _ {before p : Printer} {whole : List ℕ} (s : List ℕ) (lead : Bool) (i : ℕ) (l : Left before whole (escaped_from lead (drop i s)) p) where
+-- Of a text that is stored from a place on, some bytes are left: stored at `next`, they make it whole.
+pub record Ahead (before : List ℕ) (at : ℕ) (whole : List ℕ) (next : ℕ) (out rest : List ℕ) : Type 0 where
+  pub is : sets out next rest ≡ sets before at whole
+  pub place : next + length rest ≡ at + length whole
+  pub size : length out ≡ length before
+
+pub ahead_start : (before whole : List ℕ) (at : ℕ) → Ahead before at whole at before whole
+ahead_start before whole at = record { is = refl; place = refl; size = refl }
+
+module _ {before whole out : List ℕ} {at next : ℕ} (s : List ℕ) (lead : Bool) (i : ℕ) (a : Ahead before at whole next out (escaped_from lead (drop i s))) where
   module _ (h : i < length s) where
-    next_left : Left before whole (escape_next lead (get_or s i 0) ++ escaped_from (is_lead (get_or s i 0)) (drop (i + 1) s)) p
+    abbrev left-behind : List ℕ
+    left-behind = escaped_from (is_lead (get_or s i 0)) (drop (i + 1) s)
+
+    passed : escaped_from lead (drop i s) ≡ escape_next lead (get_or s i 0) ++ left-behind
     unfolding escaped_from
-    next_left = left_as (rw (drop-cons s i 0 h, add-one i) refl) l
+    passed = rw (drop-cons s i 0 h, add-one i) refl
 
-    pub next_fits : Fits p (escape_next lead (get_or s i 0))
-    next_fits = left_fits _ next_left
+    pub next_fits : at + length whole ≤ length before → next + length (escape_next lead (get_or s i 0)) ≤ length out
+    next_fits f =
+        let e = ap length passed ∙ length-append (escape_next lead (get_or s i 0)) left-behind in
+        let k = a.place in
+        let m = a.size in
+        omega arith
 
-    pub next_step : {q : Printer} → Wrote p (escape_next lead (get_or s i 0)) q → Left before whole (escaped_from (is_lead (get_or s i 0)) (drop (i + 1) s)) q
-    next_step w = left_step next_left w
+    pub next_step : {last : ℕ} {after : List ℕ} → Stored out next (escape_next lead (get_or s i 0)) last after → Ahead before at whole last after left-behind
+    next_step {last} {after} w =
+        let e = ap length passed ∙ length-append (escape_next lead (get_or s i 0)) left-behind in
+        let k = a.place in
+        let m = w.place in
+        record {
+          is =
+              ap (λ (l : List ℕ). sets l last left-behind) w.is
+              ∙ ap (λ (n : ℕ). sets (sets out next (escape_next lead (get_or s i 0))) n left-behind) m
+              ∙ sets_append out next (escape_next lead (get_or s i 0)) left-behind
+              ∙ ap (λ (l : List ℕ). sets out next l) (sym passed)
+              ∙ a.is;
+          place = omega arith;
+          size = w.size ∙ a.size;
+        }
 
-  pub next_end : length s ≤ i → Wrote before whole p
+  pub next_end : length s ≤ i → Stored before at whole next out
   unfolding escaped_from
-  next_end h = left_end (left_as (ap (λ (t : List ℕ). escaped_from lead t) (drop_all i s h)) l)
+  next_end h =
+      let none : escaped_from lead (drop i s) ≡ [] = ap (λ (t : List ℕ). escaped_from lead t) (drop_all i s h) in
+      let k = ap length none in
+      let m = a.place in
+      record { is = ap (λ (l : List ℕ). sets out next l) (sym none) ∙ a.is; place = omega arith; size = a.size }
+
+pub ruleset next_steps = (ahead_start, next_fits, next_step, next_end)
 
 -- ---- whether a byte is escaped, of the bytes that were looked at and of those that are left
 
@@ -103,7 +140,7 @@ module _ (test : ℕ → Bool) (s : List ℕ) (i : ℕ) (found : Bool) (l : not 
   end-found : length s ≤ i → found ≡ not (all test s)
   end-found h = sym (l ∙ ap (λ (t : List ℕ). found || not (all test t)) (drop_all i s h) ∙ or_false found)
 
--- of the two tests that a piece is asked by
+-- of the test by which a piece is asked whether it is escaped
 module _ (s : List ℕ) (i : ℕ) (found : Bool) where
   pub found-more : not (all is_shown s) ≡ (found || not (all is_shown (drop i s))) → i < length s → (b : Bool) → b ≡ not (is_shown (get_or s i 0))
       → not (all is_shown s) ≡ ((found || b) || not (all is_shown (drop (i + 1) s)))
@@ -111,17 +148,6 @@ module _ (s : List ℕ) (i : ℕ) (found : Bool) where
 
   pub found-end : not (all is_shown s) ≡ (found || not (all is_shown (drop i s))) → length s ≤ i → found ≡ not (all is_shown s)
   found-end l h = end-found is_shown s i found l h
-
-  pub lead-more : not (all no_lead s) ≡ (found || not (all no_lead (drop i s))) → i < length s
-      → not (all no_lead s) ≡ ((found || is_lead (get_or s i 0)) || not (all no_lead (drop (i + 1) s)))
-  lead-more l h = more-found no_lead s i found l h (is_lead (get_or s i 0)) (twice (is_lead (get_or s i 0)))
-    where
-      twice : (b : Bool) → b ≡ not (not b)
-      twice true = refl
-      twice false = refl
-
-  pub lead-end : not (all no_lead s) ≡ (found || not (all no_lead (drop i s))) → length s ≤ i → found ≡ not (all no_lead s)
-  lead-end l h = end-found no_lead s i found l h
 
 both_tests : (s : List ℕ) → all is_shown s ≡ true → all no_lead s ≡ true → T (all is_itself s)
 both_tests [] e f = tt
@@ -196,14 +222,15 @@ ran_wrote {p} s i out f r =
     let e = ap length r.same in
     let g = length-append (take i s) (escaped_from false (drop i s)) in
     let h = f.room in
-    stored p _ (take i s) (record { room = omega arith; few = f.few }) r.stored (omega arith) refl refl
+    by_store p _ (take i s) (record { room = omega arith; few = f.few }) r.stored (omega arith) refl refl
 
-pub ran_then : (lead : Bool) (p : Printer) (s : List ℕ) (i : ℕ) (out : List ℕ) → lead ≡ false → Fits p (escaped_from lead s) → Ran p.out.now p.at s i out → (q : Printer)
-    → Wrote (record p { at = p.at + i; out = record p.out { now = out } }) (escaped_from lead (take (length s - i) (drop i s))) q → Wrote p (escaped_from lead s) q
-ran_then lead p s i out first f r q w =
-    wrote_as
-    (ap (λ (t : List ℕ). take i s ++ escaped_from lead t) (rest p.out.now s p.at i out r) ∙ rw first r.same)
-    (wrote_then (ran_wrote s i out (rw first at f) r) w)
+pub ran_then : (lead : Bool) (before s : List ℕ) (at i : ℕ) (out : List ℕ) → lead ≡ false → Ran before at s i out → (next : ℕ) (after : List ℕ)
+    → Stored out (at + i) (escaped_from lead (take (length s - i) (drop i s))) next after → Stored before at (escaped_from lead s) next after
+ran_then lead before s at i out first r next after w =
+    let size : at + i ≡ at + length (take i s) = ap (λ (k : ℕ). at + k) (sym (length-take-le i s r.few)) in
+    subst (λ (t : List ℕ). Stored before at t next after)
+    (ap (λ (t : List ℕ). take i s ++ escaped_from lead t) (rest before s at i out r) ∙ rw first r.same)
+    (store_then (store_all r.stored size) w)
 
 -- ---- a piece
 
@@ -257,7 +284,7 @@ none_behind s n h = rw (take_rest s n) (let e = length-drop n s in omega arith)
 -- ---- a string in double quotes
 
 mark_wrote : (p : Printer) (c : ℕ) → Fits p (c ∷ []) → Wrote p (c ∷ []) (record p { at = p.at + 1; out = record p.out { now = set p.out.now p.at c } })
-mark_wrote p c f = stored p _ (c ∷ []) f refl refl refl refl
+mark_wrote p c f = by_store p _ (c ∷ []) f refl refl refl refl
 
 module _ {p : Printer} {s out : List ℕ} {n : ℕ} (f : Fits p (quoted s)) (r : Ran (set p.out.now p.at 34) (p.at + 1) s n out) where
   -- the printer behind the first mark and the run
@@ -279,4 +306,4 @@ pub ruleset run_steps = (ran-room, ran-more, ran-end)
 
 pub ruleset found_steps = (found-more, found-end)
 
-pub ruleset lead_steps = (lead-more, lead-end)
+pub ruleset lead_steps = (lead-next, lead-end)

@@ -1,6 +1,10 @@
 -- Writing behind what was written, where there is room for all of it.
---   stored         bytes that a store left at the printer's place, and the place moved behind them
+--   by_store       bytes that a store left at the printer's place, and the place moved behind them
 --   by_writer      what the writer itself did
+--   store_all      what one store did, in the output alone
+--   store_none, store_then
+--                  bytes behind bytes, in the output alone
+--   stores         what the functions cite that store one part behind another
 --   wrote_then     bytes behind bytes
 --   writes         what the functions cite that write one part behind another
 --   Left           the bytes of a text that are left to write: there is room for them, and with them it is whole
@@ -13,11 +17,12 @@ use lib.ListN.{length, take, drop, length-append}
 use lib.Seq.{sets, sets-eq, length-sets, take_all}
 use borrow.Rule.Slice.PartMut.{put_mid}
 use Rattle.std.proofs.lemmas.Slice.{put_mid-paste}
+use Rattle.datatype.proofs.Sets.{sets_append}
 use Rattle.writer.specs.declared.Writer.{Writer}
 use Rattle.writer.specs.Written.{counted, written}
 use Rattle.writer.proofs.Written.{counted_all, written_then, written_none, written_size, written_place}
 use Rattle.datatype_display.specs.declared.write.Printer.{Printer}
-use Rattle.datatype_display.specs.Internal.Steps.{writer_of, Fits, Wrote}
+use Rattle.datatype_display.specs.Internal.Steps.{writer_of, Fits, Wrote, Stored}
 
 -- ---- one call
 
@@ -31,10 +36,10 @@ by_writer p q s f e =
       size = ap (λ (w : Writer). length w.out.now) e ∙ written_size (writer_of p) s;
     }
 
-pub stored : (p q : Printer) (s : List ℕ) → Fits p s → q.out.now ≡ sets p.out.now p.at s → q.at ≡ p.at + length s
+pub by_store : (p q : Printer) (s : List ℕ) → Fits p s → q.out.now ≡ sets p.out.now p.at s → q.at ≡ p.at + length s
     → q.out.ghost_name ≡ p.out.ghost_name → q.out.ref_ptr ≡ p.out.ref_ptr → Wrote p s q
 unfolding written
-stored p q s f e k g h =
+by_store p q s f e k g h =
     let r = f.room in
     let m = f.few in
     let all : counted p.at s ≡ s = counted_all p.at s (omega arith) in
@@ -55,6 +60,27 @@ copied before s part at f e =
     put_mid-paste at (at + length s - at) before part s (length s) e k refl
     ∙ ap (λ (t : List ℕ). take at before ++ t ++ drop (at + length s) before) (take_all (length s) s (omega arith))
     ∙ sym (sets-eq s before at f)
+
+-- ---- bytes behind bytes, in the output alone
+
+pub store_all : {before after s : List ℕ} {at next : ℕ} → after ≡ sets before at s → next ≡ at + length s → Stored before at s next after
+store_all {before} {s = s} {at} e k = record { is = e; place = k; size = ap length e ∙ length-sets before at s }
+
+pub store_none : (before : List ℕ) (at : ℕ) → Stored before at [] at before
+store_none before at = record { is = refl; place = omega arith; size = refl }
+
+pub store_then : {before between after s t : List ℕ} {at mid next : ℕ} → Stored before at s mid between → Stored between mid t next after → Stored before at (s ++ t) next after
+store_then {before} {s = s} {t} {at} {mid} v w =
+    let e = length-append s t in
+    let a = v.place in
+    let b = w.place in
+    record {
+      is = w.is ∙ ap (λ (l : List ℕ). sets l mid t) v.is ∙ ap (λ (k : ℕ). sets (sets before at s) k t) a ∙ sets_append before at s t;
+      place = omega arith;
+      size = w.size ∙ v.size;
+    }
+
+pub ruleset stores = (store_none, store_then, length-append)
 
 -- ---- bytes behind bytes
 

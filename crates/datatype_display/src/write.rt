@@ -1,23 +1,33 @@
 // Writing at a place that is known to have room: nothing asks for it. With stores that ask, as `writer::Writer` has them,
 // printing takes 2 to 9 in 100 more instructions.
-ghost use Rattle.std.specs.Prelude.{◌≡◌, ◌+◌, ◌≤◌, length, [], ◌∷◌};
-ghost use Rattle.std.proofs.lemmas.List.Edits.{sets};
+ghost use Rattle.std.specs.Prelude.{◌+◌, ◌≤◌, length, [], ◌∷◌};
 ghost use Rattle.writer.specs.Digits.{digits};
-ghost use Rattle.datatype_display.specs.Internal.Steps.{Fits, Wrote};
+ghost use Rattle.datatype_display.specs.Internal.Steps.{Fits, Wrote, Stored};
 
 use itoa::write_digits;
 use writer::digits_length;
 
-// Stores bytes at a place. One by one: those of a literal become a store or two, and of others many are stored at once. By
-// `copy_from_slice` a library for C would need `memmove` from outside, and each literal is asked whether it overlaps the output.
+// Stores bytes at a place, and answers the place behind them. One by one: those of a literal become a store or two, and of
+// others many are stored at once. By `copy_from_slice` a library for C would need `memmove` from outside, and each literal is
+// asked whether it overlaps the output.
 #[tactic(auto, using(writer::proofs::Writes::puts))]
-fn store(out: &mut [u8], at: usize, s: &[u8])
+pub(crate) fn store(out: &mut [u8], at: usize, s: &[u8]) -> usize
     requires { at + length s.now ≤ length out.old }
-    ensures { out.new ≡ sets out.old at s.now }
+    ensures { Stored out.old at s.now result out.new }
 {
     for i in 0..s.len() {
         out[at + i] = s[i];
     }
+    at + s.len()
+}
+
+// Stores one byte.
+pub(crate) fn store_byte(out: &mut [u8], at: usize, c: u8) -> usize
+    requires { at + length (c ∷ []) ≤ length out.old }
+    ensures { Stored out.old at (c ∷ []) result out.new }
+{
+    out[at] = c;
+    at + 1
 }
 
 // The output, and the place in it behind what was written.
@@ -33,8 +43,7 @@ impl<'a> Printer<'a> {
         requires { Fits self.old s.now }
         ensures { Wrote self.old s.now self.new }
     {
-        store(self.out, self.at, s);
-        self.at = self.at + s.len();
+        self.at = store(self.out, self.at, s);
     }
 
     // Writes one byte.
@@ -42,8 +51,7 @@ impl<'a> Printer<'a> {
         requires { Fits self.old (c ∷ []) }
         ensures { Wrote self.old (c ∷ []) self.new }
     {
-        self.out[self.at] = c;
-        self.at = self.at + 1;
+        self.at = store_byte(self.out, self.at, c);
     }
 
     // Writes a number in decimal digits.

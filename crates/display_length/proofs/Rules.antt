@@ -7,7 +7,7 @@ use Rattle.display_length.proofs.LatinLaws.{latin_greatest, clean_heaviest, grea
 use Rattle.display_length.proofs.CleanLaws.{clean_name, clean_zone}
 use Rattle.row_table.proofs.NodeLaws.{kind_said, role_said, id_said, number_said, scale_said, name_said, zone_said, all_labels, all_nest, all_levels}
 use Rattle.display_length.proofs.PrintedLaws.{printed-18, printed-length}
-use Rattle.display_length.proofs.StringLaws.{escaped_few, left_all, left-next, left-none, quoted-counted, quoted-clean, quoted_few, zone-none, zone-some, zone_few, list_name_few}
+use Rattle.display_length.proofs.StringLaws.{left_all, left-next, left-none, lead-next, lead-end, plain-next, quoted-clean, quoted_few, zone-none, zone-some, zone_few, list_name_few}
 use Rattle.display_length.proofs.TreeLaws.{single_length, single_word, tree-length, root-levels}
 use Rattle.display_length.proofs.WordLaws.{word_few, unit_few, interval_few, mode_few, sorted_few, scale_few, comma_few, nullity_few}
 
@@ -17,9 +17,13 @@ pub ruleset is_latin_steps = (latin_greatest, greatest-go, greatest-end)
 
 pub ruleset is_clean_steps = (clean_heaviest, heaviest-go, heaviest-end)
 
-pub ruleset escaped_steps = (left_all, left-next, left-none)
+pub ruleset lead_steps = (lead-next, lead-end)
 
-pub ruleset quoted_steps = (quoted-counted, quoted-clean, escaped_few)
+pub ruleset paired_steps = (left_all, left-next, left-none)
+
+pub ruleset counted_steps = (left_all, plain-next, left-none)
+
+pub ruleset quoted_steps = (quoted-clean, quoted_few)
 
 pub ruleset zone_steps = (zone-none, zone-some, quoted_few)
 

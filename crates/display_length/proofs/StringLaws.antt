@@ -3,7 +3,7 @@ use Rattle.std.specs.Prelude.{if◌then◌else◌}
 use mathlib.Core.Path.{◌≡◌, refl, sym, ◌∙◌}
 use mathlib.Core.Bool.{Bool, true, false, not, ◌&&◌, ◌||◌}
 use mathlib.Core.List.{List, [], ◌∷◌, ◌++◌}
-use Prim.Native.Nat.{ℕ, suc, ◌+◌, ◌*◌, ◌/◌, ◌%◌, ◌≤◌, ◌<◌}
+use Prim.Native.Nat.{ℕ, zero, suc, ◌+◌, ◌*◌, ◌/◌, ◌%◌, ◌≤◌, ◌<◌}
 use native.Mathlib.Omega.{arith}
 use native.Mathlib.Numerals.{add-one}
 use lib.ListN.{length, length-append, get_or, drop, drop_of_length-le}
@@ -12,9 +12,9 @@ use lib.Dec.{T, leb, ltb, eqb}
 use Rattle.std.specs.List.{list_any}
 use Rattle.std.proofs.lemmas.Bool.Decides.{nat_tests}
 use Rattle.tokenizer.specs.Text.{bytes, all, same}
-use Rattle.tokenizer.proofs.Basics.{and_l, and_r, of_true}
+use Rattle.tokenizer.proofs.Basics.{and_l, and_r, is_false, of_true}
 use Rattle.display_length.specs.Display.{hex_digit, unicode_text, is_lead, escape, escape_pair, escape_next, escaped_from, escaped, quoted, zone_text, list_name_text}
-use Rattle.display_length.specs.Internal.Steps.{is_clean, is_no_mark}
+use Rattle.display_length.specs.Internal.Steps.{is_clean, is_no_mark, no_lead}
 
 -- ---- one byte between the marks
 
@@ -85,9 +85,38 @@ module _ (s : List ℕ) (i : ℕ) (lead : Bool) where
   unfolding escaped_from
   left-none h = rw (drop_of_length-le s h) refl
 
-pub left_all : (s : List ℕ) → length (escaped s) ≡ length (escaped_from false s)
-unfolding escaped
-left_all s = refl
+-- ---- whether a byte is C2, of the bytes that were looked at and of those that are left
+
+module _ (s : List ℕ) (i : ℕ) (found : Bool) (l : not (all no_lead s) ≡ (found || not (all no_lead (drop i s)))) where
+  pub lead-next : i < length s → not (all no_lead s) ≡ ((found || is_lead (get_or s i 0)) || not (all no_lead (drop (i + 1) s)))
+  lead-next h = l ∙ rw (drop-cons s i 0 h, add-one i) (go found (is_lead (get_or s i 0)) (all no_lead (drop (suc i) s)))
+    where
+      go : (f b r : Bool) → (f || not (not b && r)) ≡ ((f || b) || not r)
+      go true b r = refl
+      go false true r = refl
+      go false false r = refl
+
+  pub lead-end : length s ≤ i → found ≡ not (all no_lead s)
+  lead-end h = sym (l ∙ rw (drop_of_length-le s h) (go found))
+    where
+      go : (f : Bool) → (f || false) ≡ f
+      go true = refl
+      go false = refl
+
+no_lead_at : (s : List ℕ) (i : ℕ) → T (all no_lead s) → is_lead (get_or s i 0) ≡ false
+no_lead_at [] i t = refl
+no_lead_at (c ∷ s) zero t = is_false (is_lead c) (and_l (no_lead c) (all no_lead s) t)
+no_lead_at (c ∷ s) (suc i) t = no_lead_at s i (and_r (no_lead c) (all no_lead s) t)
+
+-- where none is, no byte stands behind C2
+pub plain-next : (s : List ℕ) (i : ℕ) (p : Bool) → p ≡ not (all no_lead s) → p ≡ false → i < length s
+    → length (escaped_from false (drop i s)) ≡ length (escape (get_or s i 0)) + length (escaped_from false (drop (i + 1) s))
+unfolding escape_next
+plain-next s i p is f h = left-next s i false h ∙ rw (no_lead_at s i (go (all no_lead s) (sym is ∙ f))) refl
+  where
+    go : (b : Bool) → not b ≡ false → T b
+    go true e = tt
+    go false e = of_true false (sym e)
 
 -- of a clean string without double quotes every byte is written as it is
 escaped_clean : (s : List ℕ) → T (all is_clean s) → T (all is_no_mark s) → length (escaped_from false s) ≡ length s
@@ -101,6 +130,10 @@ escaped_clean (c ∷ s) t u =
 quoted_length_lem : (s : List ℕ) → length (quoted s) ≡ 2 + length (escaped s)
 unfolding quoted
 quoted_length_lem s = let e = length-append (escaped s) (34 ∷ []) in omega arith
+
+pub left_all : (s : List ℕ) → length (quoted s) ≡ 2 + length (escaped_from false s)
+unfolding escaped
+left_all s = quoted_length_lem s
 
 pub quoted_few : (s : List ℕ) → length (quoted s) ≤ 2 + 6 * length s
 quoted_few s = let e = quoted_length_lem s in let f = escaped_few s in omega arith
@@ -116,15 +149,11 @@ no_mark (c ∷ s) = go (eqb c 34) (no_mark s)
     go false e = e
 
 module _ (s : List ℕ) where
-  pub quoted-counted : 2 + length (escaped s) ≡ length (quoted s)
-  quoted-counted = sym (quoted_length_lem s)
-
   pub quoted-clean : T (all is_clean s) → (p : Bool) → p ≡ list_any (λ c. eqb c 34) s → p ≡ false → 2 + length s ≡ length (quoted s)
   quoted-clean c p is f =
       let n : all is_no_mark s ≡ true = sym (no_mark s) ∙ rw (← is, f) in
       let g = escaped_clean s c (of_true _ n) in
-      let k = left_all s in
-      let h = quoted_length_lem s in
+      let h = left_all s in
       omega arith
 
 pub list_name_is : (s : List ℕ) → length (list_name_text s) ≡ (if same s (bytes "item") then 0 else 11 + length s)

@@ -42,4 +42,13 @@ module _ (k p s : ℕ) where
   unfolding numbers_fit rules_of
   numbers_none l = rw (shape_by k) (grind (arith, nat_tests))
 
-pub ruleset numbers = (numbers_decimal, numbers_plain, numbers_none)
+  -- where word 4 has one value, no unit is asked for
+  one_unit : (rules_of (shape_of k)).params ≡ 1 → unit_fits k p ≡ true
+  unfolding rules_of unit_fits
+  one_unit e = let f = rw (shape_by k) at e in grind (arith, nat_tests)
+
+  -- nor have those whose word 4 has one value
+  pub numbers_one : is_decimal k ≡ false → (rules_of (shape_of k)).params ≡ 1 → numbers_fit k p s ≡ (eqb p 0 && eqb s 0)
+  numbers_one d e = numbers_plain d ∙ rw (one_unit e, e) (grind (arith, nat_tests))
+
+pub ruleset numbers = (numbers_decimal, numbers_plain, numbers_none, numbers_one)

@@ -3,7 +3,7 @@ use Rattle.std.specs.Prelude.{nat_abs}
 use mathlib.Core.Path.{◌≡◌, refl, sym, ap}
 use mathlib.Core.Bool.{Bool, true, false, ◌&&◌}
 use mathlib.Core.List.{List, [], ◌∷◌}
-use Prim.Native.Nat.{ℕ, zero, suc, ◌+◌, ◌*◌, ◌-◌, ◌≤◌, ◌<◌}
+use Prim.Native.Nat.{ℕ, suc, ◌+◌, ◌*◌, ◌-◌, ◌≤◌, ◌<◌}
 use native.Mathlib.Omega.{arith}
 use native.Mathlib.Numerals.{add-one}
 use lib.ListN.{length, take, drop, get_or, drop_of_length-le}
@@ -13,7 +13,7 @@ use borrow.Author.Tests.{lt-leb, le-leb}
 use Rattle.std.proofs.lemmas.Bool.Decides.{nat_tests}
 use Rattle.tokenizer.specs.Answer.{done, refuse}
 use Rattle.tokenizer.specs.Text.{all}
-use Rattle.tokenizer.specs.Token.{is_digit, number_from, signed, is_below_zero, number_kind, word_kind}
+use Rattle.tokenizer.specs.Token.{is_digit, number_from, signed, number_kind, word_kind}
 use Rattle.tokenizer.specs.Internal.Digits.{begins_number, limit, kind_from}
 use Rattle.tokenizer.specs.declared.TokenKind.TheVariants.{Integer}
 use Rattle.tokenizer.proofs.Basics.{and_l, and_r, of_true}
@@ -32,11 +32,6 @@ limit_most negative = grind arith
 -- a sign changes no magnitude
 pub abs_signed : (negative : Bool) (n : ℕ) → nat_abs (signed negative n) ≡ n
 abs_signed negative n = grind arith
-
--- a number with a minus sign that is not 0 is below 0
-pub below_signed : (n : ℕ) → 1 ≤ n → is_below_zero (signed true n) ≡ true
-below_signed zero h = absurd (omega arith)
-below_signed (suc n) h = refl
 
 -- ---- digit by digit
 

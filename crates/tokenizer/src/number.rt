@@ -16,8 +16,8 @@ fn limit(negative: bool) -> u64
 // A number above this is too large with one digit more.
 const TENTH: u64 = i64::MAX as u64 / 10;
 
-// The token of a sign and digits. Digit by digit: by `parse::<i64>`, which wants a `str`, a text of decimals takes twice the
-// time.
+// The token of a sign and digits. Digit by digit: by `parse::<i64>`, which wants a `str`, a text of decimals takes a third more
+// instructions to read.
 #[tactic(auto, using(crate::proofs::Rules::digit_steps))]
 fn number_kind(digits: &[u8], negative: bool) -> Result<TokenKind, Refusal>
     ensures { answer_of number_of result ≡ number_kind negative digits.now }

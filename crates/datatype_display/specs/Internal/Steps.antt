@@ -7,11 +7,12 @@ use Rattle.datatype.specs.Kind.{Shape}
 use Rattle.writer.specs.Digits.{digits}
 use Rattle.writer.specs.declared.Writer.{Writer}
 use Rattle.writer.specs.Written.{last_place, written}
-use Rattle.display_length.specs.Display.{is_lead, escaped_from, quoted, Shown, nullity_text, field_text, shape_text, type_text, shown}
+use Rattle.display_length.specs.Display.{escaped_from, quoted, Shown, nullity_text, field_text, shape_text, type_text, shown}
 use Rattle.row_table.specs.declared.nodes.Nodes.{Nodes}
 use Rattle.row_table.specs.Nodes.{labels_in}
 use Rattle.display_length.specs.declared.printed.PrintedNode.{PrintedNode}
 use Rattle.display_length.specs.declared.words.Spelling.{Spelling}
+use Rattle.display_length.specs.Internal.Steps.{no_lead}
 use Rattle.display_length.specs.Internal.Nodes.{label_in, children_in, levels_below}
 use Rattle.datatype_display.specs.declared.write.Printer.{Printer}
 
@@ -20,6 +21,13 @@ use Rattle.datatype_display.specs.declared.write.Printer.{Printer}
 -- A writer at the printer's place.
 abbrev pub writer_of : Printer → Writer
 writer_of p = record { at = p.at; out = p.out }
+
+-- The bytes s are stored at a place, nothing else has changed, and `next` is the place behind them. The size follows, and
+-- is said for the next call's room.
+pub record Stored (before : List ℕ) (at : ℕ) (s : List ℕ) (next : ℕ) (after : List ℕ) : Type 0 where
+  pub is : after ≡ sets before at s
+  pub place : next ≡ at + length s
+  pub size : length after ≡ length before
 
 -- There is room for the bytes s, and places for the whole output.
 pub record Fits (p : Printer) (s : List ℕ) : Type 0 where
@@ -37,9 +45,6 @@ pub record Wrote (before : Printer) (s : List ℕ) (after : Printer) : Type 0 wh
 -- A byte that is not escaped between double quotes, where it is not behind C2.
 unfoldable pub is_shown : ℕ → Bool
 is_shown c = nat_le 32 c && not (nat_eq c 34) && not (nat_eq c 92) && not (nat_eq c 127)
-
-abbrev pub no_lead : ℕ → Bool
-no_lead c = not (is_lead c)
 
 -- Such a byte is written as it is, but for C2, at which nothing is written.
 abbrev pub is_itself : ℕ → Bool

@@ -25,6 +25,9 @@ is_clean c = nat_le 32 c && not (nat_eq c 92) && not (nat_eq c 127) && not (is_l
 unfoldable pub is_no_mark : ℕ → Bool
 is_no_mark c = not (nat_eq c 34)
 
+abbrev pub no_lead : ℕ → Bool
+no_lead c = not (is_lead c)
+
 -- A byte's weight, at most C5 where it is clean.
 abbrev pub clean_weight : ℕ → ℕ
 clean_weight c = if nat_lt c 32 || nat_eq c 92 || nat_eq c 127 || is_lead c then 255 else c

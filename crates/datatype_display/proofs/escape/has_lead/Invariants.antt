@@ -1,7 +1,7 @@
 use Rattle.std.proofs.Common.{◌≡◌, ◌||◌, not}
 use lib.ListN.{drop}
 use Rattle.tokenizer.specs.Text.{all}
-use Rattle.datatype_display.specs.Internal.Steps.{no_lead}
+use Rattle.display_length.specs.Internal.Steps.{no_lead}
 use Rattle.datatype_display.proofs.escape.has_lead.Given as goal
 
 -- What was found, or is to be found among the bytes that are left.

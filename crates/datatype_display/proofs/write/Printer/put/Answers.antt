@@ -1,7 +1,7 @@
 -- The law of what a store leaves takes the printer before it, which a search for its parts does not.
 use mathlib.Core.Path.{refl}
-use Rattle.datatype_display.proofs.Writes.{stored}
+use Rattle.datatype_display.proofs.Writes.{by_store}
 use Rattle.datatype_display.proofs.write.Printer.put.Goals as goal
 
 pub returns : goal.returns
-returns c = stored _ _ _ c.requires c.store.ensures refl refl refl
+returns c = by_store _ _ _ c.requires c.store-self.ensures.is c.store-self.ensures.place refl refl

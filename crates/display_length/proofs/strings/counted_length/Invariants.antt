@@ -1,0 +1,10 @@
+use mathlib.Core.Path.{◌≡◌}
+use mathlib.Core.Bool.{false}
+use Prim.Native.Nat.{◌+◌}
+use lib.ListN.{length, drop}
+use Rattle.display_length.specs.Display.{escaped_from, quoted}
+use Rattle.display_length.proofs.strings.counted_length.Given as goal
+
+-- what is counted and what is left, where no C2 stands before it, are the whole
+abbrev pub invariant-loop-c : goal.invariant-loop-c
+invariant-loop-c l = l.total + length (escaped_from false (drop l.c-index l.s)) ≡ length (quoted l.s)
