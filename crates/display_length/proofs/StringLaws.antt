@@ -149,6 +149,10 @@ no_mark (c ∷ s) = go (eqb c 34) (no_mark s)
     go false e = e
 
 module _ (s : List ℕ) where
+  -- double quotes are two bytes more
+  pub quoted-counted : 2 + length (escaped s) ≡ length (quoted s)
+  quoted-counted = sym (quoted_length_lem s)
+
   pub quoted-clean : T (all is_clean s) → (p : Bool) → p ≡ list_any (λ c. eqb c 34) s → p ≡ false → 2 + length s ≡ length (quoted s)
   quoted-clean c p is f =
       let n : all is_no_mark s ≡ true = sym (no_mark s) ∙ rw (← is, f) in

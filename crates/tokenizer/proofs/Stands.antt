@@ -1,15 +1,21 @@
 -- What stands at a place, from what is answered of it: a token, or what is none, by a walk through any table.
+use Rattle.std.specs.Prelude.{if◌then◌else◌}
 use mathlib.Core.Path.{◌≡◌}
-use mathlib.Core.List.{List}
+use mathlib.Core.Bool.{Bool, true, false}
+use mathlib.Core.List.{List, [], ◌∷◌}
 use Prim.Native.Nat.{ℕ, ◌-◌}
 use native.Mathlib.Omega.{arith}
+use lib.ListN.{length, drop}
+use lib.Dec.{T, eqb}
+use Rattle.std.proofs.lemmas.Bool.Decides.{nat_tests}
 use Rattle.std.specs.declared.result.Result.TheVariants.{Ok}
 use Rattle.tokenizer.specs.Answer.{Out, refused, done, refuse}
 use Rattle.tokenizer.specs.Places.{after_spaces, word_end}
-use Rattle.tokenizer.specs.Token.{Standing, standing_of, token_or_refusal}
-use Rattle.tokenizer.specs.WordTable.{token_by}
+use Rattle.tokenizer.specs.Token.{Standing, token, standing_of, token_or_refusal, word_of, is_digit, number_kind, token_at}
+use Rattle.tokenizer.specs.WordTable.{walk, walk_kind, token_of_number, word_kind_by, begins_word, token_by}
 use Rattle.tokenizer.specs.declared.Token.{Token}
 use Rattle.tokenizer.specs.declared.TokenKind.{TokenKind}
+use Rattle.tokenizer.proofs.Marks.{choice, in_sign, sign_holds}
 use Rattle.tokenizer.proofs.Places.{refused_by}
 
 -- a token that is answered is what stands there
@@ -43,3 +49,37 @@ module _ (table text : List ℕ) (at n : ℕ) (e : (token_by table text at).kind
 
     pub refused-sized : (token_by table text at).size ≡ after_spaces text at - after_spaces text at
     refused-sized = let s = ((refused_by text at table n e).2 w).0 in omega (arith, s)
+
+-- ---- a number's magnitude is one that its sign takes, whatever the table
+
+abbrev InSign : Out TokenKind → Type 0
+InSign k = T (in_sign k)
+
+digits-sign : (negative : Bool) (w : List ℕ) → InSign (number_kind negative w)
+digits-sign negative [] = tt
+digits-sign negative (d ∷ ds) = grind (arith, nat_tests)
+
+number-sign : (m : ℕ) → InSign (token_of_number m)
+unfolding token_of_number
+number-sign m = grind (arith, nat_tests)
+
+word-by-sign : (table w : List ℕ) → InSign (word_kind_by table w)
+unfolding word_kind_by
+word-by-sign table [] = tt
+word-by-sign table (c ∷ w) =
+    choice InSign (eqb c 45) (number_kind true w) (if is_digit c then number_kind false (c ∷ w) else walk_kind table (c ∷ w)) (λ _. digits-sign true w)
+    (λ _. choice InSign (is_digit c) (number_kind false (c ∷ w)) (walk_kind table (c ∷ w)) (λ _. digits-sign false (c ∷ w)) (λ _. number-sign (walk table 0 (c ∷ w))))
+
+pub sign_by : (table text : List ℕ) (at : ℕ) → T (in_sign (token_by table text at).kind)
+unfolding token_by
+sign_by table text at = go (begins_word (drop p text))
+  where
+    p : ℕ
+    p = after_spaces text at
+
+    w : List ℕ
+    w = word_of (drop p text)
+
+    go : (b : Bool) → InSign (if b then token (word_kind_by table w) p (length w) else token_at text at).kind
+    go true = word-by-sign table w
+    go false = sign_holds text at
